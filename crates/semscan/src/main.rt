@@ -1,0 +1,70 @@
+//! `semscan`: where a pattern matches.
+#![tactic(auto)]
+
+ghost use Rattle.std.specs.Prelude.{◌≡◌, ◌<◌};
+ghost use Rattle.scan_world.specs.Faults.{Rose};
+
+mod adapters;
+mod input;
+mod output;
+mod reading;
+mod run;
+mod status;
+mod words;
+
+use crate::adapters::{StdinSource, StdoutSink};
+use crate::run::run;
+use crate::status::Status;
+use node_tree::Steps;
+use scan_world::{Sink, Source};
+use std::alloc::Global;
+use std::marker::Brand;
+use std::process::ExitCode;
+use std::sync::ledger::{Blank, Ledger};
+use std::{env, io};
+
+fn main(rt: HostRuntime) -> io::Result<ExitCode> {
+    let mut words = Vec::new(rt.alloc());
+    for word in env::args(&rt)?.skip(1) {
+        words
+            .push(word)
+            .map_err(|_| io::Error::from(io::ErrorKind::OutOfMemory))?;
+    }
+    let mut input = StdinSource::new(rt.stdin());
+    let mut out = StdoutSink::new(rt.stdout());
+    let status = counted::<_, _, Brand>(rt.alloc(), &words, &mut input, &mut out, Blank::new(1));
+    report(&rt, status)?;
+    Ok(ExitCode::from(status.number()))
+}
+
+// Runs with a counter of its own.
+fn counted<S: Source, K: Sink, L: Ledger>(
+    alloc: Global,
+    words: &Vec<String>,
+    input: &mut S,
+    out: &mut K,
+    blank: Blank,
+) -> Status
+    requires name { blank.name ≡ L.name }
+    requires parts { blank.parts ≡ L.parts }
+    requires some { 0 < L.parts }
+    ensures input_fault { result ≡ Status.InputFault → Rose (S.faults input.old) (S.faults input.new) }
+    ensures output_fault { result ≡ Status.OutputFault → Rose (K.faults out.old) (K.faults out.new) }
+{
+    let mut steps = Steps::<L>::new(blank);
+    run(alloc, words, input, out, &mut steps)
+}
+
+// The line of a status on standard error.
+fn report(rt: &impl Eprint, status: Status) -> io::Result<()> {
+    match status {
+        Status::Done => Ok(()),
+        Status::Usage => eprintln!(rt; "semscan: usage"),
+        Status::Memory => eprintln!(rt; "semscan: out of memory"),
+        Status::InputFault => eprintln!(rt; "semscan: input failed"),
+        Status::OutputFault => eprintln!(rt; "semscan: output failed"),
+        Status::OverLimit(_, count) => eprintln!(rt; "semscan: over limit {count}"),
+        Status::BadTarget => eprintln!(rt; "semscan: no tree"),
+        Status::BadPattern => eprintln!(rt; "semscan: no pattern"),
+    }
+}
