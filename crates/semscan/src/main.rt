@@ -24,17 +24,32 @@ use std::sync::ledger::{Blank, Ledger};
 use std::{env, io};
 
 fn main(rt: HostRuntime) -> io::Result<ExitCode> {
-    let mut words = Vec::new(rt.alloc());
-    for word in env::args(&rt)?.skip(1) {
-        words
-            .push(word)
-            .map_err(|_| io::Error::from(io::ErrorKind::OutOfMemory))?;
-    }
-    let mut input = StdinSource::new(rt.stdin());
-    let mut out = StdoutSink::new(rt.stdout());
-    let status = counted::<_, _, Brand>(rt.alloc(), &words, &mut input, &mut out, Blank::new(1));
+    let status = match words_of(&rt) {
+        Ok(words) => {
+            let mut input = StdinSource::new(rt.stdin());
+            let mut out = StdoutSink::new(rt.stdout());
+            counted::<_, _, Brand>(rt.alloc(), &words, &mut input, &mut out, Blank::new(1))
+        }
+        Err(status) => status,
+    };
     report(&rt, status)?;
     Ok(ExitCode::from(status.number()))
+}
+
+// The words after the program's name. Words that aren't UTF-8 are no words that the program understands.
+fn words_of(rt: &HostRuntime) -> Result<Vec<String>, Status> {
+    let given = match env::args(rt) {
+        Ok(given) => given,
+        Err(e) if e.kind() == io::ErrorKind::OutOfMemory => return Err(Status::Memory),
+        Err(_) => return Err(Status::Usage),
+    };
+    let mut words = Vec::new(rt.alloc());
+    for word in given.skip(1) {
+        if words.push(word).is_err() {
+            return Err(Status::Memory);
+        }
+    }
+    Ok(words)
 }
 
 // Runs with a counter of its own.
@@ -68,3 +83,6 @@ fn report(rt: &impl Eprint, status: Status) -> io::Result<()> {
         Status::BadPattern => eprintln!(rt; "semscan: no pattern"),
     }
 }
+
+#[cfg(test)]
+mod tests;

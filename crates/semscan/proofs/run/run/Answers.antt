@@ -61,7 +61,7 @@ returns-in-Err-Memory-print_all-clause-whole_lines g c h =
     let are = sym (ap (map string_bytes) c.deref.ensures.value) ∙ c.in-Some.ensures.asked in
     let end = c.in-Ok-read_input.ensures.end (omega (arith, c.in-Ok-read_input.ensures.limit, c.if-len-eq-MOST.false, c.len.ensures)) in
     inr (ends_short _ c.in-Some.word.now c.in-Ok.pattern.tree are c.in-Ok.ensures.pattern _ _ c.in-Ok-read_input.bytes.items c.in-Ok-read_input.ensures.bytes end
-        c.in-Ok-read_file.file.tree c.in-Ok-read_file.ensures.file c.in-Ok-match_leaf.members c.in-Ok-match_leaf.ensures.leaf _ _ (subst (λ (l : List Span). AppendsSome (g.K.Sink.written c.args.out.now) (g.K.Sink.written c.print_all.new.out) (map line_of l)) c.as_slice.ensures (c.in-Err-Memory-print_all.ensures.whole (ap Err c.in-Err-Memory-print_all.field-0-is))))
+    c.in-Ok-read_file.file.tree c.in-Ok-read_file.ensures.file c.in-Ok-match_leaf.members c.in-Ok-match_leaf.ensures.leaf _ _ (subst (λ (l : List Span). AppendsSome (g.K.Sink.written c.args.out.now) (g.K.Sink.written c.print_all.new.out) (map line_of l)) c.as_slice.ensures (c.in-Err-Memory-print_all.ensures.whole (ap Err c.in-Err-Memory-print_all.field-0-is))))
 
 pub returns-clause-front_written : goal.returns-clause-front_written
 returns-clause-front_written g c h =
