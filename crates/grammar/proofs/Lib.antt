@@ -1,0 +1,6 @@
+pub mod Facts
+pub mod Spelled
+pub mod Good
+pub mod Exact
+pub mod Longest
+pub mod Meaning

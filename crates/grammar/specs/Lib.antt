@@ -1,0 +1,4 @@
+pub mod Rule
+pub mod Sets
+pub mod Reader
+pub mod Check
