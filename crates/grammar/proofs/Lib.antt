@@ -4,3 +4,5 @@ pub mod Good
 pub mod Exact
 pub mod Longest
 pub mod Meaning
+pub mod Checked
+pub mod Bounded
