@@ -6,3 +6,5 @@ pub mod Longest
 pub mod Meaning
 pub mod Checked
 pub mod Bounded
+pub mod Words
+pub mod Stable
