@@ -8,3 +8,4 @@ pub mod Checked
 pub mod Bounded
 pub mod Words
 pub mod Stable
+pub mod Extends

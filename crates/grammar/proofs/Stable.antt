@@ -26,7 +26,7 @@ module _ {K B L N : Type 0} (t : Source K B N) (S : Sets L) (m : ℕ) (G : Gramm
   reads_same again p g q V V' A A' a b c f i = c i
   reads_same (seq r s) p g q V V' A A' a b c f i =
     let u : _ = and_both (fit G R p g r) (fit G R p g s) f in
-    rw (reads_same r p g q V V' A A' a b c u.0 i) (bind_same (read t S m V' A' q r i) _ _ (λ x. rw (reads_same s p g q V V' A A' a b c u.1 x.1) refl))
+    rw (reads_same r p g q V V' A A' a b c u.0 i) (bind_same (read t S m V' A' q r i) (λ x. ◌>>=◌ {B = List N × ℕ} (read t S m V A q s x.1) (λ y. Some (x.0 ++ y.0, y.1))) (λ x. ◌>>=◌ {B = List N × ℕ} (read t S m V' A' q s x.1) (λ y. Some (x.0 ++ y.0, y.1))) (λ x. rw (reads_same s p g q V V' A A' a b c u.1 x.1) refl))
   reads_same (around cs ds r) p g q V V' A A' a b c f i =
     rw (reads_same r p true q V V' A A' a b c (and_both (within_set cs G.opens && (within_set ds G.closes && apart G.opens ds)) (fit G R p true r) f).1 (suc i)) refl
   reads_same (alt r s) p g q V V' A A' a b c f i =
