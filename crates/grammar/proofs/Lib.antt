@@ -9,3 +9,5 @@ pub mod Bounded
 pub mod Words
 pub mod Stable
 pub mod Extends
+pub mod Counts
+pub mod Theorem

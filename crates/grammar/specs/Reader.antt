@@ -1,6 +1,6 @@
 -- The reader of a grammar, which goes by the token in hand.
-use Rattle.std.specs.Prelude.{ℕ, zero, suc, Bool, true, false, cond, ◌&&◌, List, [], ◌∷◌, ◌++◌, Option, Some, None}
-use Rattle.grammar.specs.Rule.{Rule, done, mark, word, ref, deep, again, seq, around, alt, look, choose, opt, must, rep, make, has, Source, Table}
+use Rattle.std.specs.Prelude.{ℕ, zero, suc, Bool, true, false, cond, ◌+◌, ◌&&◌, List, [], ◌∷◌, ◌++◌, Option, Some, None}
+use Rattle.grammar.specs.Rule.{Rule, done, mark, word, ref, deep, again, seq, around, alt, look, choose, opt, must, rep, make, has, Source, Table, Grammar}
 use Rattle.grammar.specs.Sets.{Sets, first}
 
 -- what is read from a place: the nodes and where they end, or nothing
@@ -49,3 +49,7 @@ climb t S m table D (suc k) l i = read t S m (choice (climb t S m table D k) D) 
 abbrev pub read_level : {K B L N : Type 0} → Source K B N → Sets L → ℕ → Table K B L → ℕ → ℕ → L → Read N
 read_level t S m table top zero l i = None
 read_level t S m table top (suc h) l i = climb t S m table (read_level t S m table top h) top l i
+
+-- the room that suffices for all that is within a grammar's limits
+abbrev pub room_of : {K B L : Type 0} → Grammar K B L → ℕ
+room_of g = suc (g.most_depth + suc g.most_brackets)

@@ -99,9 +99,20 @@ unfoldable pub open_at : List ℕ → List ℕ → (ℕ → ℕ) → ℕ → ℕ
 open_at opens closes f from zero = zero
 open_at opens closes f from (suc n) = cond (ltb n from) zero (behind opens closes (f n) (open_at opens closes f from n))
 
--- how many brackets the token at a place stands inside; a bracket doesn't stand inside itself
+-- the smaller of two numbers
+abbrev pub smaller : ℕ → ℕ → ℕ
+smaller a b = cond (ltb a b) a b
+
+-- how many brackets the token at a place stands inside: as many as are open both before and behind it, so a bracket doesn't stand inside itself
 abbrev pub brackets_round : List ℕ → List ℕ → (ℕ → ℕ) → ℕ → ℕ → ℕ
-brackets_round opens closes f from n = cond (has closes (f n)) (pred (open_at opens closes f from n)) (open_at opens closes f from n)
+brackets_round opens closes f from n = smaller (open_at opens closes f from n) (open_at opens closes f from (suc n))
+
+-- How deep lists of nodes are: no builder drops a node, and a strong one makes what is deeper than all that it is given.
+pub record Deepens {K B N : Type 0} (strong : B → Bool) (depth : List N → ℕ) (t : Source K B N) : Type 0 where
+  pub left : (ys zs : List N) → depth ys ≤ depth (ys ++ zs)
+  pub right : (ys zs : List N) → depth zs ≤ depth (ys ++ zs)
+  pub weak : (b : B) (i j : ℕ) (ys : List N) → depth ys ≤ depth (t.build b i j ys)
+  pub strict : (b : B) (i j : ℕ) (ys : List N) → strong b ≡ true → depth ys < depth (t.build b i j ys)
 
 -- other tokens, of these classes
 abbrev pub with_classes : {K B N : Type 0} → Source K B N → (ℕ → ℕ) → Source K B N
