@@ -11,3 +11,4 @@ pub mod Stable
 pub mod Extends
 pub mod Counts
 pub mod Theorem
+pub mod sums

@@ -2,3 +2,4 @@ pub mod Rule
 pub mod Sets
 pub mod Reader
 pub mod Check
+pub mod sums

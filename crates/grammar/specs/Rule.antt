@@ -34,6 +34,16 @@ pub data Rule (K B L : Type 0) : Type 0 where
   -- the nodes made by the builder of this name
   make : B → Rule K B L → Rule K B L
 
+infixr 30 ◌·◌
+-- the one and then the other
+abbrev pub ◌·◌ : {K B L : Type 0} → Rule K B L → Rule K B L → Rule K B L
+r · s = seq r s
+
+infixr 20 ◌∣◌
+-- the one or the other
+abbrev pub ◌∣◌ : {K B L : Type 0} → Rule K B L → Rule K B L → Rule K B L
+r ∣ s = alt r s
+
 -- whether a class is in a set
 abbrev pub has : List ℕ → ℕ → Bool
 has [] c = false

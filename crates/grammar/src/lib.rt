@@ -1,11 +1,9 @@
 //! Grammars as data.
 #![tactic(auto)]
 
-ghost use Rattle.std.specs.Prelude.{◌≡◌};
-ghost use Rattle.grammar.specs.Check.{each};
+mod node;
+mod reader;
+mod token;
 
-pub fn echo(x: usize) -> usize
-    ensures { result ≡ x }
-{
-    x
-}
+pub use node::{Kind, Node};
+pub use token::{Token, Word};

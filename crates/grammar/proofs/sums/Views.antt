@@ -1,0 +1,18 @@
+-- The tree of a node.
+use Rattle.std.proofs.Common.{◌≡◌, ℕ, List, [], ◌∷◌, ◌++◌, map, refl, ap}
+use Rattle.std.proofs.lemmas.List.{append-nil}
+use Rattle.grammar.specs.sums.Tree.{Tree, node, trees, step, view, views}
+use Rattle.grammar.specs.declared.node.Node.{Node, Node-F, out-Node, roll-Node, fold-roll-Node, fold_out-Node}
+
+pub view_roll : (x : Node-F Node) → view (roll-Node x) ≡ node x.kind x.text x.from x.to (trees (views x.kids.items))
+view_roll = fold-roll-Node Tree step
+
+pub view_out : (n : Node) → view n ≡ node (out-Node n).kind (out-Node n).text (out-Node n).from (out-Node n).to (trees (views (out-Node n).kids.items))
+view_out = fold_out-Node Tree step
+
+-- one more at the end
+pub views_push : (ks : List Node) (k : Node) (ys : List Tree) → views (ks ++ (k ∷ [])) ++ ys ≡ views ks ++ (view k ∷ ys)
+views_push [] k ys = refl
+views_push (n ∷ ks) k ys = ap (λ ts. view n ∷ ts) (views_push ks k ys)
+
+pub ruleset list_laws = (append-nil, views_push)

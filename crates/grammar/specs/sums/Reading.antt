@@ -1,0 +1,42 @@
+-- What the functions of the example read.
+use Rattle.std.specs.Prelude.{◌≡◌, ℕ, suc, Bool, true, not, ◌++◌, List, [], ◌∷◌, length, Option, Some, None, Result, Ok, Err, Vec}
+use Rattle.std.specs.declared.alloc.Global.{Global}
+use Rattle.grammar.specs.declared.token.Token.{Token}
+use Rattle.grammar.specs.declared.token.Word.TheVariants.{Hole}
+use Rattle.grammar.specs.declared.node.Node.{Node}
+use Rattle.grammar.specs.declared.reader.ReadFault.{ReadFault}
+use Rattle.grammar.specs.declared.reader.ReadFault.TheVariants as faults
+use Rattle.grammar.specs.Rule.{has, IsRun}
+use Rattle.grammar.specs.Reader.{read_level}
+use Rattle.grammar.specs.sums.Token.{class}
+use Rattle.grammar.specs.sums.Tree.{Tree, view, views, depth_all}
+use Rattle.grammar.specs.sums.Table.{Level, Exprs, table, grammar}
+use Rattle.grammar.specs.sums.Build.{source}
+use Rattle.grammar.specs.sums.Sets.{sets, ranks}
+
+-- the reader of a level, by the table
+unfoldable pub level : List Token → ℕ → Level → ℕ → Option (List Tree × ℕ)
+level ts room l i = read_level (source ts) sets (suc (length ts)) table ranks.top room l i
+
+-- the classes that a text may have, and not a pattern alone
+abbrev pub of_text : ℕ → Bool
+of_text c = not (has (class Hole ∷ []) c)
+
+-- a fault comes from want of memory, or where nothing is read
+abbrev pub Fails : {Y : Type 0} → ReadFault → Option Y → Type 0
+Fails faults.Memory read = record {}
+Fails faults.NoTree read = read ≡ None
+
+-- a node and where it ends are what is read
+abbrev pub Gives : Result (Node × ℕ) ReadFault → Option (List Tree × ℕ) → Type 0
+Gives (Ok x) read = read ≡ Some (view x.0 ∷ [], x.1)
+Gives (Err e) read = Fails e read
+
+-- the same of a list of nodes
+abbrev pub GivesAll : Result (Vec Node Global × ℕ) ReadFault → Option (List Tree × ℕ) → Type 0
+GivesAll (Ok x) read = read ≡ Some (views x.0.items, x.1)
+GivesAll (Err e) read = Fails e read
+
+-- the tree of the closed run of exprs between two places, in a mode
+abbrev pub IsExprs : (ℕ → Bool) → List Token → ℕ → Tree → ℕ → Type 0
+IsExprs mode ts from t to = IsRun grammar mode depth_all (source ts) Exprs (t ∷ []) from to
