@@ -10,5 +10,6 @@ pub mod Words
 pub mod Stable
 pub mod Extends
 pub mod Counts
+pub mod Rounds
 pub mod Theorem
 pub mod sums

@@ -1,2 +1,4 @@
 pub mod Views
 pub mod Passes
+pub mod Depths
+pub mod Steps

@@ -11,8 +11,8 @@ pub enum Kind {
     Negative,
     Call,
     Keyword,
-    /// Stands between the nodes of a list, where a comma was read, and in no tree.
-    Comma,
+    /// Holds what stands behind the first comma of a list, and stands in no tree.
+    List,
 }
 
 /// A node of a tree.

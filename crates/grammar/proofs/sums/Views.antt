@@ -2,6 +2,8 @@
 use Rattle.std.proofs.Common.{◌≡◌, ℕ, List, [], ◌∷◌, ◌++◌, map, refl, ap}
 use Rattle.std.proofs.lemmas.List.{append-nil}
 use Rattle.grammar.specs.sums.Tree.{Tree, node, trees, step, view, views}
+use Rattle.grammar.specs.declared.node.Kind.TheVariants as k
+use Rattle.grammar.specs.sums.Build.{parted, group}
 use Rattle.grammar.specs.declared.node.Node.{Node, Node-F, out-Node, roll-Node, fold-roll-Node, fold_out-Node}
 
 pub view_roll : (x : Node-F Node) → view (roll-Node x) ≡ node x.kind x.text x.from x.to (trees (views x.kids.items))
@@ -16,3 +18,8 @@ views_push [] k ys = refl
 views_push (n ∷ ks) k ys = ap (λ ts. view n ∷ ts) (views_push ks k ys)
 
 pub ruleset list_laws = (append-nil, views_push)
+
+-- a list with a comma is a tuple
+pub group_parted : (from to : ℕ) (ts : List Tree) → group from to (parted ts) ≡ node k.Tuple 0 from to (trees ts) ∷ []
+group_parted from to [] = refl
+group_parted from to (t ∷ ts) = refl

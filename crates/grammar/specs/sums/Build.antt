@@ -6,7 +6,7 @@ use Rattle.grammar.specs.declared.node.Kind.TheVariants as k
 use Rattle.grammar.specs.Rule.{Source}
 use Rattle.grammar.specs.sums.Token.{class, token_at, end_of}
 use Rattle.grammar.specs.sums.Tree.{Tree, node, Trees, more_trees, trees}
-use Rattle.grammar.specs.sums.Table.{Builder, Group, Left, Operation, Negation, Arguments, Named}
+use Rattle.grammar.specs.sums.Table.{Builder, Group, Several, Left, Operation, Negation, Arguments, Named}
 
 abbrev pub plain : Kind → ℕ → ℕ → ℕ → List Tree → List Tree
 plain kind text from to xs = node kind text from to (trees xs) ∷ []
@@ -24,14 +24,21 @@ abbrev pub left : ℕ → List Tree → List Tree
 left from [] = []
 left from (t ∷ ps) = graft_all from t ps ∷ []
 
--- one tree is itself; with a comma behind the first they are a tuple
+-- what stands before a first comma, and a list of what stands behind it
+abbrev pub parted : List Tree → List Tree
+parted [] = []
+parted (t ∷ ts) = t ∷ node k.List 0 0 0 (trees ts) ∷ []
+
+-- one tree is itself; with a list of what stands behind its comma, or with nothing, it is a tuple
 abbrev pub group : ℕ → ℕ → List Tree → List Tree
 group from to [] = plain k.Tuple 0 from to []
 group from to (t ∷ []) = t ∷ []
-group from to (t ∷ comma ∷ ts) = plain k.Tuple 0 from to (t ∷ ts)
+group from to (t ∷ node kind text f e ts ∷ []) = node k.Tuple 0 from to (more_trees t ts) ∷ []
+group from to xs = xs
 
 abbrev pub build : List Token → Builder → ℕ → ℕ → List Tree → List Tree
 build ts Group i j xs = group (token_at ts i).from (end_of ts j) xs
+build ts Several i j xs = plain k.List 0 0 0 xs
 build ts Left i j xs = left (token_at ts i).from xs
 build ts Operation i j xs = plain k.Binary (token_at ts i).text (token_at ts i).from (end_of ts j) xs
 build ts Negation i j xs = plain k.Negative 0 (token_at ts i).from (end_of ts j) xs

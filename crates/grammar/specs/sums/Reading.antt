@@ -4,6 +4,8 @@ use Rattle.std.specs.declared.alloc.Global.{Global}
 use Rattle.grammar.specs.declared.token.Token.{Token}
 use Rattle.grammar.specs.declared.token.Word.TheVariants.{Hole}
 use Rattle.grammar.specs.declared.node.Node.{Node}
+use Rattle.grammar.specs.declared.reader.Inner.{Inner}
+use Rattle.grammar.specs.declared.reader.Inner.TheVariants.{One, Several}
 use Rattle.grammar.specs.declared.reader.ReadFault.{ReadFault}
 use Rattle.grammar.specs.declared.reader.ReadFault.TheVariants as faults
 use Rattle.grammar.specs.Rule.{has, IsRun}
@@ -11,7 +13,7 @@ use Rattle.grammar.specs.Reader.{read_level}
 use Rattle.grammar.specs.sums.Token.{class}
 use Rattle.grammar.specs.sums.Tree.{Tree, view, views, depth_all}
 use Rattle.grammar.specs.sums.Table.{Level, Exprs, table, grammar}
-use Rattle.grammar.specs.sums.Build.{source}
+use Rattle.grammar.specs.sums.Build.{source, parted, group}
 use Rattle.grammar.specs.sums.Sets.{sets, ranks}
 
 -- the reader of a level, by the table
@@ -36,6 +38,20 @@ Gives (Err e) read = Fails e read
 abbrev pub GivesAll : Result (Vec Node Global × ℕ) ReadFault → Option (List Tree × ℕ) → Type 0
 GivesAll (Ok x) read = read ≡ Some (views x.0.items, x.1)
 GivesAll (Err e) read = Fails e read
+
+-- the nodes of what stands inside parentheses
+abbrev pub inner_views : Inner → List Tree
+inner_views (One n) = view n ∷ []
+inner_views (Several kids) = parted (views kids.items)
+
+-- the same of what stands inside parentheses
+abbrev pub GivesInside : Result (Inner × ℕ) ReadFault → Option (List Tree × ℕ) → Type 0
+GivesInside (Ok x) read = read ≡ Some (inner_views x.0, x.1)
+GivesInside (Err e) read = Fails e read
+
+-- the tree that is made of what stands inside
+abbrev pub Grouped : ℕ → ℕ → Inner → Tree → Type 0
+Grouped from to inner t = group from to (inner_views inner) ≡ t ∷ []
 
 -- the tree of the closed run of exprs between two places, in a mode
 abbrev pub IsExprs : (ℕ → Bool) → List Token → ℕ → Tree → ℕ → Type 0

@@ -27,6 +27,7 @@ pub data Level : Type 0 where
 
 pub data Builder : Type 0 where
   Group : Builder
+  Several : Builder
   Left : Builder
   Operation : Builder
   Negation : Builder
@@ -36,6 +37,7 @@ pub data Builder : Type 0 where
 -- the builders that make a node above all that they are given
 abbrev pub strong : Builder → Bool
 strong Group = false
+strong Several = true
 strong Left = false
 strong Operation = true
 strong Negation = true
@@ -57,48 +59,48 @@ leaf k c = word k (class c ∷ [])
 abbrev pub round : Row → Row
 round = around (class w.OpenRound ∷ []) (class w.CloseRound ∷ [])
 
--- the loops, each of which is the row of its own name too
-abbrev pub sums_tail : Row
-sums_tail = rep SumsTail (opt (tok w.Comma · opt (ref Sum · again)))
+-- what each loop goes round; a loop is the row of its own name too
+abbrev pub sums_round : Row
+sums_round = opt (tok w.Comma · opt (ref Sum · again))
 
-abbrev pub sum_tail : Row
-sum_tail = rep SumTail (opt (make Operation (mark (class w.Plus ∷ class w.Minus ∷ []) · ref Term) · again))
+abbrev pub sum_round : Row
+sum_round = opt (make Operation (mark (class w.Plus ∷ class w.Minus ∷ []) · ref Term) · again)
 
-abbrev pub term_tail : Row
-term_tail = rep TermTail (opt (make Operation (tok w.Times · ref Unary) · again))
+abbrev pub term_round : Row
+term_round = opt (make Operation (tok w.Times · ref Unary) · again)
 
-abbrev pub call_tail : Row
-call_tail = rep CallTail (opt (make Arguments (round (deep Args)) · again))
+abbrev pub call_round : Row
+call_round = opt (make Arguments (round (deep Args)) · again)
 
-abbrev pub args_tail : Row
-args_tail = rep ArgsTail (opt (tok w.Comma · opt (ref Arg · again)))
+abbrev pub args_round : Row
+args_round = opt (tok w.Comma · opt (ref Arg · again))
 
 -- The table, a row for each line of the grammar.
 abbrev pub table : Level → Row
 -- exprs = sum {"," sum} [","]       itself if one without comma, else Tuple[sums]
 table Exprs = make Group (ref Inside)
-table Inside = ref Sum · opt (leaf k.Comma w.Comma · ref Sums)
-table Sums = opt (ref Sum · sums_tail)
+table Inside = ref Sum · opt (make Several (tok w.Comma · ref Sums))
+table Sums = opt (ref Sum · rep SumsTail sums_round)
 -- sum = sum ("+" | "-") term        Binary(sign)[a, b] | term
-table Sum = make Left (ref Term · sum_tail)
+table Sum = make Left (ref Term · rep SumTail sum_round)
 -- term = term "*" unary             Binary(*)[a, b] | unary
-table Term = make Left (ref Unary · term_tail)
+table Term = make Left (ref Unary · rep TermTail term_round)
 -- unary = "-" unary                 Negative[e] | call
 table Unary = make Negation (tok w.Minus · deep Unary) ∣ ref Call
 -- call = call "(" args ")"          Call[e, args..] | atom
-table Call = make Left (ref Atom · call_tail)
+table Call = make Left (ref Atom · rep CallTail call_round)
 -- args = [arg {"," arg} [","]]
-table Args = opt (ref Arg · args_tail)
+table Args = opt (ref Arg · rep ArgsTail args_round)
 -- arg = NAME "=" sum                Keyword[name, e] | sum
 table Arg = look k.Name (class w.Name ∷ []) (class w.Equal ∷ []) Named (ref Sum) (ref Sum)
 -- atom = NAME | NUMBER | HOLE | "(" [exprs] ")"
 table Atom = leaf k.Name w.Name ∣ leaf k.Number w.Number ∣ leaf k.Hole w.Hole ∣ ref Paren
 table Paren = make Group (round (opt (deep Inside)))
-table SumsTail = sums_tail
-table SumTail = sum_tail
-table TermTail = term_tail
-table CallTail = call_tail
-table ArgsTail = args_tail
+table SumsTail = rep SumsTail sums_round
+table SumTail = rep SumTail sum_round
+table TermTail = rep TermTail term_round
+table CallTail = rep CallTail call_round
+table ArgsTail = rep ArgsTail args_round
 
 abbrev pub grammar : Grammar Kind Builder Level
 grammar = record { table = table; opens = class w.OpenRound ∷ []; closes = class w.CloseRound ∷ []; most_depth = 500; most_brackets = 500 }
