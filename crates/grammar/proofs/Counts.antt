@@ -19,7 +19,7 @@ module _ (opens closes : List ℕ) (f : ℕ → ℕ) where
       past : (n : ℕ) → from ≤ n → ltb n from ≡ false
       past n h = grind arith
 
-  count_start : (n : ℕ) → count n n ≡ zero
+  pub count_start : (n : ℕ) → count n n ≡ zero
   unfolding open_at
   count_start zero = refl
   count_start (suc n) = rw (ltb_less n (suc n) (omega arith)) refl

@@ -52,6 +52,10 @@ module _ {K B L N : Type 0} (g : Grammar K B L) (S : Sets L) (R : Ranks B L) (pa
     piece_leveled : (l : L) (xs : List N) (i j : ℕ) → IsPiece g depth t l xs i j → j < m → Level t S m g.table R.top (room_of g) l None xs i j
     piece_leveled l xs i j p jm = leveled t deep i g.most_depth (suc g.most_brackets) m l xs i j (omega arith) p.spelled p.shallow jm (few g.opens g.closes t.cls i j g.most_brackets p.few_brackets)
 
+    -- What is read ends at its beginning or behind it.
+    pub read_forward : (room : ℕ) (l : L) (xs : List N) (i j : ℕ) → read_level t S m g.table R.top room l i ≡ Some (xs, j) → i ≤ j
+    read_forward room l xs i j r = (good_level t S m g.table (is_grammar g S R pass) R.top room l).order (Some (t.cls j)) xs i j ((exact_level t S m g.table (is_grammar g S R pass) R.top room l).sound xs i j r)
+
     -- What is read within the limits is a piece.
     pub read_piece : (room : ℕ) (l : L) (xs : List N) (i j : ℕ) → read_level t S m g.table R.top room l i ≡ Some (xs, j) → depth xs ≤ g.most_depth → ((n : ℕ) → i ≤ n → n < j → brackets_round g.opens g.closes t.cls i n ≤ g.most_brackets) → IsPiece g depth t l xs i j
     read_piece room l xs i j r shallow few = record {

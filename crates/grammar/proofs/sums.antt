@@ -2,3 +2,4 @@ pub mod Views
 pub mod Passes
 pub mod Depths
 pub mod Steps
+pub mod Runs

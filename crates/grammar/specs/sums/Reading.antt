@@ -1,5 +1,5 @@
 -- What the functions of the example read.
-use Rattle.std.specs.Prelude.{◌≡◌, ℕ, suc, Bool, true, not, ◌++◌, List, [], ◌∷◌, length, Option, Some, None, Result, Ok, Err, Vec}
+use Rattle.std.specs.Prelude.{◌≡◌, ◌≤◌, ℕ, suc, Bool, true, not, List, [], ◌∷◌, length, Option, Some, None, Result, Ok, Err, Vec}
 use Rattle.std.specs.declared.alloc.Global.{Global}
 use Rattle.grammar.specs.declared.token.Token.{Token}
 use Rattle.grammar.specs.declared.token.Word.TheVariants.{Hole}
@@ -8,9 +8,9 @@ use Rattle.grammar.specs.declared.reader.Inner.{Inner}
 use Rattle.grammar.specs.declared.reader.Inner.TheVariants.{One, Several}
 use Rattle.grammar.specs.declared.reader.ReadFault.{ReadFault}
 use Rattle.grammar.specs.declared.reader.ReadFault.TheVariants as faults
-use Rattle.grammar.specs.Rule.{has, IsRun}
+use Rattle.grammar.specs.Rule.{has, IsRun, brackets_round}
 use Rattle.grammar.specs.Reader.{read_level}
-use Rattle.grammar.specs.sums.Token.{class}
+use Rattle.grammar.specs.sums.Token.{class, token_at}
 use Rattle.grammar.specs.sums.Tree.{Tree, view, views, depth_all}
 use Rattle.grammar.specs.sums.Table.{Level, Exprs, table, grammar}
 use Rattle.grammar.specs.sums.Build.{source, parted, group}
@@ -53,6 +53,19 @@ GivesInside (Err e) read = Fails e read
 abbrev pub Grouped : ℕ → ℕ → Inner → Tree → Type 0
 Grouped from to inner t = group from to (inner_views inner) ≡ t ∷ []
 
--- the tree of the closed run of exprs between two places, in a mode
-abbrev pub IsExprs : (ℕ → Bool) → List Token → ℕ → Tree → ℕ → Type 0
-IsExprs mode ts from t to = IsRun grammar mode depth_all (source ts) Exprs (t ∷ []) from to
+-- The tree of the closed run of exprs between two places of the tokens, in a mode.
+pub record IsExprs (mode : ℕ → Bool) (ts : List Token) (from : ℕ) (t : Tree) (to : ℕ) : Type 0 where
+  pub within : to ≤ length ts
+  pub run : IsRun grammar mode depth_all (source ts) Exprs (t ∷ []) from to
+
+-- the classes of patterns, which are all
+abbrev pub of_pattern : ℕ → Bool
+of_pattern c = true
+
+-- each token is one that a text may have
+abbrev pub IsText : List Token → Type 0
+IsText ts = (n : ℕ) → of_text (class (token_at ts n).word) ≡ true
+
+-- how many brackets the token at a place stands inside, from another place on
+unfoldable pub round_at : List Token → ℕ → ℕ → ℕ
+round_at ts from n = brackets_round grammar.opens grammar.closes (source ts).cls from n
