@@ -1,7 +1,7 @@
 -- What is read of exprs is the closed run, and the closed run is what is read.
 use Rattle.std.proofs.Common.{◌≡◌, ℕ, zero, suc, pred, ◌+◌, ◌<◌, ◌≤◌, List, [], ◌∷◌, length, refl, ap, arith, sym, ◌∙◌, inl, inr, add-one, Option, Some}
 use Rattle.std.specs.Prelude.{Bool, true, false, cond, leb, ltb, ◌⊎◌}
-use Rattle.grammar.specs.declared.token.Token.{Token}
+use Rattle.grammar.specs.declared.example.token.Token.{Token}
 use Rattle.grammar.specs.Rule.{open_at, behind, brackets_round, smaller}
 use Rattle.grammar.specs.sums.Token.{class, token_at}
 use Rattle.grammar.specs.sums.Tree.{Tree, depth, depth_all}

@@ -1,8 +1,8 @@
 -- The reader of a level, one step.
 use Rattle.std.proofs.Common.{◌≡◌, ℕ, zero, suc, ◌-◌, ◌<◌, List, [], ◌∷◌, ◌++◌, length, refl, ap, ◌∙◌, arith, Option, Some, None, cond}
 use Rattle.std.specs.Prelude.{Bool}
-use Rattle.grammar.specs.declared.token.Token.{Token}
-use Rattle.grammar.specs.declared.token.Word.TheVariants as w
+use Rattle.grammar.specs.declared.example.token.Token.{Token}
+use Rattle.grammar.specs.declared.example.token.Word.TheVariants as w
 use Rattle.grammar.specs.Rule.{Rule, has}
 use Rattle.grammar.specs.Reader.{read, read_level, choice, turns, ◌>>=◌}
 use Rattle.grammar.specs.sums.Token.{class, token_at}

@@ -3,9 +3,9 @@ use Rattle.std.proofs.Common.{◌≡◌, ℕ, List, [], ◌∷◌, ◌++◌, map
 use Rattle.std.specs.Prelude.{max, leb, ◌&&◌}
 use Rattle.std.proofs.lemmas.List.{append-nil, drop_all}
 use Rattle.grammar.specs.sums.Tree.{Tree, node, trees, step, view, views, depth, depths}
-use Rattle.grammar.specs.declared.node.Kind.TheVariants as k
+use Rattle.grammar.specs.declared.example.node.Kind.TheVariants as k
 use Rattle.grammar.specs.sums.Build.{parted, group}
-use Rattle.grammar.specs.declared.node.Node.{Node, Node-F, out-Node, roll-Node, fold-roll-Node, fold_out-Node}
+use Rattle.grammar.specs.declared.example.node.Node.{Node, Node-F, out-Node, roll-Node, fold-roll-Node, fold_out-Node}
 
 pub view_roll : (x : Node-F Node) → view (roll-Node x) ≡ node x.kind x.text x.from x.to (trees (views x.kids.items))
 view_roll = fold-roll-Node Tree step

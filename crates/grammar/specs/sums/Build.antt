@@ -1,8 +1,8 @@
 -- The nodes that each builder makes, from the place where its piece begins, the place behind it, and the nodes within.
 use Rattle.std.specs.Prelude.{ℕ, List, [], ◌∷◌}
-use Rattle.grammar.specs.declared.token.Token.{Token}
-use Rattle.grammar.specs.declared.node.Kind.{Kind}
-use Rattle.grammar.specs.declared.node.Kind.TheVariants as k
+use Rattle.grammar.specs.declared.example.token.Token.{Token}
+use Rattle.grammar.specs.declared.example.node.Kind.{Kind}
+use Rattle.grammar.specs.declared.example.node.Kind.TheVariants as k
 use Rattle.grammar.specs.Rule.{Source}
 use Rattle.grammar.specs.sums.Token.{class, token_at, end_of}
 use Rattle.grammar.specs.sums.Tree.{Tree, node, Trees, more_trees, trees}

@@ -1,13 +1,13 @@
 -- What the functions of the example read.
 use Rattle.std.specs.Prelude.{◌≡◌, ◌≤◌, ℕ, suc, Bool, true, not, List, [], ◌∷◌, length, Option, Some, None, Result, Ok, Err, Vec}
 use Rattle.std.specs.declared.alloc.Global.{Global}
-use Rattle.grammar.specs.declared.token.Token.{Token}
-use Rattle.grammar.specs.declared.token.Word.TheVariants.{Hole}
-use Rattle.grammar.specs.declared.node.Node.{Node}
-use Rattle.grammar.specs.declared.reader.Inner.{Inner}
-use Rattle.grammar.specs.declared.reader.Inner.TheVariants.{One, Several}
-use Rattle.grammar.specs.declared.reader.ReadFault.{ReadFault}
-use Rattle.grammar.specs.declared.reader.ReadFault.TheVariants as faults
+use Rattle.grammar.specs.declared.example.token.Token.{Token}
+use Rattle.grammar.specs.declared.example.token.Word.TheVariants.{Hole}
+use Rattle.grammar.specs.declared.example.node.Node.{Node}
+use Rattle.grammar.specs.declared.example.reader.Inner.{Inner}
+use Rattle.grammar.specs.declared.example.reader.Inner.TheVariants.{One, Several}
+use Rattle.grammar.specs.declared.example.reader.ReadFault.{ReadFault}
+use Rattle.grammar.specs.declared.example.reader.ReadFault.TheVariants as faults
 use Rattle.grammar.specs.Rule.{has, IsRun, brackets_round}
 use Rattle.grammar.specs.Reader.{read_level}
 use Rattle.grammar.specs.sums.Token.{class, token_at}

@@ -1,6 +1,6 @@
 -- The sets and ranks of the table, made by tools/table_sets.py; the check of the table shows that they are right.
 use Rattle.std.specs.Prelude.{ℕ, Bool, true, false, List, [], ◌∷◌}
-use Rattle.grammar.specs.declared.token.Word.TheVariants as w
+use Rattle.grammar.specs.declared.example.token.Word.TheVariants as w
 use Rattle.grammar.specs.sums.Token.{class}
 use Rattle.grammar.specs.sums.Table.{Level, Exprs, Inside, Sums, Sum, Term, Unary, Call, Args, Arg, Atom, Paren, SumsTail, SumTail, TermTail, CallTail, ArgsTail, Builder, strong}
 use Rattle.grammar.specs.Sets.{Sets}

@@ -1,9 +1,9 @@
 -- The grammar of sums, as a table: a row of a level for each line of the grammar.
 use Rattle.std.specs.Prelude.{ℕ, Bool, true, false, List, [], ◌∷◌}
-use Rattle.grammar.specs.declared.token.Word.{Word}
-use Rattle.grammar.specs.declared.token.Word.TheVariants as w
-use Rattle.grammar.specs.declared.node.Kind.{Kind}
-use Rattle.grammar.specs.declared.node.Kind.TheVariants as k
+use Rattle.grammar.specs.declared.example.token.Word.{Word}
+use Rattle.grammar.specs.declared.example.token.Word.TheVariants as w
+use Rattle.grammar.specs.declared.example.node.Kind.{Kind}
+use Rattle.grammar.specs.declared.example.node.Kind.TheVariants as k
 use Rattle.grammar.specs.sums.Token.{class}
 use Rattle.grammar.specs.Rule.{Rule, mark, word, ref, deep, again, around, look, opt, rep, make, ◌·◌, ◌∣◌, Grammar}
 

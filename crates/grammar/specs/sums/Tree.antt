@@ -1,7 +1,7 @@
 -- Trees, without where they lie in memory.
 use Rattle.std.specs.Prelude.{ℕ, suc, max, List, [], ◌∷◌, map}
-use Rattle.grammar.specs.declared.node.Kind.{Kind}
-use Rattle.grammar.specs.declared.node.Node.{Node, Node-F, fold-Node}
+use Rattle.grammar.specs.declared.example.node.Kind.{Kind}
+use Rattle.grammar.specs.declared.example.node.Node.{Node, Node-F, fold-Node}
 
 mutual
   pub data Tree : Type 0 where

@@ -6,7 +6,7 @@ use Rattle.grammar.specs.sums.Table.{Sums, Sum, Term, Call, Args}
 use Rattle.grammar.specs.sums.Reading.{level}
 use Rattle.grammar.specs.Reader.{◌>>=◌}
 use Rattle.grammar.proofs.sums.Steps.{sums_rest, sum_rest, term_rest, call_rest, args_rest}
-use Rattle.grammar.proofs.reader.+reader.Given as goal
+use Rattle.grammar.proofs.example.reader.+reader.Given as goal
 
 abbrev pub decreases-arg : goal.decreases-arg
 decreases-arg l = 16 * l.room + 7

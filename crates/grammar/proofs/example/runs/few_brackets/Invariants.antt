@@ -1,7 +1,7 @@
 use Rattle.std.proofs.Common.{◌≡◌, ℕ, ◌≤◌, ◌<◌}
 use Rattle.grammar.specs.sums.Reading.{round_at}
 use Rattle.grammar.proofs.sums.Runs.{open_before}
-use Rattle.grammar.proofs.runs.few_brackets.Given as goal
+use Rattle.grammar.proofs.example.runs.few_brackets.Given as goal
 
 abbrev pub invariant-loop-at : goal.invariant-loop-at
 invariant-loop-at l = record {

@@ -9,9 +9,9 @@ ghost use Rattle.grammar.specs.sums.Reading.{IsExprs, IsText, of_text, of_patter
 
 use std::alloc::Global;
 
-use crate::node::Node;
-use crate::reader::{exprs, ReadFault};
-use crate::token::{Token, Word};
+use crate::example::node::Node;
+use crate::example::reader::{exprs, ReadFault};
+use crate::example::token::{Token, Word};
 
 /// The depth of trees, and the number of brackets round a token, that are read at most.
 const LIMIT: u32 = 500;

@@ -2,7 +2,7 @@ use Rattle.std.proofs.Common.{rules, ◌≡◌, ℕ, ◌+◌, ◌≤◌, arith, 
 use Rattle.grammar.specs.sums.Tree.{depth, view}
 use Rattle.grammar.proofs.sums.Runs.{run_is_read, text_is_read, read_is_run, forward, one_answer, is_shallow_run, is_bracketed_run, leb_true, leb_false}
 use Rattle.grammar.specs.sums.Reading.{of_text, of_pattern}
-use Rattle.grammar.proofs.runs.read_exprs.Goals as goal
+use Rattle.grammar.proofs.example.runs.read_exprs.Goals as goal
 
 pub returns-clause-found : goal.returns-clause-found
 returns-clause-found c = read_is_run c.args.tokens.now c.args.from _ _ c.in_ok-node.ensures.gives (grind arith) (leb_true _ _ (grind arith)) (c.if-not-few_brackets.ensures.few refl)

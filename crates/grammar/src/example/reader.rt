@@ -1,8 +1,8 @@
 //! The reader of the example: a function for each level, by the token in hand.
 
 ghost use Rattle.std.specs.Prelude.{◌≡◌, ◌≢◌, ℕ, suc, ◌+◌, ◌<◌, ◌≤◌, true, false, List, [], ◌∷◌, length, IfOk, IfErr, Some, eqb, leb};
-ghost use Rattle.grammar.specs.declared.token.Word.TheVariants.{End, Plus, Minus};
-ghost use Rattle.grammar.specs.declared.reader.ReadFault.TheVariants.{Memory};
+ghost use Rattle.grammar.specs.declared.example.token.Word.TheVariants.{End, Plus, Minus};
+ghost use Rattle.grammar.specs.declared.example.reader.ReadFault.TheVariants.{Memory};
 ghost use Rattle.grammar.specs.Rule.{has};
 ghost use Rattle.grammar.specs.sums.Token.{class, token_at, end_of};
 ghost use Rattle.grammar.specs.sums.Tree.{Tree, view, views, node, trees};
@@ -12,8 +12,8 @@ ghost use Rattle.grammar.specs.sums.Reading.{level, Gives, GivesAll, GivesInside
 
 use std::alloc::{AllocError, AllocFailed, Global};
 
-use crate::node::{Kind, Node};
-use crate::token::{Token, Word};
+use crate::example::node::{Kind, Node};
+use crate::example::token::{Token, Word};
 
 /// Why no tree was read.
 #[derive(Clone, Copy, PartialEq, Eq, Debug)]
