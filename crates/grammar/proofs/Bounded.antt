@@ -1,11 +1,11 @@
 -- What is derived is spelled within bounds: for trees no deeper than a number, in no more than so many brackets.
-use Rattle.std.proofs.Common.{◌≡◌, ℕ, zero, suc, pred, ◌+◌, ◌-◌, ◌*◌, ◌<◌, ◌≤◌, List, [], ◌∷◌, ◌++◌, refl, ap, arith, sym, ◌∙◌, inl, inr}
-use Rattle.std.specs.Prelude.{Bool, true, false, cond, ◌||◌, ◌&&◌, not, Option, Some, None, ◌⊎◌, eqb, ltb}
+use Rattle.std.proofs.Common.{◌≡◌, ℕ, zero, suc, pred, ◌+◌, ◌-◌, ◌<◌, ◌≤◌, List, [], ◌∷◌, ◌++◌, refl, ap, arith, sym, ◌∙◌, inl, inr}
+use Rattle.std.specs.Prelude.{Bool, true, false, cond, ◌||◌, ◌&&◌, not, Option, Some, None, ◌⊎◌, ltb}
 use Rattle.grammar.specs.Rule.{Rule, done, mark, word, ref, deep, again, seq, around, alt, look, choose, opt, must, rep, make, has, Source, Table, Grammar, Unlike, Loop, outside, within, Derives, d_done, d_mark, d_word, d_ref, d_deep, d_again, d_rep, d_seq, d_around, d_left, d_right, d_seen, d_unseen, d_chosen, d_unchosen, d_without, d_with, d_barred, d_taken, d_make}
-use Rattle.grammar.specs.Sets.{Sets, nul, first, more, first_of, more_of, empty_of}
+use Rattle.grammar.specs.Sets.{Sets, nul}
 use Rattle.grammar.specs.Check.{apart, within_set, Ranks, fit, late, loops}
-use Rattle.grammar.proofs.Facts.{true_false, and_true, and_both, not_true, or_either, or_left, or_right, ltb_true, ltb_less, less_or_same, Apart, Within, apart_holds, within_holds}
-use Rattle.grammar.proofs.Spelled.{Rel, Blocked, part, Other, rounds, Never, Spelled, Ladder, pick, Level, Covers, IsClear, IsGrammar}
+use Rattle.grammar.proofs.Facts.{true_false, and_true, and_both, not_true, or_either, or_left, or_right, ltb_true, apart_holds, within_holds}
+use Rattle.grammar.proofs.Spelled.{Rel, Other, rounds, Never, Spelled, Ladder, pick, Level, Covers, IsClear, IsGrammar}
 use Rattle.grammar.proofs.Good.{part_none}
 
 or_mono : (a g g' : Bool) → (g ≡ true → g' ≡ true) → (a || g) ≡ true → (a || g') ≡ true
@@ -24,10 +24,10 @@ fit_more G R (seq r s) p g g' le h = let a : _ = and_both (fit G R p g r) (fit G
 fit_more G R (around cs ds r) p g g' le h = h
 fit_more G R (alt r s) p g g' le h = let a : _ = and_both (fit G R p g r) (fit G R p g s) h in and_true _ _ (fit_more G R r p g g' le a.0) (fit_more G R s p g g' le a.1)
 fit_more G R (look w cs ds v r s) p g g' le h =
-  let a : _ = and_both (apart G.opens cs && apart G.closes cs) ((apart G.opens ds && apart G.closes ds) && (fit G R p (R.strong v || g) r && fit G R p g s)) h in
-  let b : _ = and_both (apart G.opens ds && apart G.closes ds) (fit G R p (R.strong v || g) r && fit G R p g s) a.1 in
-  let c : _ = and_both (fit G R p (R.strong v || g) r) (fit G R p g s) b.1 in
-  and_true _ _ a.0 (and_true _ _ b.0 (and_true _ _ (fit_more G R r p (R.strong v || g) (R.strong v || g') (or_mono (R.strong v) g g' le) c.0) (fit_more G R s p g g' le c.1)))
+    let a : _ = and_both (apart G.opens cs && apart G.closes cs) ((apart G.opens ds && apart G.closes ds) && (fit G R p (R.strong v || g) r && fit G R p g s)) h in
+    let b : _ = and_both (apart G.opens ds && apart G.closes ds) (fit G R p (R.strong v || g) r && fit G R p g s) a.1 in
+    let c : _ = and_both (fit G R p (R.strong v || g) r) (fit G R p g s) b.1 in
+    and_true _ _ a.0 (and_true _ _ b.0 (and_true _ _ (fit_more G R r p (R.strong v || g) (R.strong v || g') (or_mono (R.strong v) g g' le) c.0) (fit_more G R s p g g' le c.1)))
 fit_more G R (choose c r s) p g g' le h = let a : _ = and_both (fit G R p g r) (fit G R p g s) h in and_true _ _ (fit_more G R r p g g' le a.0) (fit_more G R s p g g' le a.1)
 fit_more G R (must cs r) p g g' le h = fit_more G R r p g g' le h
 fit_more G R (opt r) p g g' le h = fit_more G R r p g g' le h
@@ -101,21 +101,21 @@ module _ {K B L N : Type 0} (t : Source K B N) (table : Table K B L) (S : Sets L
 
     opened : (cs ds : List ℕ) (i : ℕ) → base ≤ i → (within_set cs G.opens && (within_set ds G.closes && apart G.opens ds)) ≡ true → has cs (t.cls i) ≡ true → D (suc i) ≡ suc (D i)
     opened cs ds i bi h g =
-      let b : _ = and_both (within_set cs G.opens) (within_set ds G.closes && apart G.opens ds) h in
-      up i bi (within_holds cs G.opens b.0 (t.cls i) g)
+        let b : _ = and_both (within_set cs G.opens) (within_set ds G.closes && apart G.opens ds) h in
+        up i bi (within_holds cs G.opens b.0 (t.cls i) g)
 
     closed : (cs ds : List ℕ) (i : ℕ) → base ≤ i → (within_set cs G.opens && (within_set ds G.closes && apart G.opens ds)) ≡ true → has ds (t.cls i) ≡ true → D (suc i) ≡ pred (D i)
     closed cs ds i bi h g =
-      let b : _ = and_both (within_set cs G.opens) (within_set ds G.closes && apart G.opens ds) h in
-      let e : _ = and_both (within_set ds G.closes) (apart G.opens ds) b.1 in
-      down i bi (apart_holds G.opens ds e.1 (t.cls i) g) (within_holds ds G.closes e.0 (t.cls i) g)
+        let b : _ = and_both (within_set cs G.opens) (within_set ds G.closes && apart G.opens ds) h in
+        let e : _ = and_both (within_set ds G.closes) (apart G.opens ds) b.1 in
+        down i bi (apart_holds G.opens ds e.1 (t.cls i) g) (within_holds ds G.closes e.0 (t.cls i) g)
 
     looked : (b : B) (cs ds : List ℕ) (r s : Rule K B L) (p : ℕ) (g : Bool) → ((apart G.opens cs && apart G.closes cs) && ((apart G.opens ds && apart G.closes ds) && (fit G R p (R.strong b || g) r && fit G R p g s))) ≡ true → ((apart G.opens cs && apart G.closes cs) ≡ true) × ((apart G.opens ds && apart G.closes ds) ≡ true) × (fit G R p (R.strong b || g) r ≡ true) × (fit G R p g s ≡ true)
     looked b cs ds r s p g h =
-      let a : _ = and_both (apart G.opens cs && apart G.closes cs) ((apart G.opens ds && apart G.closes ds) && (fit G R p (R.strong b || g) r && fit G R p g s)) h in
-      let e : _ = and_both (apart G.opens ds && apart G.closes ds) (fit G R p (R.strong b || g) r && fit G R p g s) a.1 in
-      let f : _ = and_both (fit G R p (R.strong b || g) r) (fit G R p g s) e.1 in
-      (a.0, e.0, f.0, f.1)
+        let a : _ = and_both (apart G.opens cs && apart G.closes cs) ((apart G.opens ds && apart G.closes ds) && (fit G R p (R.strong b || g) r && fit G R p g s)) h in
+        let e : _ = and_both (apart G.opens ds && apart G.closes ds) (fit G R p (R.strong b || g) r && fit G R p g s) a.1 in
+        let f : _ = and_both (fit G R p (R.strong b || g) r) (fit G R p g s) e.1 in
+        (a.0, e.0, f.0, f.1)
 
     -- brackets stand in pairs
     even : {c : Loop K B L} {r : Rule K B L} {xs : List N} {i j : ℕ} → Derives t table c r xs i j → (p : ℕ) (g : Bool) → Around_fit c p g → fit G R p g r ≡ true → base ≤ i → D j ≡ D i
@@ -128,13 +128,13 @@ module _ {K B L N : Type 0} (t : Source K B N) (table : Table K B L) (S : Sets L
     even (d_rep d) p g a h bi = even d p g h h bi
     even (d_seq {r = r} {s = s} k ys zs d e x) p g a h bi = let b : _ = and_both (fit G R p g r) (fit G R p g s) h in even e p g a b.1 (omega (arith, forward d)) ∙ even d p g a b.0 bi
     even (d_around {c = c} {cs = cs} {ds = ds} {r = r} {i = i} k y d y' s) p g a h bi =
-      let b : _ = and_both (within_set cs G.opens && (within_set ds G.closes && apart G.opens ds)) (fit G R p true r) h in
-      ap D s ∙ (closed cs ds k (omega (arith, forward d)) b.0 y' ∙ ap pred (even d p true (around_more c p g true (λ e. refl) a) b.1 (omega arith) ∙ opened cs ds i bi b.0 y))
+        let b : _ = and_both (within_set cs G.opens && (within_set ds G.closes && apart G.opens ds)) (fit G R p true r) h in
+        ap D s ∙ (closed cs ds k (omega (arith, forward d)) b.0 y' ∙ ap pred (even d p true (around_more c p g true (λ e. refl) a) b.1 (omega arith) ∙ opened cs ds i bi b.0 y))
     even (d_left {r = r} {s = s} d) p g a h bi = even d p g a (and_both (fit G R p g r) (fit G R p g s) h).0 bi
     even (d_right {r = r} {s = s} d) p g a h bi = even d p g a (and_both (fit G R p g r) (fit G R p g s) h).1 bi
     even (d_seen {c = c} {b = b} {cs = cs} {ds = ds} {r = r} {s = s} {i = i} ys y y' d x) p g a h bi =
-      let u : _ = looked b cs ds r s p g h in
-      even d p (R.strong b || g) (around_more c p g (R.strong b || g) (or_right (R.strong b) g) a) u.2 (omega arith) ∙ (plain ds (suc i) (omega arith) u.1 y' ∙ plain cs i bi u.0 y)
+        let u : _ = looked b cs ds r s p g h in
+        even d p (R.strong b || g) (around_more c p g (R.strong b || g) (or_right (R.strong b) g) a) u.2 (omega arith) ∙ (plain ds (suc i) (omega arith) u.1 y' ∙ plain cs i bi u.0 y)
     even (d_unseen {b = b} {cs = cs} {ds = ds} {r = r} {s = s} y d) p g a h bi = even d p g a (looked b cs ds r s p g h).3 bi
     even (d_chosen {r = r} {s = s} y d) p g a h bi = even d p g a (and_both (fit G R p g r) (fit G R p g s) h).0 bi
     even (d_unchosen {r = r} {s = s} y d) p g a h bi = even d p g a (and_both (fit G R p g r) (fit G R p g s) h).1 bi
@@ -172,8 +172,9 @@ module _ {K B L N : Type 0} (t : Source K B N) (table : Table K B L) (S : Sets L
       later : (q : Option L) (i0 i k : ℕ) (r s : Rule K B L) → i0 ≤ i → i ≤ k → (i ≡ k → nul S q r ≡ true) → (late S q (seq r s) ≡ true) ⊎ (i0 < i) → (late S q s ≡ true) ⊎ (i0 < k)
       later q i0 i k r s le le' st (inr lt) = inr (omega arith)
       later q i0 i k r s le le' st (inl h) = elim (or_either (not (nul S q r)) (late S q s) (and_both (late S q r) (not (nul S q r) || late S q s) h).1) [
-          inl n ↦ inr (moved (nul S q r) st (not_true (nul S q r) n))
-        | inr g ↦ inl g ]
+        | inl n ↦ inr (moved (nul S q r) st (not_true (nul S q r) n))
+        | inr g ↦ inl g
+      ]
         where
           moved : (b : Bool) → (i ≡ k → b ≡ true) → b ≡ false → i0 < k
           moved b st n = elim (nat_cases i k) [ inl lt ↦ omega arith | inr e ↦ true_false b (st (omega (arith, e))) n ]
@@ -227,9 +228,9 @@ module _ {K B L N : Type 0} (t : Source K B N) (table : Table K B L) (S : Sets L
           ahead false e = record {}
 
       pub bounded : {c : Loop K B L} {rl : Rule K B L} {xs : List N} {i j : ℕ} → Derives t table c rl xs i j → (n r k : ℕ) (q : Option L) (p d i0 : ℕ) (g : Bool)
-        → Around_clear c q → Around_fit c p g → Around_loop c → IsClear S q rl → fit G R p g rl ≡ true → loops S rl ≡ true → p ≤ k
-        → (late S q rl ≡ true) ⊎ (i0 < i) → i0 ≤ i → j ≤ n + i0 → j < M → dep xs ≤ d → base ≤ i → ((m : ℕ) → i ≤ m → m ≤ j → D m ≤ limit) → d + (limit - D i) ≤ r → (g ≡ true → d + (limit - D i) < r)
-        → Spelled t S M (Rungs r k) (Env r k c n) q rl None xs i j
+          → Around_clear c q → Around_fit c p g → Around_loop c → IsClear S q rl → fit G R p g rl ≡ true → loops S rl ≡ true → p ≤ k
+          → (late S q rl ≡ true) ⊎ (i0 < i) → i0 ≤ i → j ≤ n + i0 → j < M → dep xs ≤ d → base ≤ i → ((m : ℕ) → i ≤ m → m ≤ j → D m ≤ limit) → d + (limit - D i) ≤ r → (g ≡ true → d + (limit - D i) < r)
+          → Spelled t S M (Rungs r k) (Env r k c n) q rl None xs i j
       bounded (d_done e s) n r k q p d i0 g a a' a'' cl f w pk la le nj jm dd bi lim bud bug = (e, s)
       bounded (d_mark y e s) n r k q p d i0 g a a' a'' cl f w pk la le nj jm dd bi lim bud bug = (y, e, s)
       bounded (d_word y e s) n r k q p d i0 g a a' a'' cl f w pk la le nj jm dd bi lim bud bug = (y, e, s)
@@ -240,7 +241,7 @@ module _ {K B L N : Type 0} (t : Source K B N) (table : Table K B L) (S : Sets L
           let lt : d + (limit - D i) < r = bug f in
           let rt : R.rank l < R.top = ltb_true (R.rank l) R.top (ranks l) in
           level_of r l xs i j (omega (arith, lt)) (ladder_of (Level t S M table R.top (pred r)) R.top l xs i j (omega (arith, rt))
-            (bounded x j (pred r) (pred R.top) None (R.rank l) d i false (record {}) (record {}) (record {}) (I.clear l) (fits l) (loop l) (below_top (R.rank l) rt) (inl (no_again l)) (omega arith) (omega arith) jm dd bi lim (omega (arith, lt)) (λ e. never e)))
+          (bounded x j (pred r) (pred R.top) None (R.rank l) d i false (record {}) (record {}) (record {}) (I.clear l) (fits l) (loop l) (below_top (R.rank l) rt) (inl (no_again l)) (omega arith) (omega arith) jm dd bi lim (omega (arith, lt)) (λ e. never e)))
       bounded (d_again {l = l} {r = body} x) zero r k q p d i0 g a a' a'' cl f w pk la le nj jm dd bi lim bud bug = strictly la (λ h. absurd (omega (arith, forward x, h, nj)))
       bounded (d_again {l = l} {r = body} {i = i} x) (suc n) r k q p d i0 g a a' a'' cl f w pk la le nj jm dd bi lim bud bug = strictly la (λ h. bounded x n r k (Some l) p d i g (refl, a.1, a.2) a' a'' a.1 a' a''.1 pk (inl a''.0) (omega arith) (omega (arith, h, nj)) jm dd bi lim bud bug)
       bounded (d_rep {l = l} {r = body} {xs = xs} {i = i} {j = j} x) n r k q p d i0 g a a' a'' cl f w pk la le nj jm dd bi lim bud bug =
@@ -252,11 +253,14 @@ module _ {K B L N : Type 0} (t : Source K B N) (table : Table K B L) (S : Sets L
           let fx : i ≤ m = forward x in
           let fy : m ≤ j = forward y in
           let dd' : dep (ys ++ zs) ≤ d = rw e at dd in
-          let same : D m ≡ D i = even x p g a' f2.0 bi in
-          (m, ys, zs,
+          let same : D m ≡ D i = even x p g a' f2.0 bi in (
+            m,
+            ys,
+            zs,
             rw part_none (bounded x n r k q p d i0 g a a' a'' cl.0 f2.0 w2.0 pk (part_late q i0 i (late S q u) (not (nul S q u) || late S q s) la) le (omega arith) (omega arith) (omega (arith, dep_left ys zs, dd')) bi (λ n' u' v. lim n' u' (omega arith)) bud bug),
             bounded y n r k q p d i0 g a a' a'' cl.1 f2.1 w2.1 pk (later q i0 i m u s le fx (λ h. still x q a cl.0 h) la) (omega arith) nj jm (omega (arith, dep_right ys zs, dd')) (omega arith) (λ n' u' v. lim n' (omega arith) v) (rw same bud) (λ h. rw same (bug h)),
-            e)
+            e,
+          )
       bounded (d_around {c = c} {cs = cs} {ds = ds} {r = u} {xs = xs} {i = i} {j = j} m y x y' e) n r k q p d i0 g a a' a'' cl f w pk la le nj jm dd bi lim bud bug =
           let f2 : _ = and_both (within_set cs G.opens && (within_set ds G.closes && apart G.opens ds)) (fit G R p true u) f in
           let fx : suc i ≤ m = forward x in

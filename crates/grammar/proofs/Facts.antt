@@ -1,6 +1,6 @@
 -- Facts of truth values, of numbers and of sets of classes.
-use Rattle.std.proofs.Common.{◌≡◌, ℕ, zero, suc, ◌+◌, ◌<◌, ◌≤◌, List, [], ◌∷◌, ◌++◌, refl, ap, arith, sym, ◌∙◌, inl, inr}
-use Rattle.std.specs.Prelude.{Bool, true, false, cond, ◌||◌, ◌&&◌, not, Option, Some, None, is_some, ◌⊎◌, eqb, ltb}
+use Rattle.std.proofs.Common.{◌≡◌, ℕ, ◌<◌, ◌≤◌, List, [], ◌∷◌, ◌++◌, refl, ap, arith, inl, inr}
+use Rattle.std.specs.Prelude.{Bool, true, false, cond, ◌||◌, ◌&&◌, not, Option, Some, None, ◌⊎◌, eqb, ltb}
 use Rattle.grammar.specs.Rule.{has}
 use Rattle.grammar.specs.Reader.{◌>>=◌}
 use Rattle.grammar.specs.Check.{each, apart, within_set}
@@ -120,7 +120,7 @@ Within cs ds = (c : ℕ) → has cs c ≡ true → has ds c ≡ true
 pub each_at : (p : ℕ → Bool) (cs : List ℕ) → each p cs ≡ true → (c : ℕ) → has cs c ≡ true → p c ≡ true
 each_at p [] h c k = cc
 each_at p (d ∷ cs) h c k = let b : _ = and_both (p d) (each p cs) h in
-  elim (or_either (eqb d c) (has cs c) k) [ inl e ↦ rw (same_number d c e) at b.0 | inr m ↦ each_at p cs b.1 c m ]
+    elim (or_either (eqb d c) (has cs c) k) [ inl e ↦ rw (same_number d c e) at b.0 | inr m ↦ each_at p cs b.1 c m ]
 
 pub apart_holds : (cs ds : List ℕ) → apart cs ds ≡ true → Apart cs ds
 apart_holds cs ds h c k = not_true (has cs c) (each_at (λ d. not (has cs d)) ds h c k)

@@ -1,10 +1,10 @@
 -- What holds of each relation that a rule gives, beside the sets of the rule.
-use Rattle.std.proofs.Common.{◌≡◌, ℕ, zero, suc, ◌+◌, ◌<◌, ◌≤◌, List, [], ◌∷◌, ◌++◌, refl, ap, arith, sym, ◌∙◌, inl, inr}
-use Rattle.std.specs.Prelude.{Bool, true, false, cond, ◌||◌, ◌&&◌, not, Option, Some, None, ◌⊎◌, eqb, ltb}
+use Rattle.std.proofs.Common.{◌≡◌, ℕ, zero, suc, ◌<◌, ◌≤◌, List, [], ◌∷◌, ◌++◌, refl, arith, sym, ◌∙◌, inl, inr}
+use Rattle.std.specs.Prelude.{Bool, true, false, cond, ◌||◌, ◌&&◌, Option, Some, None, ◌⊎◌, ltb}
 use Rattle.grammar.specs.Rule.{Rule, done, mark, word, ref, deep, again, seq, around, alt, look, choose, opt, must, rep, make, has, Source, Table}
 use Rattle.grammar.specs.Sets.{Sets, nul, first, more, first_of, more_of, empty_of}
-use Rattle.grammar.proofs.Facts.{true_false, and_true, or_left, or_right, ltb_true, ltb_less, ltb_same, less_or_same, has_append, has_left, has_right, lacks_left, lacks_right, skip, lacks_skip, Apart, Within}
-use Rattle.grammar.proofs.Spelled.{Rel, Blocked, part, Other, rounds, Never, Spelled, Ladder, pick, Level, Covers, IsClear, IsGrammar}
+use Rattle.grammar.proofs.Facts.{and_true, or_left, or_right, less_or_same, has_left, has_right, lacks_left, lacks_right, skip, lacks_skip, Within}
+use Rattle.grammar.proofs.Spelled.{Rel, Blocked, part, Other, rounds, Never, Spelled, Ladder, pick, Level, IsClear, IsGrammar}
 
 pub record Good {K B N : Type 0} (t : Source K B N) (f : List ℕ) (e : Bool) (g : List ℕ) (X : Rel N) : Type 0 where
   pub order : (o : Option ℕ) (xs : List N) (i j : ℕ) → X o xs i j → i ≤ j
@@ -19,7 +19,8 @@ good_never t f e g = record {
   head = λ o xs i j d. absurd (omega (arith, d.no));
   empty = λ o xs i j d. absurd (omega (arith, d.no));
   forget = λ o xs i j d. d;
-  closed = λ xs i j c d. absurd (omega (arith, d.no)) }
+  closed = λ xs i j c d. absurd (omega (arith, d.no));
+}
 
 -- the first part of a sequence
 abbrev pub Seq : {N : Type 0} → Rel N → Rel N → Rel N
@@ -61,17 +62,27 @@ module _ {K B N : Type 0} (t : Source K B N) where
   good_seq f f' g g' e e' X Y x y = record {
     order = λ o xs i j d. omega (arith, low o xs i j d, high o xs i j d);
     head = λ o xs i j d h. elim (less_or_same i d.0 (low o xs i j d)) [
-        inl p ↦ has_left f (cond e f' []) (t.cls i) (x.head (part d.0 j o) d.1 i d.0 d.3 p)
-      | inr p ↦ skip e f f' (t.cls i) (x.empty (part d.0 j o) d.1 i d.0 d.3 p) (rw p (y.head o d.2 d.0 j d.4 (rw p at h))) ];
+      | inl p ↦ has_left f (cond e f' []) (t.cls i) (x.head (part d.0 j o) d.1 i d.0 d.3 p)
+      | inr p ↦ skip e f f' (t.cls i) (x.empty (part d.0 j o) d.1 i d.0 d.3 p) (rw p (y.head o d.2 d.0 j d.4 (rw p at h)))
+    ];
     empty = λ o xs i j d h. and_true e e' (x.empty (part d.0 j o) d.1 i d.0 d.3 (omega (arith, low o xs i j d, high o xs i j d))) (y.empty o d.2 d.0 j d.4 (omega (arith, low o xs i j d, high o xs i j d)));
     forget = λ o xs i j d. (d.0, d.1, d.2, rw part_none (x.forget (part d.0 j o) d.1 i d.0 d.3), y.forget o d.2 d.0 j d.4, d.5);
-    closed = λ xs i j c d h. (d.0, d.1, d.2, elim (less_or_same d.0 j (high None xs i j d)) [
-        inl p ↦ rw (part_before d.0 j (Some c) p) (rw part_none at d.3)
-      | inr p ↦ rw (part_end d.0 j (Some c) p) (x.closed d.1 i d.0 c (rw part_none at d.3) (lacks_skip e' g' g c (y.empty None d.2 d.0 j d.4 p) h)) ],
-      y.closed d.2 d.0 j c d.4 (lacks_left g' (cond e' g []) c h), d.5) }
+    closed = λ xs i j c d h. (
+      d.0,
+      d.1,
+      d.2,
+      elim (less_or_same d.0 j (high None xs i j d)) [
+        | inl p ↦ rw (part_before d.0 j (Some c) p) (rw part_none at d.3)
+        | inr p ↦ rw (part_end d.0 j (Some c) p) (x.closed d.1 i d.0 c (rw part_none at d.3) (lacks_skip e' g' g c (y.empty None d.2 d.0 j d.4 p) h))
+      ],
+      y.closed d.2 d.0 j c d.4 (lacks_left g' (cond e' g []) c h),
+      d.5,
+    );
+  }
     where
       low : (o : Option ℕ) (xs : List N) (i j : ℕ) → (d : Seq X Y o xs i j) → i ≤ d.0
       low o xs i j d = x.order (part d.0 j o) d.1 i d.0 d.3
+
       high : (o : Option ℕ) (xs : List N) (i j : ℕ) → (d : Seq X Y o xs i j) → d.0 ≤ j
       high o xs i j d = y.order o d.2 d.0 j d.4
 
@@ -81,7 +92,8 @@ module _ {K B N : Type 0} (t : Source K B N) where
     head = λ o xs i j d h. d.1;
     empty = λ o xs i j d h. absurd (omega (arith, x.order None xs (suc i) d.0 d.2, d.4, h));
     forget = λ o xs i j d. d;
-    closed = λ xs i j c d h. d }
+    closed = λ xs i j c d h. d;
+  }
 
   pub good_alt : (f f' g g' : List ℕ) (e e' : Bool) (X Y : Rel N) → Good t f e g X → Good t f' e' g' Y → Good t (f ++ f') (e || e') (g ++ g') (Alt X Y)
   good_alt f f' g g' e e' X Y x y = record {
@@ -89,7 +101,8 @@ module _ {K B N : Type 0} (t : Source K B N) where
     head = λ o xs i j d h. elim d [ inl p ↦ has_left f f' (t.cls i) (x.head o xs i j p h) | inr p ↦ has_right f f' (t.cls i) (y.head o xs i j p h) ];
     empty = λ o xs i j d h. elim d [ inl p ↦ or_left e e' (x.empty o xs i j p h) | inr p ↦ or_right e e' (y.empty o xs i j p h) ];
     forget = λ o xs i j d. elim d [ inl p ↦ inl (x.forget o xs i j p) | inr p ↦ inr (y.forget o xs i j p) ];
-    closed = λ xs i j c d h. elim d [ inl p ↦ inl (x.closed xs i j c p (lacks_left g g' c h)) | inr p ↦ inr (y.closed xs i j c p (lacks_right g g' c h)) ] }
+    closed = λ xs i j c d h. elim d [ inl p ↦ inl (x.closed xs i j c p (lacks_left g g' c h)) | inr p ↦ inr (y.closed xs i j c p (lacks_right g g' c h)) ];
+  }
 
   pub good_look : (w : K) (cs ds : List ℕ) (b : B) (f f' g g' : List ℕ) (e e' : Bool) (X Y : Rel N) → Good t f e g X → Good t f' e' g' Y → Good t (cs ++ f') e' (g ++ (ds ++ g')) (Look t w cs ds b X Y)
   good_look w cs ds b f f' g g' e e' X Y x y = record {
@@ -98,12 +111,15 @@ module _ {K B N : Type 0} (t : Source K B N) where
     empty = λ o xs i j d h. elim d [ inl p ↦ absurd (omega (arith, x.order o p.0 (suc (suc i)) j p.3, h)) | inr p ↦ y.empty o xs i j p.1 h ];
     forget = λ o xs i j d. elim d [ inl p ↦ inl (p.0, p.1, p.2, x.forget o p.0 (suc (suc i)) j p.3, p.4) | inr p ↦ inr (λ h. weaker (ltb (suc i) j) o _ (p.0 h), y.forget o xs i j p.1) ];
     closed = λ xs i j c d h. elim d [
-        inl p ↦ inl (p.0, p.1, p.2, x.closed p.0 (suc (suc i)) j c p.3 (lacks_left g (ds ++ g') c h), p.4)
-      | inr p ↦ inr (λ k. stronger (ltb (suc i) j) _ _ (lacks_left ds g' c (lacks_right g (ds ++ g') c h)) (p.0 k), y.closed xs i j c p.1 (lacks_right ds g' c (lacks_right g (ds ++ g') c h))) ] }
+      | inl p ↦ inl (p.0, p.1, p.2, x.closed p.0 (suc (suc i)) j c p.3 (lacks_left g (ds ++ g') c h), p.4)
+      | inr p ↦ inr (λ k. stronger (ltb (suc i) j) _ _ (lacks_left ds g' c (lacks_right g (ds ++ g') c h)) (p.0 k), y.closed xs i j c p.1 (lacks_right ds g' c (lacks_right g (ds ++ g') c h)))
+    ];
+  }
     where
       weaker : (b : Bool) (o : Option ℕ) (P : Type 0) → cond b P (Blocked o ds) → cond b P (Blocked None ds)
       weaker true o P h = h
       weaker false o P h = record {}
+
       stronger : (b : Bool) (P Q : Type 0) → Q → cond b P (record {}) → cond b P Q
       stronger true P Q q h = h
       stronger false P Q q h = q
@@ -114,7 +130,8 @@ module _ {K B N : Type 0} (t : Source K B N) where
     head = λ o xs i j d h. elim d [ inl p ↦ has_left f f' (t.cls i) (x.head o xs i j p.1 h) | inr p ↦ has_right f f' (t.cls i) (y.head o xs i j p.1 h) ];
     empty = λ o xs i j d h. elim d [ inl p ↦ or_left e e' (x.empty o xs i j p.1 h) | inr p ↦ or_right e e' (y.empty o xs i j p.1 h) ];
     forget = λ o xs i j d. elim d [ inl p ↦ inl (p.0, x.forget o xs i j p.1) | inr p ↦ inr (p.0, y.forget o xs i j p.1) ];
-    closed = λ xs i j c d h. elim d [ inl p ↦ inl (p.0, x.closed xs i j c p.1 (lacks_left g g' c h)) | inr p ↦ inr (p.0, y.closed xs i j c p.1 (lacks_right g g' c h)) ] }
+    closed = λ xs i j c d h. elim d [ inl p ↦ inl (p.0, x.closed xs i j c p.1 (lacks_left g g' c h)) | inr p ↦ inr (p.0, y.closed xs i j c p.1 (lacks_right g g' c h)) ];
+  }
 
   pub good_must : (cs f g : List ℕ) (e : Bool) (X : Rel N) → Good t f e g X → Good t f true g (Must t cs X)
   good_must cs f g e X x = record {
@@ -122,7 +139,8 @@ module _ {K B N : Type 0} (t : Source K B N) where
     head = λ o xs i j d h. elim d [ inl p ↦ absurd (omega (arith, p.2, h)) | inr p ↦ x.head o xs i j p h ];
     empty = λ o xs i j d h. refl;
     forget = λ o xs i j d. elim d [ inl p ↦ inl p | inr p ↦ inr (x.forget o xs i j p) ];
-    closed = λ xs i j c d h. elim d [ inl p ↦ inl p | inr p ↦ inr (x.closed xs i j c p h) ] }
+    closed = λ xs i j c d h. elim d [ inl p ↦ inl p | inr p ↦ inr (x.closed xs i j c p h) ];
+  }
 
   pub good_opt : (f g : List ℕ) (e : Bool) (X : Rel N) → Good t f e g X → Good t f true (f ++ g) (Opt f X)
   good_opt f g e X x = record {
@@ -130,7 +148,8 @@ module _ {K B N : Type 0} (t : Source K B N) where
     head = λ o xs i j d h. elim d [ inl p ↦ absurd (omega (arith, p.1, h)) | inr p ↦ x.head o xs i j p h ];
     empty = λ o xs i j d h. refl;
     forget = λ o xs i j d. elim d [ inl p ↦ inl (p.0, p.1, record {}) | inr p ↦ inr (x.forget o xs i j p) ];
-    closed = λ xs i j c d h. elim d [ inl p ↦ inl (p.0, p.1, lacks_left f g c h) | inr p ↦ inr (x.closed xs i j c p (lacks_right f g c h)) ] }
+    closed = λ xs i j c d h. elim d [ inl p ↦ inl (p.0, p.1, lacks_left f g c h) | inr p ↦ inr (x.closed xs i j c p (lacks_right f g c h)) ];
+  }
 
   pub good_make : (b : ℕ → ℕ → List N → List N) (f g : List ℕ) (e : Bool) (X : Rel N) → Good t f e g X → Good t f e g (Make b X)
   good_make b f g e X x = record {
@@ -138,7 +157,8 @@ module _ {K B N : Type 0} (t : Source K B N) where
     head = λ o xs i j d h. x.head o d.0 i j d.1 h;
     empty = λ o xs i j d h. x.empty o d.0 i j d.1 h;
     forget = λ o xs i j d. (d.0, x.forget o d.0 i j d.1, d.2);
-    closed = λ xs i j c d h. (d.0, x.closed d.0 i j c d.1 h, d.2) }
+    closed = λ xs i j c d h. (d.0, x.closed d.0 i j c d.1 h, d.2);
+  }
 
   -- sets may be declared larger than they are
   pub good_within : (f f' g g' : List ℕ) (e e' : Bool) (X : Rel N) → Good t f e g X → Within f f' → Within g g' → (e ≡ true → e' ≡ true) → Good t f' e' g' X
@@ -147,7 +167,8 @@ module _ {K B N : Type 0} (t : Source K B N) where
     head = λ o xs i j d h. wf (t.cls i) (x.head o xs i j d h);
     empty = λ o xs i j d h. we (x.empty o xs i j d h);
     forget = x.forget;
-    closed = λ xs i j c d h. x.closed xs i j c d (outside (has g c) (wg c) h) }
+    closed = λ xs i j c d h. x.closed xs i j c d (outside (has g c) (wg c) h);
+  }
     where
       outside : (b : Bool) {b' : Bool} → (b ≡ true → b' ≡ true) → b' ≡ false → b ≡ false
       outside true w h = sym (w refl) ∙ h
@@ -164,19 +185,22 @@ module _ {K B N : Type 0} (t : Source K B N) where
       head = λ o xs i j d h. absurd (omega (arith, d.1, h));
       empty = λ o xs i j d h. refl;
       forget = λ o xs i j d. d;
-      closed = λ xs i j c d h. d }
+      closed = λ xs i j c d h. d;
+    }
     good_rule (mark cs) q A a k = record {
       order = λ o xs i j d. omega (arith, d.2);
       head = λ o xs i j d h. d.0;
       empty = λ o xs i j d h. absurd (omega (arith, d.2, h));
       forget = λ o xs i j d. d;
-      closed = λ xs i j c d h. d }
+      closed = λ xs i j c d h. d;
+    }
     good_rule (word w cs) q A a k = record {
       order = λ o xs i j d. omega (arith, d.2);
       head = λ o xs i j d h. d.0;
       empty = λ o xs i j d h. absurd (omega (arith, d.2, h));
       forget = λ o xs i j d. d;
-      closed = λ xs i j c d h. d }
+      closed = λ xs i j c d h. d;
+    }
     good_rule (ref l) q A a k = levels false l
     good_rule (deep l) q A a k = levels true l
     good_rule again q A a k = a

@@ -1,10 +1,10 @@
 -- What a level spells is derived.
-use Rattle.std.proofs.Common.{◌≡◌, ℕ, zero, suc, ◌+◌, ◌<◌, ◌≤◌, List, [], ◌∷◌, ◌++◌, refl, ap, arith, sym, ◌∙◌, inl, inr}
-use Rattle.std.specs.Prelude.{Bool, true, false, cond, ◌||◌, ◌&&◌, not, Option, Some, None, ◌⊎◌, eqb, ltb}
-use Rattle.grammar.specs.Rule.{Rule, done, mark, word, ref, deep, again, seq, around, alt, look, choose, opt, must, rep, make, has, Source, Table, Unlike, Loop, outside, within, Derives, d_done, d_mark, d_word, d_ref, d_deep, d_again, d_rep, d_seq, d_around, d_left, d_right, d_seen, d_unseen, d_chosen, d_unchosen, d_without, d_with, d_barred, d_taken, d_make}
-use Rattle.grammar.specs.Sets.{Sets, first}
+use Rattle.std.proofs.Common.{ℕ, zero, suc, List, arith, inl, inr}
+use Rattle.std.specs.Prelude.{Bool, true, false, Option, Some, None}
+use Rattle.grammar.specs.Rule.{Rule, done, mark, word, ref, deep, again, seq, around, alt, look, choose, opt, must, rep, make, Source, Table, Unlike, Loop, outside, within, Derives, d_done, d_mark, d_word, d_ref, d_deep, d_again, d_rep, d_seq, d_around, d_left, d_right, d_seen, d_unseen, d_chosen, d_unchosen, d_without, d_with, d_barred, d_taken, d_make}
+use Rattle.grammar.specs.Sets.{Sets}
 use Rattle.grammar.proofs.Facts.{ltb_less}
-use Rattle.grammar.proofs.Spelled.{Rel, Blocked, part, Other, rounds, Never, Spelled, Ladder, pick, Level}
+use Rattle.grammar.proofs.Spelled.{Rel, part, Other, rounds, Never, Spelled, Ladder, pick, Level}
 
 module _ {K B L N : Type 0} (t : Source K B N) (table : Table K B L) where
   unlike : (cs ds : List ℕ) (o : Option ℕ) (i j : ℕ) → Other t cs ds o i j → Unlike t.cls cs ds i j

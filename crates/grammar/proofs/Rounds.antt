@@ -1,5 +1,5 @@
 -- Rounds of a loop, for the readers of languages.
-use Rattle.std.proofs.Common.{◌≡◌, ℕ, zero, suc, ◌-◌, ◌<◌, List, [], ◌∷◌, ◌++◌, refl, arith}
+use Rattle.std.proofs.Common.{◌≡◌, ℕ, zero, suc, ◌-◌, ◌<◌, List, ◌++◌, refl, arith}
 use Rattle.std.specs.Prelude.{Option, Some, None}
 use Rattle.grammar.specs.Reader.{◌>>=◌, turns}
 

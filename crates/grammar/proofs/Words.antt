@@ -1,7 +1,7 @@
 -- The words that a table gives are spelled by its rules.
-use Rattle.std.proofs.Common.{◌≡◌, ℕ, zero, suc, ◌+◌, ◌<◌, ◌≤◌, List, [], ◌∷◌, ◌++◌, refl, ap, arith, sym, ◌∙◌, inl, inr}
-use Rattle.std.specs.Prelude.{Bool, true, false, cond, ◌||◌, ◌&&◌, not, Option, Some, None, is_some, ◌⊎◌, eqb, ltb}
-use Rattle.grammar.specs.Rule.{Rule, done, mark, word, ref, deep, again, seq, around, alt, look, choose, opt, must, rep, make, has, Source, Table, Unlike, Loop, outside, within, Derives, d_done, d_mark, d_word, d_ref, d_deep, d_again, d_rep, d_seq, d_around, d_left, d_right, d_seen, d_unseen, d_chosen, d_unchosen, d_without, d_with, d_barred, d_taken, d_make}
+use Rattle.std.proofs.Common.{◌≡◌, ℕ, zero, suc, List, [], ◌∷◌, ◌++◌, refl, sym, inl, inr}
+use Rattle.std.specs.Prelude.{Bool, true, cond, Option, Some, None, ◌⊎◌}
+use Rattle.grammar.specs.Rule.{Rule, done, mark, word, ref, deep, again, seq, around, alt, look, choose, opt, must, rep, make, has, Source, Table, Loop, outside, within, Derives, d_done, d_mark, d_word, d_ref, d_deep, d_again, d_rep, d_seq, d_around, d_left, d_right, d_seen, d_unseen, d_without, d_with, d_taken, d_make}
 use Rattle.grammar.specs.Reader.{◌>>=◌}
 use Rattle.grammar.specs.Check.{or_else, some_word, some_level, hollow, hollow_level, begun, begun_level}
 use Rattle.grammar.proofs.Facts.{true_false, and_both, or_either, bind_some, chosen, none_some, no_some, has_head}
@@ -39,7 +39,7 @@ module _ {K B L : Type 0} (N : Type 0) (table : Table K B L) where
   some_sound V v (ref l) a c g w h u i e m = let x : _ = v l w h u i e m in (x.0, d_ref x.1)
   some_sound V v (deep l) a c g w h u i e m = let x : _ = v l w h u i e m in (x.0, d_deep x.1)
   some_sound V v again a c g w h u i e m = g w h u i e m
-  some_sound V v (seq r s) a c g w h u i e m = 
+  some_sound V v (seq r s) a c g w h u i e m =
       let p : _ = bind_some (some_word V a r) (λ v'. some_word V a s >>= λ w'. Some (v' ++ w')) w h in
       let q : _ = bind_some (some_word V a s) (λ w'. Some (p.0 ++ w')) w p.2 in
       let n : _ = split u i p.0 q.0 e (rematch u i (p.0 ++ q.0) w e q.2 m) in
@@ -48,18 +48,19 @@ module _ {K B L : Type 0} (N : Type 0) (table : Table K B L) where
       (x.0 ++ y.0, d_seq n.0 x.0 y.0 x.1 y.1 refl)
   some_sound V v (around [] ds r) a c g w h u i e m = absurd (none_some w h)
   some_sound V v (around (x ∷ cs) [] r) a c g w h u i e m = absurd (none_some w h)
-  some_sound V v (around (x ∷ cs) (y ∷ ds) r) a c g w h u i e m = 
+  some_sound V v (around (x ∷ cs) (y ∷ ds) r) a c g w h u i e m =
       let p : _ = bind_some (some_word V a r) (λ v'. Some (x ∷ (v' ++ (y ∷ [])))) w h in
       let m' : Match u i (x ∷ (p.0 ++ (y ∷ []))) e = rematch u i (x ∷ (p.0 ++ (y ∷ []))) w e p.2 m in
       let n : _ = split u (suc i) p.0 (y ∷ []) e m'.1 in
       let z : _ = some_sound V v r a c g p.0 p.1 u (suc i) n.0 n.1 in
       (z.0, d_around n.0 (has_head x cs (u.cls i) m'.0) z.1 (has_head y ds (u.cls n.0) n.2.0) (sym n.2.1))
   some_sound V v (alt r s) a c g w h u i e m = elim (or_cases (some_word V a r) (some_word V a s) w h) [
-        inl p ↦ let x : _ = some_sound V v r a c g w p u i e m in (x.0, d_left x.1)
-      | inr p ↦ let x : _ = some_sound V v s a c g w p u i e m in (x.0, d_right x.1) ]
+    | inl p ↦ let x : _ = some_sound V v r a c g w p u i e m in (x.0, d_left x.1)
+    | inr p ↦ let x : _ = some_sound V v s a c g w p u i e m in (x.0, d_right x.1)
+  ]
   some_sound V v (look k [] ds b r s) a c g w h u i e m = absurd (none_some w h)
   some_sound V v (look k (x ∷ cs) [] b r s) a c g w h u i e m = absurd (none_some w h)
-  some_sound V v (look k (x ∷ cs) (y ∷ ds) b r s) a c g w h u i e m = 
+  some_sound V v (look k (x ∷ cs) (y ∷ ds) b r s) a c g w h u i e m =
       let p : _ = bind_some (some_word V a r) (λ v'. Some (x ∷ (y ∷ v'))) w h in
       let m' : Match u i (x ∷ (y ∷ p.0)) e = rematch u i (x ∷ (y ∷ p.0)) w e p.2 m in
       let z : _ = some_sound V v r a c g p.0 p.1 u (suc (suc i)) e m'.1.1 in
@@ -89,8 +90,9 @@ module _ {K B L : Type 0} (N : Type 0) (table : Table K B L) where
       (x.0 ++ y.0, d_seq i x.0 y.0 x.1 y.1 refl)
   hollow_sound E v (around cs ds r) c h u i = cc
   hollow_sound E v (alt r s) c h u i = elim (or_either (hollow E r) (hollow E s) h) [
-        inl p ↦ let x : _ = hollow_sound E v r c p u i in (x.0, d_left x.1)
-      | inr p ↦ let x : _ = hollow_sound E v s c p u i in (x.0, d_right x.1) ]
+    | inl p ↦ let x : _ = hollow_sound E v r c p u i in (x.0, d_left x.1)
+    | inr p ↦ let x : _ = hollow_sound E v s c p u i in (x.0, d_right x.1)
+  ]
   hollow_sound E v (look k cs ds b r s) c h u i = cc
   hollow_sound E v (choose p r s) c h u i = cc
   hollow_sound E v (must cs r) c h u i = cc
@@ -99,51 +101,58 @@ module _ {K B L : Type 0} (N : Type 0) (table : Table K B L) where
   hollow_sound E v (make b r) c h u i = let x : _ = hollow_sound E v r c h u i in (u.build b i i x.0, d_make x.0 x.1 refl)
 
   pub begun_sound : (V : L → Option (List ℕ)) (W : L → ℕ → Option (List ℕ)) (E : L → Bool) → ((l : L) (w : List ℕ) → V l ≡ Some w → WordOf N table outside (table l) w) → ((l : L) (x : ℕ) (w : List ℕ) → W l x ≡ Some w → WordOf N table outside (table l) (x ∷ w)) → ((l : L) → E l ≡ true → Empty outside (table l))
-    → (r : Rule K B L) (a : Option (List ℕ)) (c : Loop K B L) → ((w : List ℕ) → a ≡ Some w → WordOf N table c again w) → (x : ℕ) (w : List ℕ) → begun V W E a r x ≡ Some w → WordOf N table c r (x ∷ w)
+      → (r : Rule K B L) (a : Option (List ℕ)) (c : Loop K B L) → ((w : List ℕ) → a ≡ Some w → WordOf N table c again w) → (x : ℕ) (w : List ℕ) → begun V W E a r x ≡ Some w → WordOf N table c r (x ∷ w)
   unfolding WordOf Empty
   begun_sound V W E v b e' done a c g x w h u i e m = absurd (none_some w h)
   begun_sound V W E v b e' (mark cs) a c g x w h u i e m = elim (chosen (has cs x) (Some []) None (Some w) h) [
-        inl p ↦ let n : Match u (suc i) [] e = rematch u (suc i) [] w e p.1 m.1 in ([], d_mark (rw m.0 p.0) refl (sym n))
-      | inr p ↦ absurd (none_some w p.1) ]
+    | inl p ↦ let n : Match u (suc i) [] e = rematch u (suc i) [] w e p.1 m.1 in ([], d_mark (rw m.0 p.0) refl (sym n))
+    | inr p ↦ absurd (none_some w p.1)
+  ]
   begun_sound V W E v b e' (word k cs) a c g x w h u i e m = elim (chosen (has cs x) (Some []) None (Some w) h) [
-        inl p ↦ let n : Match u (suc i) [] e = rematch u (suc i) [] w e p.1 m.1 in (u.leaf k i ∷ [], d_word (rw m.0 p.0) refl (sym n))
-      | inr p ↦ absurd (none_some w p.1) ]
+    | inl p ↦ let n : Match u (suc i) [] e = rematch u (suc i) [] w e p.1 m.1 in (u.leaf k i ∷ [], d_word (rw m.0 p.0) refl (sym n))
+    | inr p ↦ absurd (none_some w p.1)
+  ]
   begun_sound V W E v b e' (ref l) a c g x w h u i e m = let y : _ = b l x w h u i e m in (y.0, d_ref y.1)
   begun_sound V W E v b e' (deep l) a c g x w h u i e m = let y : _ = b l x w h u i e m in (y.0, d_deep y.1)
   begun_sound V W E v b e' again a c g x w h u i e m = absurd (none_some w h)
   begun_sound V W E v b e' (seq r s) a c g x w h u i e m = elim (or_cases (begun V W E a r x >>= λ v'. some_word V a s >>= λ w'. Some (v' ++ w')) (cond (hollow E r) (begun V W E a s x) None) w h) [
-        inl o ↦
-          let p : _ = bind_some (begun V W E a r x) (λ v'. some_word V a s >>= λ w'. Some (v' ++ w')) w o in
-          let q : _ = bind_some (some_word V a s) (λ w'. Some (p.0 ++ w')) w p.2 in
-          let n : _ = split u (suc i) p.0 q.0 e (rematch u (suc i) (p.0 ++ q.0) w e q.2 m.1) in
-          let y : _ = begun_sound V W E v b e' r a c g x p.0 p.1 u i n.0 (m.0, n.1) in
-          let z : _ = some_sound N table V v s a c g q.0 q.1 u n.0 e n.2 in
-          (y.0 ++ z.0, d_seq n.0 y.0 z.0 y.1 z.1 refl)
-      | inr o ↦ elim (chosen (hollow E r) (begun V W E a s x) None (Some w) o) [
-            inl p ↦
-              let y : _ = hollow_sound E e' r c p.0 u i in
-              let z : _ = begun_sound V W E v b e' s a c g x w p.1 u i e m in
-              (y.0 ++ z.0, d_seq i y.0 z.0 y.1 z.1 refl)
-          | inr p ↦ absurd (none_some w p.1) ] ]
+    | inl o ↦
+        let p : _ = bind_some (begun V W E a r x) (λ v'. some_word V a s >>= λ w'. Some (v' ++ w')) w o in
+        let q : _ = bind_some (some_word V a s) (λ w'. Some (p.0 ++ w')) w p.2 in
+        let n : _ = split u (suc i) p.0 q.0 e (rematch u (suc i) (p.0 ++ q.0) w e q.2 m.1) in
+        let y : _ = begun_sound V W E v b e' r a c g x p.0 p.1 u i n.0 (m.0, n.1) in
+        let z : _ = some_sound N table V v s a c g q.0 q.1 u n.0 e n.2 in
+        (y.0 ++ z.0, d_seq n.0 y.0 z.0 y.1 z.1 refl)
+    | inr o ↦ elim (chosen (hollow E r) (begun V W E a s x) None (Some w) o) [
+      | inl p ↦
+          let y : _ = hollow_sound E e' r c p.0 u i in
+          let z : _ = begun_sound V W E v b e' s a c g x w p.1 u i e m in
+          (y.0 ++ z.0, d_seq i y.0 z.0 y.1 z.1 refl)
+      | inr p ↦ absurd (none_some w p.1)
+    ]
+  ]
   begun_sound V W E v b e' (around cs [] r) a c g x w h u i e m = absurd (none_some w h)
   begun_sound V W E v b e' (around cs (d ∷ ds) r) a c g x w h u i e m = elim (chosen (has cs x) (some_word V a r >>= λ v'. Some (v' ++ (d ∷ []))) None (Some w) h) [
-        inl o ↦
-          let p : _ = bind_some (some_word V a r) (λ v'. Some (v' ++ (d ∷ []))) w o.1 in
-          let n : _ = split u (suc i) p.0 (d ∷ []) e (rematch u (suc i) (p.0 ++ (d ∷ [])) w e p.2 m.1) in
-          let z : _ = some_sound N table V v r a c g p.0 p.1 u (suc i) n.0 n.1 in
-          (z.0, d_around n.0 (rw m.0 o.0) z.1 (has_head d ds (u.cls n.0) n.2.0) (sym n.2.1))
-      | inr o ↦ absurd (none_some w o.1) ]
+    | inl o ↦
+        let p : _ = bind_some (some_word V a r) (λ v'. Some (v' ++ (d ∷ []))) w o.1 in
+        let n : _ = split u (suc i) p.0 (d ∷ []) e (rematch u (suc i) (p.0 ++ (d ∷ [])) w e p.2 m.1) in
+        let z : _ = some_sound N table V v r a c g p.0 p.1 u (suc i) n.0 n.1 in
+        (z.0, d_around n.0 (rw m.0 o.0) z.1 (has_head d ds (u.cls n.0) n.2.0) (sym n.2.1))
+    | inr o ↦ absurd (none_some w o.1)
+  ]
   begun_sound V W E v b e' (alt r s) a c g x w h u i e m = elim (or_cases (begun V W E a r x) (begun V W E a s x) w h) [
-        inl p ↦ let y : _ = begun_sound V W E v b e' r a c g x w p u i e m in (y.0, d_left y.1)
-      | inr p ↦ let y : _ = begun_sound V W E v b e' s a c g x w p u i e m in (y.0, d_right y.1) ]
+    | inl p ↦ let y : _ = begun_sound V W E v b e' r a c g x w p u i e m in (y.0, d_left y.1)
+    | inr p ↦ let y : _ = begun_sound V W E v b e' s a c g x w p u i e m in (y.0, d_right y.1)
+  ]
   begun_sound V W E v b e' (look k cs [] b' r s) a c g x w h u i e m = absurd (none_some w h)
   begun_sound V W E v b e' (look k cs (d ∷ ds) b' r s) a c g x w h u i e m = elim (chosen (has cs x) (some_word V a r >>= λ v'. Some (d ∷ v')) (begun V W E a s x) (Some w) h) [
-        inl o ↦
-          let p : _ = bind_some (some_word V a r) (λ v'. Some (d ∷ v')) w o.1 in
-          let n : Match u (suc i) (d ∷ p.0) e = rematch u (suc i) (d ∷ p.0) w e p.2 m.1 in
-          let z : _ = some_sound N table V v r a c g p.0 p.1 u (suc (suc i)) e n.1 in
-          (u.build b' i e (u.leaf k i ∷ z.0), d_seen z.0 (rw m.0 o.0) (has_head d ds (u.cls (suc i)) n.0) z.1 refl)
-      | inr o ↦ let y : _ = begun_sound V W E v b e' s a c g x w o.1 u i e m in (y.0, d_unseen (λ is lt. true_false (has cs (u.cls i)) is (rw m.0 o.0)) y.1) ]
+    | inl o ↦
+        let p : _ = bind_some (some_word V a r) (λ v'. Some (d ∷ v')) w o.1 in
+        let n : Match u (suc i) (d ∷ p.0) e = rematch u (suc i) (d ∷ p.0) w e p.2 m.1 in
+        let z : _ = some_sound N table V v r a c g p.0 p.1 u (suc (suc i)) e n.1 in
+        (u.build b' i e (u.leaf k i ∷ z.0), d_seen z.0 (rw m.0 o.0) (has_head d ds (u.cls (suc i)) n.0) z.1 refl)
+    | inr o ↦ let y : _ = begun_sound V W E v b e' s a c g x w o.1 u i e m in (y.0, d_unseen (λ is lt. true_false (has cs (u.cls i)) is (rw m.0 o.0)) y.1)
+  ]
   begun_sound V W E v b e' (choose p r s) a c g x w h u i e m = absurd (none_some w h)
   begun_sound V W E v b e' (must cs r) a c g x w h u i e m = let y : _ = begun_sound V W E v b e' r a c g x w h u i e m in (y.0, d_taken y.1)
   begun_sound V W E v b e' (opt r) a c g x w h u i e m = let y : _ = begun_sound V W E v b e' r a c g x w h u i e m in (y.0, d_with y.1)

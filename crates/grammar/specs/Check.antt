@@ -1,5 +1,5 @@
 -- The check of a table, which computes: one token in hand tells wherever a part ends and another begins.
-use Rattle.std.specs.Prelude.{ℕ, zero, suc, Bool, true, false, cond, ◌||◌, ◌&&◌, not, List, [], ◌∷◌, ◌++◌, Option, Some, None, is_some, ltb}
+use Rattle.std.specs.Prelude.{ℕ, zero, suc, Bool, true, false, cond, ◌||◌, ◌&&◌, not, List, [], ◌∷◌, ◌++◌, Option, Some, None, ltb}
 use Rattle.grammar.specs.Rule.{Rule, done, mark, word, ref, deep, again, seq, around, alt, look, choose, opt, must, rep, make, has, Table, Grammar}
 use Rattle.grammar.specs.Sets.{Sets, nul, first, more}
 use Rattle.grammar.specs.Reader.{◌>>=◌}

@@ -1,5 +1,5 @@
 -- Grammars as data, and what a run of tokens is spelled by.
-use Rattle.std.specs.Prelude.{◌≡◌, ℕ, zero, suc, pred, ◌+◌, ◌<◌, ◌≤◌, Bool, true, false, cond, ◌||◌, List, [], ◌∷◌, ◌++◌, eqb, ltb}
+use Rattle.std.specs.Prelude.{◌≡◌, ℕ, zero, suc, pred, ◌<◌, ◌≤◌, Bool, true, false, cond, ◌||◌, List, [], ◌∷◌, ◌++◌, eqb, ltb}
 
 -- A rule over classes of tokens, which are numbers, with names for kinds of leaf (K), builders of nodes (B) and levels (L).
 pub data Rule (K B L : Type 0) : Type 0 where

@@ -1,5 +1,5 @@
 -- What begins a rule, what can go on after it, and whether it can be empty.
-use Rattle.std.specs.Prelude.{ℕ, Bool, true, false, cond, ◌||◌, ◌&&◌, List, [], ◌∷◌, ◌++◌, Option, Some, None}
+use Rattle.std.specs.Prelude.{ℕ, Bool, true, false, cond, ◌||◌, ◌&&◌, List, [], ◌++◌, Option, Some, None}
 use Rattle.grammar.specs.Rule.{Rule, done, mark, word, ref, deep, again, seq, around, alt, look, choose, opt, must, rep, make}
 
 -- What is declared of each level, and of each loop: the classes that begin it, those that can go on after it, and whether it can be empty.

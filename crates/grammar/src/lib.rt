@@ -2,3 +2,5 @@
 #![tactic(auto)]
 
 pub mod example;
+#[cfg(test)]
+mod tests;

@@ -1,12 +1,12 @@
 -- How deep what a builder makes is.
-use Rattle.std.proofs.Common.{◌≡◌, ℕ, zero, suc, ◌+◌, ◌<◌, ◌≤◌, List, [], ◌∷◌, ◌++◌, refl, arith}
-use Rattle.std.specs.Prelude.{Bool, true, false, max}
+use Rattle.std.proofs.Common.{◌≡◌, ℕ, ◌<◌, ◌≤◌, List, [], ◌∷◌, ◌++◌, refl, arith}
+use Rattle.std.specs.Prelude.{true, false, max}
 use Rattle.grammar.specs.declared.example.token.Token.{Token}
 use Rattle.grammar.specs.declared.example.node.Kind.{Kind}
 use Rattle.grammar.specs.declared.example.node.Kind.TheVariants as k
 use Rattle.grammar.specs.Rule.{Deepens}
 use Rattle.grammar.specs.sums.Token.{token_at, end_of}
-use Rattle.grammar.specs.sums.Tree.{Tree, node, Trees, no_trees, more_trees, trees, depth, depths, depth_all}
+use Rattle.grammar.specs.sums.Tree.{Tree, node, depth, depth_all}
 use Rattle.grammar.specs.sums.Table.{Builder, Group, Several, Left, Operation, Negation, Arguments, Named, strong}
 use Rattle.grammar.specs.sums.Build.{plain, grafted, graft_all, left, group, build, source}
 use Rattle.grammar.proofs.Facts.{true_false}

@@ -1,5 +1,5 @@
 -- The table of sums passes the checks.
-use Rattle.std.specs.Prelude.{◌≡◌, ℕ, Bool, true}
+use Rattle.std.specs.Prelude.{◌≡◌, true}
 use Rattle.std.proofs.Common.{refl}
 use Rattle.grammar.specs.Check.{passes, closes_runs}
 use Rattle.grammar.specs.sums.Token.{class}

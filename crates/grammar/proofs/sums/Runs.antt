@@ -1,8 +1,8 @@
 -- What is read of exprs is the closed run, and the closed run is what is read.
-use Rattle.std.proofs.Common.{◌≡◌, ℕ, zero, suc, pred, ◌+◌, ◌<◌, ◌≤◌, List, [], ◌∷◌, length, refl, ap, arith, sym, ◌∙◌, inl, inr, add-one, Option, Some}
-use Rattle.std.specs.Prelude.{Bool, true, false, cond, leb, ltb, ◌⊎◌}
+use Rattle.std.proofs.Common.{◌≡◌, ℕ, suc, ◌+◌, ◌<◌, ◌≤◌, List, [], ◌∷◌, length, refl, arith, sym, ◌∙◌, inl, inr, add-one, Some}
+use Rattle.std.specs.Prelude.{Bool, true, false, leb, ◌⊎◌}
 use Rattle.grammar.specs.declared.example.token.Token.{Token}
-use Rattle.grammar.specs.Rule.{open_at, behind, brackets_round, smaller}
+use Rattle.grammar.specs.Rule.{open_at, behind, smaller}
 use Rattle.grammar.specs.sums.Token.{class, token_at}
 use Rattle.grammar.specs.sums.Tree.{Tree, depth, depth_all}
 use Rattle.grammar.specs.sums.Table.{Exprs, grammar}
@@ -20,7 +20,8 @@ pub read_is_run : (ts : List Token) (i : ℕ) (t : Tree) (j : ℕ) → level ts 
 unfolding level round_at
 read_is_run ts i t j h within shallow few = record {
   within = within;
-  run = read_run grammar sets ranks pass depth_all (source ts) (deepens ts) (suc (length ts)) of_pattern 12 close 1002 Exprs (t ∷ []) i j refl h (omega (arith, shallow)) few }
+  run = read_run grammar sets ranks pass depth_all (source ts) (deepens ts) (suc (length ts)) of_pattern 12 close 1002 Exprs (t ∷ []) i j refl h (omega (arith, shallow)) few;
+}
 
 -- each closed run of a pattern is read
 pub run_is_read : (ts : List Token) (i : ℕ) (t : Tree) (j : ℕ) → IsExprs of_pattern ts i t j → level ts 1002 Exprs i ≡ Some (t ∷ [], j)

@@ -1,10 +1,9 @@
 -- The reader of a level, one step.
-use Rattle.std.proofs.Common.{◌≡◌, ℕ, zero, suc, ◌-◌, ◌<◌, List, [], ◌∷◌, ◌++◌, length, refl, ap, ◌∙◌, arith, Option, Some, None, cond}
+use Rattle.std.proofs.Common.{◌≡◌, ℕ, zero, suc, ◌-◌, ◌<◌, List, [], ◌++◌, length, refl, ap, ◌∙◌, Option, Some, None, cond}
 use Rattle.std.specs.Prelude.{Bool}
 use Rattle.grammar.specs.declared.example.token.Token.{Token}
-use Rattle.grammar.specs.declared.example.token.Word.TheVariants as w
-use Rattle.grammar.specs.Rule.{Rule, has}
-use Rattle.grammar.specs.Reader.{read, read_level, choice, turns, ◌>>=◌}
+use Rattle.grammar.specs.Rule.{has}
+use Rattle.grammar.specs.Reader.{read, choice, turns, ◌>>=◌}
 use Rattle.grammar.specs.sums.Token.{class, token_at}
 use Rattle.grammar.specs.sums.Tree.{Tree}
 use Rattle.grammar.specs.sums.Table.{Level, Exprs, Inside, Sums, Sum, Term, Unary, Call, Args, Arg, Atom, Paren, SumsTail, SumTail, TermTail, CallTail, ArgsTail, table, grammar, sums_round, sum_round, term_round, call_round, args_round, Row}
@@ -161,4 +160,3 @@ args_zero ts room i h = level_zero ts room Args i h
 pub args_step : (ts : List Token) (room i : ℕ) → zero < room → level ts room Args i ≡ cond (has (sets.first Arg) (class (token_at ts i).word)) (◌>>=◌ {B = List Tree × ℕ} (level ts room Arg i) (λ x. ◌>>=◌ {B = List Tree × ℕ} (args_rest ts room (suc (length ts)) x.1) (λ y. Some (x.0 ++ y.0, y.1)))) (Some ([], i))
 unfolding args_rest
 args_step ts room i h = level_row ts room Args i h
-

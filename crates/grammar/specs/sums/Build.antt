@@ -5,7 +5,7 @@ use Rattle.grammar.specs.declared.example.node.Kind.{Kind}
 use Rattle.grammar.specs.declared.example.node.Kind.TheVariants as k
 use Rattle.grammar.specs.Rule.{Source}
 use Rattle.grammar.specs.sums.Token.{class, token_at, end_of}
-use Rattle.grammar.specs.sums.Tree.{Tree, node, Trees, more_trees, trees}
+use Rattle.grammar.specs.sums.Tree.{Tree, node, more_trees, trees}
 use Rattle.grammar.specs.sums.Table.{Builder, Group, Several, Left, Operation, Negation, Arguments, Named}
 
 abbrev pub plain : Kind → ℕ → ℕ → ℕ → List Tree → List Tree
@@ -50,4 +50,5 @@ abbrev pub source : List Token → Source Kind Builder Tree
 source ts = record {
   cls = λ i. class (token_at ts i).word;
   leaf = λ kind i. node kind (token_at ts i).text (token_at ts i).from (token_at ts i).to (trees []);
-  build = build ts }
+  build = build ts;
+}

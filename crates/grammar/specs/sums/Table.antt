@@ -1,5 +1,5 @@
 -- The grammar of sums, as a table: a row of a level for each line of the grammar.
-use Rattle.std.specs.Prelude.{ℕ, Bool, true, false, List, [], ◌∷◌}
+use Rattle.std.specs.Prelude.{Bool, true, false, [], ◌∷◌}
 use Rattle.grammar.specs.declared.example.token.Word.{Word}
 use Rattle.grammar.specs.declared.example.token.Word.TheVariants as w
 use Rattle.grammar.specs.declared.example.node.Kind.{Kind}

@@ -1,5 +1,5 @@
 -- The tokens of the example, and their classes.
-use Rattle.std.specs.Prelude.{ℕ, zero, ◌-◌, List, get_or}
+use Rattle.std.specs.Prelude.{ℕ, ◌-◌, List, get_or}
 use Rattle.grammar.specs.declared.example.token.Word.{Word}
 use Rattle.grammar.specs.declared.example.token.Word.TheVariants.{End, Name, Number, OpenRound, CloseRound, Comma, Equal, Plus, Minus, Times, Hole}
 use Rattle.grammar.specs.declared.example.token.Token.{Token}

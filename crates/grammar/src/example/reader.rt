@@ -10,10 +10,9 @@ ghost use Rattle.grammar.specs.sums.Table.{Exprs, Inside, Sums, Sum, Term, Unary
 ghost use Rattle.grammar.specs.sums.Sets.{sets};
 ghost use Rattle.grammar.specs.sums.Reading.{level, Gives, GivesAll, GivesInside, Grouped};
 
-use std::alloc::{AllocError, AllocFailed, Global};
-
 use crate::example::node::{Kind, Node};
 use crate::example::token::{Token, Word};
+use std::alloc::{AllocError, AllocFailed, Global};
 
 /// Why no tree was read.
 #[derive(Clone, Copy, PartialEq, Eq, Debug)]
@@ -26,6 +25,7 @@ pub enum ReadFault {
 
 impl From<AllocError> for ReadFault {
     ghost from_gives = { λ _ e. e ≡ Memory };
+
     fn from(_fault: AllocError) -> ReadFault {
         ReadFault::Memory
     }
@@ -33,6 +33,7 @@ impl From<AllocError> for ReadFault {
 
 impl<T: Drop> From<AllocFailed<T>> for ReadFault {
     ghost from_gives = { λ _ e. e ≡ Memory };
+
     fn from(_fault: AllocFailed<T>) -> ReadFault {
         ReadFault::Memory
     }
@@ -50,7 +51,13 @@ pub enum Inner {
 fn make(kind: Kind, text: u32, from: u32, to: u32, kids: Vec<Node>) -> Node
     ensures { view result ≡ node kind text from to (trees (views kids.items)) }
 {
-    Node { kind, text, from, to, kids }
+    Node {
+        kind,
+        text,
+        from,
+        to,
+        kids,
+    }
 }
 
 /// The word that stands there, or the end.
@@ -87,7 +94,10 @@ fn starts_sum(tokens: &[Token], at: usize) -> bool
     ensures test { result ≡ has (sets.first Sum) (class (token_at tokens.now at).word) }
     ensures within { result ≡ true → at < length tokens.now }
 {
-    matches!(word_at(tokens, at), Word::Minus | Word::OpenRound | Word::Name | Word::Number | Word::Hole)
+    matches!(
+        word_at(tokens, at),
+        Word::Minus | Word::OpenRound | Word::Name | Word::Number | Word::Hole
+    )
 }
 
 /// Where the token there begins.
@@ -132,7 +142,13 @@ fn end_before(tokens: &[Token], at: usize) -> u32
 fn leaf(alloc: Global, kind: Kind, tokens: &[Token], at: usize) -> Node
     ensures { view result ≡ node kind (token_at tokens.now at).text (token_at tokens.now at).from (token_at tokens.now at).to (trees []) }
 {
-    Node { kind, text: text_at(tokens, at), from: start_at(tokens, at), to: end_at(tokens, at), kids: Vec::new(alloc) }
+    Node {
+        kind,
+        text: text_at(tokens, at),
+        from: start_at(tokens, at),
+        to: end_at(tokens, at),
+        kids: Vec::new(alloc),
+    }
 }
 
 /// One node as it is, or a tuple of several, with this span.
@@ -148,7 +164,12 @@ fn grouped(from: u32, to: u32, inner: Inner) -> Node
 
 /// Sums with commas: `sum {"," sum} [","]`, a sum itself where there is one without comma.
 #[tactic(auto, using(crate::proofs::sums::Steps::exprs_step, crate::proofs::sums::Steps::exprs_zero))]
-pub fn exprs(alloc: Global, tokens: &[Token], room: u32, at: usize) -> Result<(Node, usize), ReadFault>
+pub fn exprs(
+    alloc: Global,
+    tokens: &[Token],
+    room: u32,
+    at: usize,
+) -> Result<(Node, usize), ReadFault>
     requires { at ≤ length tokens.now }
     ensures within { IfOk result (λ x. x.1 ≤ length tokens.now) }
     ensures gives { Gives result (level tokens.now room Exprs at) }
@@ -157,13 +178,21 @@ pub fn exprs(alloc: Global, tokens: &[Token], room: u32, at: usize) -> Result<(N
         return Err(ReadFault::NoTree);
     }
     let (inner, end) = inside(alloc, tokens, room, at)?;
-    Ok((grouped(start_at(tokens, at), end_before(tokens, end), inner), end))
+    Ok((
+        grouped(start_at(tokens, at), end_before(tokens, end), inner),
+        end,
+    ))
 }
 
 /// What stands in parentheses.
 #[cycle(reader)]
 #[tactic(auto, using(crate::proofs::sums::Steps::inside_step, crate::proofs::sums::Steps::inside_zero))]
-fn inside(alloc: Global, tokens: &[Token], room: u32, at: usize) -> Result<(Inner, usize), ReadFault>
+fn inside(
+    alloc: Global,
+    tokens: &[Token],
+    room: u32,
+    at: usize,
+) -> Result<(Inner, usize), ReadFault>
     requires { at ≤ length tokens.now }
     ensures within { IfOk result (λ x. x.1 ≤ length tokens.now) }
     ensures gives { GivesInside result (level tokens.now room Inside at) }
@@ -183,7 +212,12 @@ fn inside(alloc: Global, tokens: &[Token], room: u32, at: usize) -> Result<(Inne
 /// `[sum {"," sum} [","]]`
 #[cycle(reader)]
 #[tactic(auto, using(crate::proofs::sums::Steps::sums_step, crate::proofs::sums::Steps::sums_zero, crate::proofs::sums::Steps::sums_turn, crate::proofs::sums::Steps::sums_turned, crate::proofs::sums::Views::list_laws))]
-fn sums(alloc: Global, tokens: &[Token], room: u32, at: usize) -> Result<(Vec<Node>, usize), ReadFault>
+fn sums(
+    alloc: Global,
+    tokens: &[Token],
+    room: u32,
+    at: usize,
+) -> Result<(Vec<Node>, usize), ReadFault>
     requires { at ≤ length tokens.now }
     ensures within { IfOk result (λ x. x.1 ≤ length tokens.now) }
     ensures gives { GivesAll result (level tokens.now room Sums at) }
@@ -228,7 +262,13 @@ fn sum(alloc: Global, tokens: &[Token], room: u32, at: usize) -> Result<(Node, u
         }
         let (right, next) = term(alloc, tokens, room, end + 1)?;
         let kids = vec![in alloc; node, right]?;
-        node = make(Kind::Binary, text_at(tokens, end), start_at(tokens, at), end_before(tokens, next), kids);
+        node = make(
+            Kind::Binary,
+            text_at(tokens, end),
+            start_at(tokens, at),
+            end_before(tokens, next),
+            kids,
+        );
         end = next;
     }
     Err(ReadFault::NoTree)
@@ -252,7 +292,13 @@ fn term(alloc: Global, tokens: &[Token], room: u32, at: usize) -> Result<(Node, 
         }
         let (right, next) = unary(alloc, tokens, room, end + 1)?;
         let kids = vec![in alloc; node, right]?;
-        node = make(Kind::Binary, text_at(tokens, end), start_at(tokens, at), end_before(tokens, next), kids);
+        node = make(
+            Kind::Binary,
+            text_at(tokens, end),
+            start_at(tokens, at),
+            end_before(tokens, next),
+            kids,
+        );
         end = next;
     }
     Err(ReadFault::NoTree)
@@ -272,7 +318,16 @@ fn unary(alloc: Global, tokens: &[Token], room: u32, at: usize) -> Result<(Node,
     if is(tokens, at, Word::Minus) {
         let (kid, end) = unary(alloc, tokens, room - 1, at + 1)?;
         let kids = vec![in alloc; kid]?;
-        return Ok((make(Kind::Negative, 0, start_at(tokens, at), end_before(tokens, end), kids), end));
+        return Ok((
+            make(
+                Kind::Negative,
+                0,
+                start_at(tokens, at),
+                end_before(tokens, end),
+                kids,
+            ),
+            end,
+        ));
     }
     call(alloc, tokens, room, at)
 }
@@ -298,7 +353,13 @@ fn call(alloc: Global, tokens: &[Token], room: u32, at: usize) -> Result<(Node, 
             return Err(ReadFault::NoTree);
         }
         kids.insert(0, node)?;
-        node = make(Kind::Call, 0, start_at(tokens, at), end_before(tokens, close + 1), kids);
+        node = make(
+            Kind::Call,
+            0,
+            start_at(tokens, at),
+            end_before(tokens, close + 1),
+            kids,
+        );
         end = close + 1;
     }
     Err(ReadFault::NoTree)
@@ -307,7 +368,12 @@ fn call(alloc: Global, tokens: &[Token], room: u32, at: usize) -> Result<(Node, 
 /// `[arg {"," arg} [","]]`
 #[cycle(reader)]
 #[tactic(auto, using(crate::proofs::sums::Steps::args_step, crate::proofs::sums::Steps::args_zero, crate::proofs::sums::Steps::args_turn, crate::proofs::sums::Steps::args_turned, crate::proofs::sums::Views::list_laws))]
-fn args(alloc: Global, tokens: &[Token], room: u32, at: usize) -> Result<(Vec<Node>, usize), ReadFault>
+fn args(
+    alloc: Global,
+    tokens: &[Token],
+    room: u32,
+    at: usize,
+) -> Result<(Vec<Node>, usize), ReadFault>
     requires { at ≤ length tokens.now }
     ensures within { IfOk result (λ x. x.1 ≤ length tokens.now) }
     ensures gives { GivesAll result (level tokens.now room Args at) }
@@ -350,7 +416,16 @@ fn arg(alloc: Global, tokens: &[Token], room: u32, at: usize) -> Result<(Node, u
             let name = leaf(alloc, Kind::Name, tokens, at);
             let (value, end) = sum(alloc, tokens, room, at + 2)?;
             let kids = vec![in alloc; name, value]?;
-            return Ok((make(Kind::Keyword, 0, start_at(tokens, at), end_before(tokens, end), kids), end));
+            return Ok((
+                make(
+                    Kind::Keyword,
+                    0,
+                    start_at(tokens, at),
+                    end_before(tokens, end),
+                    kids,
+                ),
+                end,
+            ));
         }
     }
     sum(alloc, tokens, room, at)
@@ -398,11 +473,23 @@ fn paren(alloc: Global, tokens: &[Token], room: u32, at: usize) -> Result<(Node,
             return Err(ReadFault::NoTree);
         }
         let empty = Vec::new(alloc);
-        return Ok((make(Kind::Tuple, 0, start_at(tokens, at), end_at(tokens, at + 1), empty), at + 2));
+        return Ok((
+            make(
+                Kind::Tuple,
+                0,
+                start_at(tokens, at),
+                end_at(tokens, at + 1),
+                empty,
+            ),
+            at + 2,
+        ));
     }
     let (inner, close) = inside(alloc, tokens, room - 1, at + 1)?;
     if !is(tokens, close, Word::CloseRound) {
         return Err(ReadFault::NoTree);
     }
-    Ok((grouped(start_at(tokens, at), end_at(tokens, close), inner), close + 1))
+    Ok((
+        grouped(start_at(tokens, at), end_at(tokens, close), inner),
+        close + 1,
+    ))
 }

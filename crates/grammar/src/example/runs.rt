@@ -7,11 +7,10 @@ ghost use Rattle.grammar.specs.sums.Tree.{Tree, view, depth};
 ghost use Rattle.grammar.specs.sums.Table.{grammar};
 ghost use Rattle.grammar.specs.sums.Reading.{IsExprs, IsText, of_text, of_pattern, Gives, round_at};
 
-use std::alloc::Global;
-
 use crate::example::node::Node;
-use crate::example::reader::{exprs, ReadFault};
+use crate::example::reader::{ReadFault, exprs};
 use crate::example::token::{Token, Word};
+use std::alloc::Global;
 
 /// The depth of trees, and the number of brackets round a token, that are read at most.
 const LIMIT: u32 = 500;

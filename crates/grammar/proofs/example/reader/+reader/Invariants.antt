@@ -1,6 +1,6 @@
-use Rattle.std.proofs.Common.{◌≡◌, ℕ, suc, length, ◌≤◌, ◌<◌, ◌-◌, ◌+◌, ◌*◌, ◌++◌, List, [], ◌∷◌, Some}
+use Rattle.std.proofs.Common.{◌≡◌, suc, length, ◌≤◌, ◌-◌, ◌+◌, ◌*◌, ◌++◌, ◌∷◌, Some}
 use Rattle.grammar.specs.sums.Token.{token_at}
-use Rattle.grammar.specs.sums.Tree.{Tree, view, views}
+use Rattle.grammar.specs.sums.Tree.{view, views}
 use Rattle.grammar.specs.sums.Build.{left}
 use Rattle.grammar.specs.sums.Table.{Sums, Sum, Term, Call, Args}
 use Rattle.grammar.specs.sums.Reading.{level}
@@ -42,28 +42,33 @@ abbrev pub invariant-sum-loop-turn : goal.invariant-sum-loop-turn
 invariant-sum-loop-turn l = record {
   within : l.end ≤ length l.tokens;
   turns : l.turn ≤ suc (length l.tokens);
-  rest : level l.fn.tokens l.fn.room Sum l.fn.at ≡ (sum_rest l.fn.tokens l.fn.room (suc (length l.fn.tokens) - l.turn) l.end >>= λ y. Some (left (token_at l.fn.tokens l.fn.at).from (view l.node ∷ y.0), y.1)) }
+  rest : level l.fn.tokens l.fn.room Sum l.fn.at ≡ (sum_rest l.fn.tokens l.fn.room (suc (length l.fn.tokens) - l.turn) l.end >>= λ y. Some (left (token_at l.fn.tokens l.fn.at).from (view l.node ∷ y.0), y.1));
+}
 
 abbrev pub invariant-term-loop-turn : goal.invariant-term-loop-turn
 invariant-term-loop-turn l = record {
   within : l.end ≤ length l.tokens;
   turns : l.turn ≤ suc (length l.tokens);
-  rest : level l.fn.tokens l.fn.room Term l.fn.at ≡ (term_rest l.fn.tokens l.fn.room (suc (length l.fn.tokens) - l.turn) l.end >>= λ y. Some (left (token_at l.fn.tokens l.fn.at).from (view l.node ∷ y.0), y.1)) }
+  rest : level l.fn.tokens l.fn.room Term l.fn.at ≡ (term_rest l.fn.tokens l.fn.room (suc (length l.fn.tokens) - l.turn) l.end >>= λ y. Some (left (token_at l.fn.tokens l.fn.at).from (view l.node ∷ y.0), y.1));
+}
 
 abbrev pub invariant-call-loop-turn : goal.invariant-call-loop-turn
 invariant-call-loop-turn l = record {
   within : l.end ≤ length l.tokens;
   turns : l.turn ≤ suc (length l.tokens);
-  rest : level l.fn.tokens l.fn.room Call l.fn.at ≡ (call_rest l.fn.tokens l.fn.room (suc (length l.fn.tokens) - l.turn) l.end >>= λ y. Some (left (token_at l.fn.tokens l.fn.at).from (view l.node ∷ y.0), y.1)) }
+  rest : level l.fn.tokens l.fn.room Call l.fn.at ≡ (call_rest l.fn.tokens l.fn.room (suc (length l.fn.tokens) - l.turn) l.end >>= λ y. Some (left (token_at l.fn.tokens l.fn.at).from (view l.node ∷ y.0), y.1));
+}
 
 abbrev pub invariant-sums-loop-turn : goal.invariant-sums-loop-turn
 invariant-sums-loop-turn l = record {
   within : l.end ≤ length l.tokens;
   turns : l.turn ≤ suc (length l.tokens);
-  rest : level l.fn.tokens l.fn.room Sums l.fn.at ≡ (sums_rest l.fn.tokens l.fn.room (suc (length l.fn.tokens) - l.turn) l.end >>= λ y. Some (views l.kids.items ++ y.0, y.1)) }
+  rest : level l.fn.tokens l.fn.room Sums l.fn.at ≡ (sums_rest l.fn.tokens l.fn.room (suc (length l.fn.tokens) - l.turn) l.end >>= λ y. Some (views l.kids.items ++ y.0, y.1));
+}
 
 abbrev pub invariant-args-loop-turn : goal.invariant-args-loop-turn
 invariant-args-loop-turn l = record {
   within : l.end ≤ length l.tokens;
   turns : l.turn ≤ suc (length l.tokens);
-  rest : level l.fn.tokens l.fn.room Args l.fn.at ≡ (args_rest l.fn.tokens l.fn.room (suc (length l.fn.tokens) - l.turn) l.end >>= λ y. Some (views l.kids.items ++ y.0, y.1)) }
+  rest : level l.fn.tokens l.fn.room Args l.fn.at ≡ (args_rest l.fn.tokens l.fn.room (suc (length l.fn.tokens) - l.turn) l.end >>= λ y. Some (views l.kids.items ++ y.0, y.1));
+}

@@ -1,4 +1,4 @@
-use Rattle.std.proofs.Common.{◌≡◌, ℕ, ◌-◌, drop}
+use Rattle.std.proofs.Common.{◌≡◌, ◌-◌, drop}
 use Rattle.std.specs.Prelude.{leb}
 use Rattle.grammar.specs.sums.Tree.{view, views, trees, depth, depths}
 use Rattle.grammar.proofs.example.runs.+is_shallow.Given as goal

@@ -1,6 +1,6 @@
-use Rattle.std.proofs.Common.{rules, ◌≡◌, ℕ, ◌+◌, ◌≤◌, arith, sym, ◌∙◌, refl}
+use Rattle.std.proofs.Common.{rules, ◌≤◌, arith, sym, ◌∙◌, refl}
 use Rattle.grammar.specs.sums.Tree.{depth, view}
-use Rattle.grammar.proofs.sums.Runs.{run_is_read, text_is_read, read_is_run, forward, one_answer, is_shallow_run, is_bracketed_run, leb_true, leb_false}
+use Rattle.grammar.proofs.sums.Runs.{run_is_read, text_is_read, read_is_run, forward, one_answer, is_shallow_run, is_bracketed_run, leb_true}
 use Rattle.grammar.specs.sums.Reading.{of_text, of_pattern}
 use Rattle.grammar.proofs.example.runs.read_exprs.Goals as goal
 
