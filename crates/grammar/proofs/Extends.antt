@@ -62,7 +62,7 @@ module _ {K B L : Type 0} (N : Type 0) (table : Table K B L) (mode : ℕ → Boo
   moves t u (d_seq {r = r} {s = s} k ys zs d e eq) p a m =
       let x : _ = moves t u d (and_both (plain C r) (plain C s) p).0 a (λ n b c. m n b (omega (arith, goes d, goes e))) in
       let y : _ = moves t u e (and_both (plain C r) (plain C s) p).1 a (λ n b c. m n (omega (arith, goes d)) c) in
-      (x.0 ++ y.0, d_seq k x.0 y.0 x.1 y.1 refl)
+      (x.0 ++ y.0, d_seq {xs = x.0 ++ y.0} k x.0 y.0 x.1 y.1 refl)
   moves t u (d_around {i = i} k g d g' s) p a m =
       let x : _ = moves t u d p a (λ n b c. m n (omega arith) (omega (arith, s))) in
       (x.0, d_around k (rw (← m i (omega arith) (omega (arith, s, goes d))) g) x.1 (rw (← m k (omega (arith, goes d)) (omega (arith, s))) g') s)
@@ -110,7 +110,7 @@ module _ {K B L : Type 0} (N : Type 0) (table : Table K B L) (mode : ℕ → Boo
         let n : _ = and_both (nul S q r) (nul S q s) h in
         let y : _ = vacant r a q c k z.0 g.0 n.0 u i in
         let y' : _ = vacant s a q c k z.1 g.1 n.1 u i in
-        (y.0 ++ y'.0, d_seq i y.0 y'.0 y.1 y'.1 refl)
+        (y.0 ++ y'.0, d_seq {xs = y.0 ++ y'.0} i y.0 y'.0 y.1 y'.1 refl)
     vacant (around cs ds r) a q c k p f h u i = cc
     vacant (alt r s) a q c k p f h u i =
         let z : _ = and_both (plain C r) (plain C s) p in
@@ -139,7 +139,7 @@ module _ {K B L : Type 0} (N : Type 0) (table : Table K B L) (mode : ℕ → Boo
       λ u sm e mt.
           let y : _ = moves t u d p a (λ n b c'. sm n b (omega arith)) in
           let z : _ = l.2 u (λ n b c'. sm n (omega arith) c') e mt in
-          (y.0 ++ z.0, d_seq k y.0 z.0 y.1 z.1 refl),
+          (y.0 ++ z.0, d_seq {xs = y.0 ++ z.0} k y.0 z.0 y.1 z.1 refl),
     )
 
     longer_first : (c : Loop K B L) (r s : Rule K B L) (i k j : ℕ) → k ≡ j → Empty N table c s → Longer t c r i k x → Longer t c (seq r s) i j x
@@ -150,7 +150,7 @@ module _ {K B L : Type 0} (N : Type 0) (table : Table K B L) (mode : ℕ → Boo
       λ u sm e mt.
           let y : _ = l.2 u (λ n p q. sm n p (omega arith)) e (rw eq mt) in
           let z : _ = h u e in
-          (y.0 ++ z.0, d_seq e y.0 z.0 y.1 z.1 refl),
+          (y.0 ++ z.0, d_seq {xs = y.0 ++ z.0} e y.0 z.0 y.1 z.1 refl),
     )
 
     longer_seen : (c : Loop K B L) (w : K) (b' : B) (cs ds : List ℕ) (r s : Rule K B L) (i j : ℕ) (v' : List ℕ) → each mode v' ≡ true → suc i ≡ j → has cs (t.cls i) ≡ true → has ds x ≡ true → WordOf N table c r v' → Longer t c (look w cs ds b' r s) i j x

@@ -1,10 +1,10 @@
 -- The words that a table gives are spelled by its rules.
 use Rattle.std.proofs.Common.{◌≡◌, ℕ, zero, suc, List, [], ◌∷◌, ◌++◌, refl, sym, inl, inr}
-use Rattle.std.specs.Prelude.{Bool, true, cond, Option, Some, None, ◌⊎◌}
+use Rattle.std.specs.Prelude.{Bool, true, false, cond, Option, Some, None, ◌⊎◌}
 use Rattle.grammar.specs.Rule.{Rule, done, mark, word, ref, deep, again, seq, around, alt, look, choose, opt, must, rep, make, has, Source, Table, Loop, outside, within, Derives, d_done, d_mark, d_word, d_ref, d_deep, d_again, d_rep, d_seq, d_around, d_left, d_right, d_seen, d_unseen, d_without, d_with, d_taken, d_make}
 use Rattle.grammar.specs.Reader.{◌>>=◌}
-use Rattle.grammar.specs.Check.{or_else, some_word, some_level, hollow, hollow_level, begun, begun_level}
-use Rattle.grammar.proofs.Facts.{true_false, and_both, or_either, bind_some, chosen, none_some, no_some, has_head}
+use Rattle.grammar.specs.Check.{some_word, some_level, hollow, hollow_level, begun, begun_level}
+use Rattle.grammar.proofs.Facts.{true_false, bind_some, chosen, none_some, no_some, has_head}
 
 -- the classes stand from i up to e
 abbrev pub Match : {K B N : Type 0} → Source K B N → ℕ → List ℕ → ℕ → Type 0
@@ -21,9 +21,27 @@ rematch u i w w' e h m = rw (same h) m
     same : Some w ≡ Some w' → w ≡ w'
     same h = cc
 
-or_cases : (o p : Option (List ℕ)) (w : List ℕ) → or_else o p ≡ Some w → (o ≡ Some w) ⊎ (p ≡ Some w)
-or_cases (Some x) p w h = inl h
-or_cases None p w h = inr h
+-- what the choices of `some_word`, `hollow` and `begun` say
+first_found : (o p : Option (List ℕ)) (w : List ℕ) → ◌≡◌ {A = Option (List ℕ)} (elim o [ Some v ↦ Some v | None ↦ p ]) (Some w) → (o ≡ Some w) ⊎ (p ≡ Some w)
+first_found (Some v) p w h = inl h
+first_found None p w h = inr h
+
+found_behind : (o : Option (List ℕ)) (b : Bool) (p : Option (List ℕ)) (w : List ℕ) → ◌≡◌ {A = Option (List ℕ)} (elim o [ Some v ↦ Some v | None ↦ elim b [ true ↦ p | false ↦ None ] ]) (Some w) → (o ≡ Some w) ⊎ ((b ≡ true) × (p ≡ Some w))
+found_behind (Some v) b p w h = inl h
+found_behind None true p w h = inr (refl, h)
+found_behind None false p w h = cc
+
+found_by : (b : Bool) (p q : Option (List ℕ)) (w : List ℕ) → ◌≡◌ {A = Option (List ℕ)} (elim b [ true ↦ p | false ↦ q ]) (Some w) → ((b ≡ true) × (p ≡ Some w)) ⊎ ((b ≡ false) × (q ≡ Some w))
+found_by true p q w h = inl (refl, h)
+found_by false p q w h = inr (refl, h)
+
+both_hollow : (u v : Bool) → ◌≡◌ {A = Bool} (elim u [ true ↦ v | false ↦ false ]) true → (u ≡ true) × (v ≡ true)
+both_hollow true v h = (refl, h)
+both_hollow false v h = cc
+
+either_hollow : (u v : Bool) → ◌≡◌ {A = Bool} (elim u [ true ↦ true | false ↦ v ]) true → (u ≡ true) ⊎ (v ≡ true)
+either_hollow true v h = inl refl
+either_hollow false v h = inr h
 
 module _ {K B L : Type 0} (N : Type 0) (table : Table K B L) where
   unfoldable pub WordOf : Loop K B L → Rule K B L → List ℕ → Type 0
@@ -45,7 +63,7 @@ module _ {K B L : Type 0} (N : Type 0) (table : Table K B L) where
       let n : _ = split u i p.0 q.0 e (rematch u i (p.0 ++ q.0) w e q.2 m) in
       let x : _ = some_sound V v r a c g p.0 p.1 u i n.0 n.1 in
       let y : _ = some_sound V v s a c g q.0 q.1 u n.0 e n.2 in
-      (x.0 ++ y.0, d_seq n.0 x.0 y.0 x.1 y.1 refl)
+      (x.0 ++ y.0, d_seq {xs = x.0 ++ y.0} n.0 x.0 y.0 x.1 y.1 refl)
   some_sound V v (around [] ds r) a c g w h u i e m = absurd (none_some w h)
   some_sound V v (around (x ∷ cs) [] r) a c g w h u i e m = absurd (none_some w h)
   some_sound V v (around (x ∷ cs) (y ∷ ds) r) a c g w h u i e m =
@@ -54,7 +72,7 @@ module _ {K B L : Type 0} (N : Type 0) (table : Table K B L) where
       let n : _ = split u (suc i) p.0 (y ∷ []) e m'.1 in
       let z : _ = some_sound V v r a c g p.0 p.1 u (suc i) n.0 n.1 in
       (z.0, d_around n.0 (has_head x cs (u.cls i) m'.0) z.1 (has_head y ds (u.cls n.0) n.2.0) (sym n.2.1))
-  some_sound V v (alt r s) a c g w h u i e m = elim (or_cases (some_word V a r) (some_word V a s) w h) [
+  some_sound V v (alt r s) a c g w h u i e m = elim (first_found (some_word V a r) (some_word V a s) w h) [
     | inl p ↦ let x : _ = some_sound V v r a c g w p u i e m in (x.0, d_left x.1)
     | inr p ↦ let x : _ = some_sound V v s a c g w p u i e m in (x.0, d_right x.1)
   ]
@@ -84,12 +102,12 @@ module _ {K B L : Type 0} (N : Type 0) (table : Table K B L) where
   hollow_sound E v (deep l) c h u i = let x : _ = v l h u i in (x.0, d_deep x.1)
   hollow_sound E v again c h u i = cc
   hollow_sound E v (seq r s) c h u i =
-      let p : _ = and_both (hollow E r) (hollow E s) h in
+      let p : _ = both_hollow (hollow E r) (hollow E s) h in
       let x : _ = hollow_sound E v r c p.0 u i in
       let y : _ = hollow_sound E v s c p.1 u i in
-      (x.0 ++ y.0, d_seq i x.0 y.0 x.1 y.1 refl)
+      (x.0 ++ y.0, d_seq {xs = x.0 ++ y.0} i x.0 y.0 x.1 y.1 refl)
   hollow_sound E v (around cs ds r) c h u i = cc
-  hollow_sound E v (alt r s) c h u i = elim (or_either (hollow E r) (hollow E s) h) [
+  hollow_sound E v (alt r s) c h u i = elim (either_hollow (hollow E r) (hollow E s) h) [
     | inl p ↦ let x : _ = hollow_sound E v r c p u i in (x.0, d_left x.1)
     | inr p ↦ let x : _ = hollow_sound E v s c p u i in (x.0, d_right x.1)
   ]
@@ -115,24 +133,21 @@ module _ {K B L : Type 0} (N : Type 0) (table : Table K B L) where
   begun_sound V W E v b e' (ref l) a c g x w h u i e m = let y : _ = b l x w h u i e m in (y.0, d_ref y.1)
   begun_sound V W E v b e' (deep l) a c g x w h u i e m = let y : _ = b l x w h u i e m in (y.0, d_deep y.1)
   begun_sound V W E v b e' again a c g x w h u i e m = absurd (none_some w h)
-  begun_sound V W E v b e' (seq r s) a c g x w h u i e m = elim (or_cases (begun V W E a r x >>= λ v'. some_word V a s >>= λ w'. Some (v' ++ w')) (cond (hollow E r) (begun V W E a s x) None) w h) [
+  begun_sound V W E v b e' (seq r s) a c g x w h u i e m = elim (found_behind (begun V W E a r x >>= λ v'. some_word V a s >>= λ w'. Some (v' ++ w')) (hollow E r) (begun V W E a s x) w h) [
     | inl o ↦
         let p : _ = bind_some (begun V W E a r x) (λ v'. some_word V a s >>= λ w'. Some (v' ++ w')) w o in
         let q : _ = bind_some (some_word V a s) (λ w'. Some (p.0 ++ w')) w p.2 in
         let n : _ = split u (suc i) p.0 q.0 e (rematch u (suc i) (p.0 ++ q.0) w e q.2 m.1) in
         let y : _ = begun_sound V W E v b e' r a c g x p.0 p.1 u i n.0 (m.0, n.1) in
         let z : _ = some_sound N table V v s a c g q.0 q.1 u n.0 e n.2 in
-        (y.0 ++ z.0, d_seq n.0 y.0 z.0 y.1 z.1 refl)
-    | inr o ↦ elim (chosen (hollow E r) (begun V W E a s x) None (Some w) o) [
-      | inl p ↦
-          let y : _ = hollow_sound E e' r c p.0 u i in
-          let z : _ = begun_sound V W E v b e' s a c g x w p.1 u i e m in
-          (y.0 ++ z.0, d_seq i y.0 z.0 y.1 z.1 refl)
-      | inr p ↦ absurd (none_some w p.1)
-    ]
+        (y.0 ++ z.0, d_seq {xs = y.0 ++ z.0} n.0 y.0 z.0 y.1 z.1 refl)
+    | inr o ↦
+        let y : _ = hollow_sound E e' r c o.0 u i in
+        let z : _ = begun_sound V W E v b e' s a c g x w o.1 u i e m in
+        (y.0 ++ z.0, d_seq {xs = y.0 ++ z.0} i y.0 z.0 y.1 z.1 refl)
   ]
   begun_sound V W E v b e' (around cs [] r) a c g x w h u i e m = absurd (none_some w h)
-  begun_sound V W E v b e' (around cs (d ∷ ds) r) a c g x w h u i e m = elim (chosen (has cs x) (some_word V a r >>= λ v'. Some (v' ++ (d ∷ []))) None (Some w) h) [
+  begun_sound V W E v b e' (around cs (d ∷ ds) r) a c g x w h u i e m = elim (found_by (has cs x) (some_word V a r >>= λ v'. Some (v' ++ (d ∷ []))) None w h) [
     | inl o ↦
         let p : _ = bind_some (some_word V a r) (λ v'. Some (v' ++ (d ∷ []))) w o.1 in
         let n : _ = split u (suc i) p.0 (d ∷ []) e (rematch u (suc i) (p.0 ++ (d ∷ [])) w e p.2 m.1) in
@@ -140,12 +155,12 @@ module _ {K B L : Type 0} (N : Type 0) (table : Table K B L) where
         (z.0, d_around n.0 (rw m.0 o.0) z.1 (has_head d ds (u.cls n.0) n.2.0) (sym n.2.1))
     | inr o ↦ absurd (none_some w o.1)
   ]
-  begun_sound V W E v b e' (alt r s) a c g x w h u i e m = elim (or_cases (begun V W E a r x) (begun V W E a s x) w h) [
+  begun_sound V W E v b e' (alt r s) a c g x w h u i e m = elim (first_found (begun V W E a r x) (begun V W E a s x) w h) [
     | inl p ↦ let y : _ = begun_sound V W E v b e' r a c g x w p u i e m in (y.0, d_left y.1)
     | inr p ↦ let y : _ = begun_sound V W E v b e' s a c g x w p u i e m in (y.0, d_right y.1)
   ]
   begun_sound V W E v b e' (look k cs [] b' r s) a c g x w h u i e m = absurd (none_some w h)
-  begun_sound V W E v b e' (look k cs (d ∷ ds) b' r s) a c g x w h u i e m = elim (chosen (has cs x) (some_word V a r >>= λ v'. Some (d ∷ v')) (begun V W E a s x) (Some w) h) [
+  begun_sound V W E v b e' (look k cs (d ∷ ds) b' r s) a c g x w h u i e m = elim (found_by (has cs x) (some_word V a r >>= λ v'. Some (d ∷ v')) (begun V W E a s x) w h) [
     | inl o ↦
         let p : _ = bind_some (some_word V a r) (λ v'. Some (d ∷ v')) w o.1 in
         let n : Match u (suc i) (d ∷ p.0) e = rematch u (suc i) (d ∷ p.0) w e p.2 m.1 in

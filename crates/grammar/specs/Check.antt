@@ -118,10 +118,7 @@ plain C (must cs r) = false
 plain C (rep l r) = plain C r
 plain C (make b r) = plain C r
 
--- the first that there is
-abbrev pub or_else : {A : Type 0} → Option A → Option A → Option A
-or_else (Some x) o = Some x
-or_else None o = o
+-- Words, by `elim` in the place of `cond`: it computes only the case that it takes, so the check stays short.
 
 -- some word that the rule spells; V has one of each level, a one of the loop around
 abbrev pub some_word : {K B L : Type 0} → (L → Option (List ℕ)) → Option (List ℕ) → Rule K B L → Option (List ℕ)
@@ -137,7 +134,7 @@ some_word V a (seq r s) = some_word V a r >>= λ v. some_word V a s >>= λ w. So
 some_word V a (around [] ds r) = None
 some_word V a (around (c ∷ cs) [] r) = None
 some_word V a (around (c ∷ cs) (d ∷ ds) r) = some_word V a r >>= λ v. Some (c ∷ (v ++ (d ∷ [])))
-some_word V a (alt r s) = or_else (some_word V a r) (some_word V a s)
+some_word V a (alt r s) = elim (some_word V a r) [ Some w ↦ Some w | None ↦ some_word V a s ]
 some_word V a (look k [] ds b r s) = None
 some_word V a (look k (c ∷ cs) [] b r s) = None
 some_word V a (look k (c ∷ cs) (d ∷ ds) b r s) = some_word V a r >>= λ v. Some (c ∷ (d ∷ v))
@@ -160,9 +157,9 @@ hollow E (word k cs) = false
 hollow E (ref l) = E l
 hollow E (deep l) = E l
 hollow E again = false
-hollow E (seq r s) = hollow E r && hollow E s
+hollow E (seq r s) = elim (hollow E r) [ true ↦ hollow E s | false ↦ false ]
 hollow E (around cs ds r) = false
-hollow E (alt r s) = hollow E r || hollow E s
+hollow E (alt r s) = elim (hollow E r) [ true ↦ true | false ↦ hollow E s ]
 hollow E (look k cs ds b r s) = false
 hollow E (choose p r s) = false
 hollow E (opt r) = true
@@ -182,12 +179,12 @@ begun V W E a (word k cs) x = cond (has cs x) (Some []) None
 begun V W E a (ref l) x = W l x
 begun V W E a (deep l) x = W l x
 begun V W E a again x = None
-begun V W E a (seq r s) x = or_else (begun V W E a r x >>= λ v. some_word V a s >>= λ w. Some (v ++ w)) (cond (hollow E r) (begun V W E a s x) None)
+begun V W E a (seq r s) x = elim (begun V W E a r x >>= λ v. some_word V a s >>= λ w. Some (v ++ w)) [ Some w ↦ Some w | None ↦ elim (hollow E r) [ true ↦ begun V W E a s x | false ↦ None ] ]
 begun V W E a (around cs [] r) x = None
-begun V W E a (around cs (d ∷ ds) r) x = cond (has cs x) (some_word V a r >>= λ v. Some (v ++ (d ∷ []))) None
-begun V W E a (alt r s) x = or_else (begun V W E a r x) (begun V W E a s x)
+begun V W E a (around cs (d ∷ ds) r) x = elim (has cs x) [ true ↦ some_word V a r >>= λ v. Some (v ++ (d ∷ [])) | false ↦ None ]
+begun V W E a (alt r s) x = elim (begun V W E a r x) [ Some w ↦ Some w | None ↦ begun V W E a s x ]
 begun V W E a (look k cs [] b r s) x = None
-begun V W E a (look k cs (d ∷ ds) b r s) x = cond (has cs x) (some_word V a r >>= λ v. Some (d ∷ v)) (begun V W E a s x)
+begun V W E a (look k cs (d ∷ ds) b r s) x = elim (has cs x) [ true ↦ some_word V a r >>= λ v. Some (d ∷ v) | false ↦ begun V W E a s x ]
 begun V W E a (choose p r s) x = None
 begun V W E a (opt r) x = begun V W E a r x
 begun V W E a (must cs r) x = begun V W E a r x

@@ -1,4 +1,4 @@
-use crate::example::{Kind, Node, ReadFault, Token, Word, read_exprs};
+use crate::example::{Kind, Node, ReadFault, Token, Word, read_exprs, read_text};
 use std::test::Fail;
 
 fn word(byte: u8) -> Word {
@@ -12,6 +12,7 @@ fn word(byte: u8) -> Word {
         b'+' => Word::Plus,
         b'-' => Word::Minus,
         b'*' => Word::Times,
+        b';' => Word::Semicolon,
         b'?' => Word::Hole,
         _ => Word::End,
     }
@@ -122,5 +123,19 @@ fn reads_500_brackets_round_a_token(rt: HostRuntime) -> Result<(), Fail> {
     assert!(rt; is_node(Some(&node), Kind::Tuple, 0, 500, 502));
     let many = nested(&rt, 501, b"a")?;
     assert!(rt; read_exprs(rt.alloc(), &many, 0).is_err());
+    Ok(())
+}
+
+#[test]
+fn reads_a_whole_text(rt: HostRuntime) -> Result<(), Fail> {
+    for (text, end) in [(b"a+b;".as_slice(), 3), (b"a+b", 3)] {
+        let tokens = tokens(&rt, text)?;
+        let node = read_text(rt.alloc(), &tokens)?;
+        assert!(rt; is_node(Some(&node), Kind::Binary, b'+', 0, end));
+    }
+    for text in [b"a b".as_slice(), b"a;;", b"a;b", b""] {
+        let tokens = tokens(&rt, text)?;
+        assert!(rt; read_text(rt.alloc(), &tokens).is_err());
+    }
     Ok(())
 }

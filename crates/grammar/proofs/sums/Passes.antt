@@ -3,12 +3,13 @@ use Rattle.std.specs.Prelude.{◌≡◌, true}
 use Rattle.std.proofs.Common.{refl}
 use Rattle.grammar.specs.Check.{passes, closes_runs}
 use Rattle.grammar.specs.sums.Token.{class}
-use Rattle.grammar.specs.sums.Table.{Level, Exprs, Inside, Sums, Sum, Term, Unary, Call, Args, Arg, Atom, Paren, SumsTail, SumTail, TermTail, CallTail, ArgsTail, grammar}
+use Rattle.grammar.specs.sums.Table.{Level, Text, Exprs, Inside, Sums, Sum, Term, Unary, Call, Args, Arg, Atom, Paren, SumsTail, SumTail, TermTail, CallTail, ArgsTail, grammar}
 use Rattle.grammar.specs.sums.Sets.{sets, ranks}
 use Rattle.grammar.specs.sums.Reading.{of_text}
 
 pub pass : (l : Level) → passes grammar sets ranks l ≡ true
 unfolding class
+pass Text = refl
 pass Exprs = refl
 pass Inside = refl
 pass Sums = refl
@@ -29,6 +30,7 @@ pass ArgsTail = refl
 -- closed runs are promised of each level, in texts and in patterns
 pub close : (l : Level) → closes_runs grammar sets ranks (λ c. true) 12 l ≡ true
 unfolding class
+close Text = refl
 close Exprs = refl
 close Inside = refl
 close Sums = refl
@@ -48,6 +50,7 @@ close ArgsTail = refl
 
 pub close_text : (l : Level) → closes_runs grammar sets ranks of_text 12 l ≡ true
 unfolding class
+close_text Text = refl
 close_text Exprs = refl
 close_text Inside = refl
 close_text Sums = refl

@@ -1,17 +1,20 @@
 -- What is read of exprs is the closed run, and the closed run is what is read.
-use Rattle.std.proofs.Common.{◌≡◌, ℕ, suc, ◌+◌, ◌<◌, ◌≤◌, List, [], ◌∷◌, length, refl, arith, sym, ◌∙◌, inl, inr, add-one, Some}
+use Rattle.std.proofs.Common.{Option, ◌≡◌, ℕ, suc, ◌+◌, ◌<◌, ◌≤◌, List, [], ◌∷◌, length, refl, arith, sym, ◌∙◌, inl, inr, add-one, Some}
+use Rattle.std.proofs.lemmas.List.{get_or_past}
 use Rattle.std.specs.Prelude.{Bool, true, false, leb, ◌⊎◌}
 use Rattle.grammar.specs.declared.example.token.Token.{Token}
-use Rattle.grammar.specs.Rule.{open_at, behind, smaller}
-use Rattle.grammar.specs.sums.Token.{class, token_at}
+use Rattle.grammar.specs.declared.example.reader.ReadFault.{ReadFault}
+use Rattle.grammar.specs.declared.example.reader.ReadFault.TheVariants as faults
+use Rattle.grammar.specs.Rule.{has, open_at, behind, smaller}
+use Rattle.grammar.specs.sums.Token.{class, token_at, end_token}
 use Rattle.grammar.specs.sums.Tree.{Tree, depth, depth_all}
-use Rattle.grammar.specs.sums.Table.{Exprs, grammar}
+use Rattle.grammar.specs.sums.Table.{Text, Exprs, grammar}
 use Rattle.grammar.specs.sums.Build.{source}
 use Rattle.grammar.specs.sums.Sets.{sets, ranks}
-use Rattle.grammar.specs.sums.Reading.{level, of_text, of_pattern, IsExprs, IsText, round_at}
-use Rattle.grammar.proofs.Facts.{some_pair}
+use Rattle.grammar.specs.sums.Reading.{level, of_text, of_pattern, IsExprs, IsText, IsWhole, Fails, round_at}
+use Rattle.grammar.proofs.Facts.{none_some, some_pair}
 use Rattle.grammar.proofs.Counts.{count_step, count_start}
-use Rattle.grammar.proofs.Theorem.{read_forward, read_run, run_read}
+use Rattle.grammar.proofs.Theorem.{read_forward, read_piece, piece_read, read_run, run_read}
 use Rattle.grammar.proofs.sums.Passes.{pass, close, close_text}
 use Rattle.grammar.proofs.sums.Depths.{deepens}
 
@@ -79,3 +82,37 @@ few_more ts from i f h n a b = elim (cases n b) [ inl lt ↦ f n a lt | inr e �
   where
     cases : (n : ℕ) → n < i + 1 → (n < i) ⊎ (n ≡ i)
     cases n h = grind arith
+
+-- nothing goes on behind the last token
+stops : (ts : List Token) → has (sets.more Text) ((source ts).cls (length ts)) ≡ false
+unfolding class
+stops ts = rw (get_or_past ts (length ts) end_token (omega arith)) refl
+
+-- each tree of all the tokens is read
+pub whole_is_read : (ts : List Token) (t : Tree) → IsWhole ts t → level ts 1002 Text 0 ≡ Some (t ∷ [], length ts)
+unfolding level
+whole_is_read ts t p = piece_read grammar sets ranks pass depth_all (source ts) (deepens ts) (suc (length ts)) Text (t ∷ []) 0 (length ts) p (stops ts) (omega arith)
+
+-- what is read of all the tokens, within the limits, is a tree of them
+pub read_is_whole : (ts : List Token) (t : Tree) (j : ℕ) → level ts 1002 Text 0 ≡ Some (t ∷ [], j) → j ≡ length ts → depth t ≤ 500 → ((n : ℕ) → 0 ≤ n → n < j → round_at ts 0 n ≤ 500) → IsWhole ts t
+unfolding level round_at
+read_is_whole ts t j h all shallow few = rw all at (read_piece grammar sets ranks pass depth_all (source ts) (deepens ts) (suc (length ts)) 1002 Text (t ∷ []) 0 j h (omega (arith, shallow)) few)
+
+pub whole_is_shallow : (ts : List Token) (t : Tree) → IsWhole ts t → depth t ≤ 500
+whole_is_shallow ts t p = omega (arith, p.shallow)
+
+pub whole_is_bracketed : (ts : List Token) (t : Tree) → IsWhole ts t → (n : ℕ) → 0 ≤ n → n < length ts → round_at ts 0 n ≤ 500
+unfolding round_at
+whole_is_bracketed ts t p n a b = p.few_brackets n a b
+
+-- two answers of the reader are one
+pub one_text : (ts : List Token) (t u : Tree) (i j : ℕ) → level ts 1002 Text 0 ≡ Some (t ∷ [], i) → level ts 1002 Text 0 ≡ Some (u ∷ [], j) → (t ≡ u) × (i ≡ j)
+one_text ts t u i j h k = let p : _ = some_pair (t ∷ []) (u ∷ []) i j (sym h ∙ k) in (head_of p.0, p.1)
+  where
+    head_of : t ∷ [] ≡ u ∷ [] → t ≡ u
+    head_of e = cc
+
+-- a fault that comes although something is read is want of memory
+pub fails_still : {X Y : Type 0} (e : ReadFault) (read : Option X) (x : X) (y : Y) → Fails e read → read ≡ Some x → Fails e (Some y)
+fails_still faults.Memory read x y f h = record {}
+fails_still faults.NoTree read x y f h = absurd (none_some x (sym f ∙ h))

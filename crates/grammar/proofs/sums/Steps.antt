@@ -6,7 +6,7 @@ use Rattle.grammar.specs.Rule.{has}
 use Rattle.grammar.specs.Reader.{read, choice, turns, ◌>>=◌}
 use Rattle.grammar.specs.sums.Token.{class, token_at}
 use Rattle.grammar.specs.sums.Tree.{Tree}
-use Rattle.grammar.specs.sums.Table.{Level, Exprs, Inside, Sums, Sum, Term, Unary, Call, Args, Arg, Atom, Paren, SumsTail, SumTail, TermTail, CallTail, ArgsTail, table, grammar, sums_round, sum_round, term_round, call_round, args_round, Row}
+use Rattle.grammar.specs.sums.Table.{Level, Text, Exprs, Inside, Sums, Sum, Term, Unary, Call, Args, Arg, Atom, Paren, SumsTail, SumTail, TermTail, CallTail, ArgsTail, table, grammar, sums_round, sum_round, term_round, call_round, args_round, Row}
 use Rattle.grammar.specs.sums.Build.{source, left}
 use Rattle.grammar.specs.sums.Sets.{sets, ranks}
 use Rattle.grammar.specs.sums.Reading.{level}
@@ -29,6 +29,12 @@ row ts room r = read (source ts) sets (suc (length ts)) (rungs ts room) (λ i. N
 pub level_row : (ts : List Token) (room : ℕ) (l : Level) (i : ℕ) → zero < room → level ts room l i ≡ row ts room (table l) i
 unfolding level
 level_row ts room l i h = room_step (source ts) sets (suc (length ts)) grammar ranks pass room l i h
+
+pub text_zero : (ts : List Token) (room i : ℕ) → room ≡ zero → level ts room Text i ≡ None
+text_zero ts room i h = level_zero ts room Text i h
+
+pub text_step : (ts : List Token) (room i : ℕ) → zero < room → level ts room Text i ≡ row ts room (table Text) i
+text_step ts room i h = level_row ts room Text i h
 
 pub exprs_zero : (ts : List Token) (room i : ℕ) → room ≡ zero → level ts room Exprs i ≡ None
 exprs_zero ts room i h = level_zero ts room Exprs i h

@@ -8,11 +8,11 @@ use Rattle.grammar.specs.declared.example.reader.Inner.{Inner}
 use Rattle.grammar.specs.declared.example.reader.Inner.TheVariants.{One, Several}
 use Rattle.grammar.specs.declared.example.reader.ReadFault.{ReadFault}
 use Rattle.grammar.specs.declared.example.reader.ReadFault.TheVariants as faults
-use Rattle.grammar.specs.Rule.{has, IsRun, brackets_round}
+use Rattle.grammar.specs.Rule.{has, IsPiece, IsRun, brackets_round}
 use Rattle.grammar.specs.Reader.{read_level}
 use Rattle.grammar.specs.sums.Token.{class, token_at}
 use Rattle.grammar.specs.sums.Tree.{Tree, view, views, depth_all}
-use Rattle.grammar.specs.sums.Table.{Level, Exprs, table, grammar}
+use Rattle.grammar.specs.sums.Table.{Level, Text, Exprs, table, grammar}
 use Rattle.grammar.specs.sums.Build.{source, parted, group}
 use Rattle.grammar.specs.sums.Sets.{sets, ranks}
 
@@ -69,3 +69,12 @@ IsText ts = (n : ℕ) → of_text (class (token_at ts n).word) ≡ true
 -- how many brackets the token at a place stands inside, from another place on
 unfoldable pub round_at : List Token → ℕ → ℕ → ℕ
 round_at ts from n = brackets_round grammar.opens grammar.closes (source ts).cls from n
+
+-- The tree of all the tokens, as a text.
+abbrev pub IsWhole : List Token → Tree → Type 0
+IsWhole ts t = IsPiece grammar depth_all (source ts) Text (t ∷ []) 0 (length ts)
+
+-- a node is what is read
+abbrev pub GivesTree : Result Node ReadFault → Option Tree → Type 0
+GivesTree (Ok n) read = read ≡ Some (view n)
+GivesTree (Err e) read = Fails e read

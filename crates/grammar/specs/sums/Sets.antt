@@ -2,11 +2,12 @@
 use Rattle.std.specs.Prelude.{ℕ, Bool, true, false, List, [], ◌∷◌}
 use Rattle.grammar.specs.declared.example.token.Word.TheVariants as w
 use Rattle.grammar.specs.sums.Token.{class}
-use Rattle.grammar.specs.sums.Table.{Level, Exprs, Inside, Sums, Sum, Term, Unary, Call, Args, Arg, Atom, Paren, SumsTail, SumTail, TermTail, CallTail, ArgsTail, Builder, strong}
+use Rattle.grammar.specs.sums.Table.{Level, Text, Exprs, Inside, Sums, Sum, Term, Unary, Call, Args, Arg, Atom, Paren, SumsTail, SumTail, TermTail, CallTail, ArgsTail, Builder, strong}
 use Rattle.grammar.specs.Sets.{Sets}
 use Rattle.grammar.specs.Check.{Ranks}
 
 abbrev pub first : Level → List ℕ
+first Text = class w.Minus ∷ class w.OpenRound ∷ class w.Name ∷ class w.Number ∷ class w.Hole ∷ []
 first Exprs = class w.Minus ∷ class w.OpenRound ∷ class w.Name ∷ class w.Number ∷ class w.Hole ∷ []
 first Inside = class w.Minus ∷ class w.OpenRound ∷ class w.Name ∷ class w.Number ∷ class w.Hole ∷ []
 first Sums = class w.Minus ∷ class w.OpenRound ∷ class w.Name ∷ class w.Number ∷ class w.Hole ∷ []
@@ -25,6 +26,7 @@ first CallTail = class w.OpenRound ∷ []
 first ArgsTail = class w.Comma ∷ []
 
 abbrev pub more : Level → List ℕ
+more Text = class w.Comma ∷ class w.Plus ∷ class w.Minus ∷ class w.Times ∷ class w.OpenRound ∷ class w.Name ∷ class w.Number ∷ class w.Hole ∷ []
 more Exprs = class w.Comma ∷ class w.Plus ∷ class w.Minus ∷ class w.Times ∷ class w.OpenRound ∷ class w.Name ∷ class w.Number ∷ class w.Hole ∷ []
 more Inside = class w.Comma ∷ class w.Plus ∷ class w.Minus ∷ class w.Times ∷ class w.OpenRound ∷ class w.Name ∷ class w.Number ∷ class w.Hole ∷ []
 more Sums = class w.Comma ∷ class w.Plus ∷ class w.Minus ∷ class w.Times ∷ class w.OpenRound ∷ class w.Name ∷ class w.Number ∷ class w.Hole ∷ []
@@ -43,6 +45,7 @@ more CallTail = class w.OpenRound ∷ []
 more ArgsTail = class w.Comma ∷ class w.Plus ∷ class w.Minus ∷ class w.Times ∷ class w.OpenRound ∷ class w.Name ∷ class w.Equal ∷ class w.Number ∷ class w.Hole ∷ []
 
 abbrev pub empty : Level → Bool
+empty Text = false
 empty Exprs = false
 empty Inside = false
 empty Sums = true
@@ -61,6 +64,7 @@ empty CallTail = true
 empty ArgsTail = true
 
 abbrev pub rank : Level → ℕ
+rank Text = 10
 rank Exprs = 9
 rank Inside = 8
 rank Sums = 7
@@ -79,6 +83,7 @@ rank CallTail = 1
 rank ArgsTail = 8
 
 abbrev pub plain_level : Level → Bool
+plain_level Text = false
 plain_level Exprs = true
 plain_level Inside = true
 plain_level Sums = true
@@ -100,4 +105,4 @@ abbrev pub sets : Sets Level
 sets = record { first = first; more = more; empty = empty }
 
 abbrev pub ranks : Ranks Builder Level
-ranks = record { strong = strong; rank = rank; top = 10; shut = plain_level }
+ranks = record { strong = strong; rank = rank; top = 11; shut = plain_level }

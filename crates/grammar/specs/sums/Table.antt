@@ -5,9 +5,10 @@ use Rattle.grammar.specs.declared.example.token.Word.TheVariants as w
 use Rattle.grammar.specs.declared.example.node.Kind.{Kind}
 use Rattle.grammar.specs.declared.example.node.Kind.TheVariants as k
 use Rattle.grammar.specs.sums.Token.{class}
-use Rattle.grammar.specs.Rule.{Rule, mark, word, ref, deep, again, around, look, opt, rep, make, ◌·◌, ◌∣◌, Grammar}
+use Rattle.grammar.specs.Rule.{Rule, mark, word, ref, deep, again, around, look, opt, must, rep, make, ◌·◌, ◌∣◌, Grammar}
 
 pub data Level : Type 0 where
+  Text : Level
   Exprs : Level
   Inside : Level
   Sums : Level
@@ -77,6 +78,8 @@ args_round = opt (tok w.Comma · opt (ref Arg · again))
 
 -- The table, a row for each line of the grammar.
 abbrev pub table : Level → Row
+-- text = exprs [";"]                the ";" is taken where one follows
+table Text = ref Exprs · must (class w.Semicolon ∷ []) (tok w.Semicolon)
 -- exprs = sum {"," sum} [","]       itself if one without comma, else Tuple[sums]
 table Exprs = make Group (ref Inside)
 table Inside = ref Sum · opt (make Several (tok w.Comma · ref Sums))

@@ -1,7 +1,7 @@
 -- The tokens of the example, and their classes.
 use Rattle.std.specs.Prelude.{ℕ, ◌-◌, List, get_or}
 use Rattle.grammar.specs.declared.example.token.Word.{Word}
-use Rattle.grammar.specs.declared.example.token.Word.TheVariants.{End, Name, Number, OpenRound, CloseRound, Comma, Equal, Plus, Minus, Times, Hole}
+use Rattle.grammar.specs.declared.example.token.Word.TheVariants.{End, Name, Number, OpenRound, CloseRound, Comma, Equal, Plus, Minus, Times, Semicolon, Hole}
 use Rattle.grammar.specs.declared.example.token.Token.{Token}
 
 -- the class of a word
@@ -16,7 +16,8 @@ class Equal = 6
 class Plus = 7
 class Minus = 8
 class Times = 9
-class Hole = 10
+class Semicolon = 10
+class Hole = 11
 
 abbrev pub end_token : Token
 end_token = record { word = End; text = 0; from = 0; to = 0 }

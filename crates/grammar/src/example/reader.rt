@@ -6,7 +6,7 @@ ghost use Rattle.grammar.specs.declared.example.reader.ReadFault.TheVariants.{Me
 ghost use Rattle.grammar.specs.Rule.{has};
 ghost use Rattle.grammar.specs.sums.Token.{class, token_at, end_of};
 ghost use Rattle.grammar.specs.sums.Tree.{Tree, view, views, node, trees};
-ghost use Rattle.grammar.specs.sums.Table.{Exprs, Inside, Sums, Sum, Term, Unary, Call, Args, Arg, Atom, Paren};
+ghost use Rattle.grammar.specs.sums.Table.{Text, Exprs, Inside, Sums, Sum, Term, Unary, Call, Args, Arg, Atom, Paren};
 ghost use Rattle.grammar.specs.sums.Sets.{sets};
 ghost use Rattle.grammar.specs.sums.Reading.{level, Gives, GivesAll, GivesInside, Grouped};
 
@@ -160,6 +160,23 @@ fn grouped(from: u32, to: u32, inner: Inner) -> Node
         Inner::One(node) => node,
         Inner::Several(kids) => make(Kind::Tuple, 0, from, to, kids),
     }
+}
+
+/// `exprs [";"]`
+#[tactic(auto, using(crate::proofs::sums::Steps::text_step, crate::proofs::sums::Steps::text_zero))]
+pub fn text(alloc: Global, tokens: &[Token], room: u32, at: usize) -> Result<(Node, usize), ReadFault>
+    requires { at ≤ length tokens.now }
+    ensures within { IfOk result (λ x. x.1 ≤ length tokens.now) }
+    ensures gives { Gives result (level tokens.now room Text at) }
+{
+    if room == 0 {
+        return Err(ReadFault::NoTree);
+    }
+    let (node, end) = exprs(alloc, tokens, room, at)?;
+    if !is(tokens, end, Word::Semicolon) {
+        return Ok((node, end));
+    }
+    Ok((node, end + 1))
 }
 
 /// Sums with commas: `sum {"," sum} [","]`, a sum itself where there is one without comma.

@@ -5,10 +5,10 @@ ghost use Rattle.grammar.specs.Rule.{behind};
 ghost use Rattle.grammar.specs.sums.Token.{class};
 ghost use Rattle.grammar.specs.sums.Tree.{Tree, view, depth};
 ghost use Rattle.grammar.specs.sums.Table.{grammar};
-ghost use Rattle.grammar.specs.sums.Reading.{IsExprs, IsText, of_text, of_pattern, Gives, round_at};
+ghost use Rattle.grammar.specs.sums.Reading.{IsExprs, IsText, of_text, of_pattern, Gives, GivesTree, IsWhole, round_at};
 
 use crate::example::node::Node;
-use crate::example::reader::{ReadFault, exprs};
+use crate::example::reader::{ReadFault, exprs, text};
 use crate::example::token::{Token, Word};
 use std::alloc::Global;
 
@@ -89,4 +89,26 @@ pub fn read_exprs(alloc: Global, tokens: &[Token], from: usize) -> Result<(Node,
         return Err(ReadFault::NoTree);
     }
     Ok((node, end))
+}
+
+/// The tree of all the tokens, which are a text.
+///
+/// Its depth is at most 500, and no token stands inside more than 500 brackets.
+pub fn read_text(alloc: Global, tokens: &[Token]) -> Result<Node, ReadFault>
+    // What is read is a tree of the tokens.
+    ensures found { IfOk result (λ n. IsWhole tokens.now (view n)) }
+    // Each tree of the tokens is what is read, unless memory runs out.
+    ensures only { (t : Tree) → IsWhole tokens.now t → GivesTree result (Some t) }
+{
+    let (node, end) = text(alloc, tokens, ROOM, 0)?;
+    if end != tokens.len() {
+        return Err(ReadFault::NoTree);
+    }
+    if !is_shallow(&node, LIMIT) {
+        return Err(ReadFault::NoTree);
+    }
+    if !few_brackets(tokens, 0, end) {
+        return Err(ReadFault::NoTree);
+    }
+    Ok(node)
 }

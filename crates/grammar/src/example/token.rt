@@ -13,6 +13,7 @@ pub enum Word {
     Plus,
     Minus,
     Times,
+    Semicolon,
     /// Stands in patterns alone.
     Hole,
 }
