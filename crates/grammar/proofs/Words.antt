@@ -1,6 +1,6 @@
 -- The words that a table gives are spelled by its rules.
 use Rattle.std.proofs.Common.{◌≡◌, ℕ, zero, suc, List, [], ◌∷◌, ◌++◌, refl, sym, inl, inr}
-use Rattle.std.specs.Prelude.{Bool, true, false, cond, Option, Some, None, ◌⊎◌}
+use Rattle.std.specs.Prelude.{Bool, true, false, Option, Some, None, ◌⊎◌}
 use Rattle.grammar.specs.Rule.{Rule, done, mark, word, ref, deep, again, seq, around, alt, look, choose, opt, must, rep, make, has, Source, Table, Loop, outside, within, Derives, d_done, d_mark, d_word, d_ref, d_deep, d_again, d_rep, d_seq, d_around, d_left, d_right, d_seen, d_unseen, d_without, d_with, d_taken, d_make}
 use Rattle.grammar.specs.Reader.{◌>>=◌}
 use Rattle.grammar.specs.Check.{some_word, some_level, hollow, hollow_level, begun, begun_level}

@@ -10,6 +10,5 @@
 #![tactic(auto)]
 
 pub mod example;
-
 #[cfg(test)]
 mod tests;

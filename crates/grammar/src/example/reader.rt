@@ -164,7 +164,12 @@ fn grouped(from: u32, to: u32, inner: Inner) -> Node
 
 /// `exprs [";"]`
 #[tactic(auto, using(crate::proofs::sums::Steps::text_step, crate::proofs::sums::Steps::text_zero))]
-pub fn text(alloc: Global, tokens: &[Token], room: u32, at: usize) -> Result<(Node, usize), ReadFault>
+pub fn text(
+    alloc: Global,
+    tokens: &[Token],
+    room: u32,
+    at: usize,
+) -> Result<(Node, usize), ReadFault>
     requires { at ≤ length tokens.now }
     ensures within { IfOk result (λ x. x.1 ≤ length tokens.now) }
     ensures gives { Gives result (level tokens.now room Text at) }

@@ -1,6 +1,5 @@
-use Rattle.std.proofs.Common.{rules, ◌≡◌, ℕ, ◌≤◌, length, arith, sym, refl, ap, List, [], ◌∷◌, Some}
-use Rattle.grammar.specs.sums.Tree.{Tree, depth, view}
-use Rattle.grammar.specs.sums.Reading.{IsWhole, Fails}
+use Rattle.std.proofs.Common.{rules, ◌≤◌, length, arith, sym, refl, ap, [], ◌∷◌, Some}
+use Rattle.grammar.specs.sums.Tree.{depth, view}
 use Rattle.grammar.proofs.sums.Runs.{whole_is_read, read_is_whole, whole_is_shallow, whole_is_bracketed, one_text, leb_true, fails_still}
 use Rattle.grammar.proofs.example.runs.read_text.Goals as goal
 
