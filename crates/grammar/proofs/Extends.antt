@@ -1,5 +1,5 @@
 -- What a token can't go on with is what no longer run goes on with.
-use Rattle.std.proofs.Common.{◌≡◌, ℕ, zero, suc, ◌<◌, ◌≤◌, List, [], ◌∷◌, ◌++◌, refl, ap, arith, ◌∙◌, inl, inr}
+use Rattle.std.proofs.Common.{◌≡◌, ℕ, zero, suc, ◌<◌, ◌≤◌, List, [], ◌∷◌, refl, ap, arith, ◌∙◌, inl, inr}
 use Rattle.std.specs.Prelude.{Bool, true, false, ◌||◌, ◌&&◌, not, Option, Some, None, ◌⊎◌}
 use Rattle.grammar.specs.Rule.{Rule, done, mark, word, ref, deep, again, seq, around, alt, look, choose, opt, must, rep, make, has, Source, Table, Unlike, Loop, outside, within, Derives, d_done, d_mark, d_word, d_ref, d_deep, d_again, d_rep, d_seq, d_around, d_left, d_right, d_seen, d_unseen, d_chosen, d_unchosen, d_without, d_with, d_barred, d_taken, d_make}
 use Rattle.grammar.specs.Sets.{Sets, nul, first, more, first_of, more_of, empty_of}
@@ -8,7 +8,7 @@ use Rattle.grammar.proofs.Facts.{true_false, decide, and_both, or_either, implie
 use Rattle.grammar.proofs.Spelled.{Rel, Other, rounds, Never, Spelled, IsClear, IsGrammar}
 use Rattle.grammar.proofs.Good.{Good, part_none, part_before, part_end, good_rule, good_within, good_rounds}
 use Rattle.grammar.proofs.Meaning.{derived}
-use Rattle.grammar.proofs.Words.{Match, WordOf, Empty, some_sound, hollow_sound, begun_sound}
+use Rattle.grammar.proofs.Words.{Match, in_row, WordOf, Empty, some_sound, hollow_sound, begun_sound}
 
 abbrev pub Same : {K B N : Type 0} → Source K B N → Source K B N → ℕ → ℕ → Type 0
 Same t u i j = (n : ℕ) → i ≤ n → n < j → t.cls n ≡ u.cls n
@@ -62,7 +62,7 @@ module _ {K B L : Type 0} (N : Type 0) (table : Table K B L) (mode : ℕ → Boo
   moves t u (d_seq {r = r} {s = s} k ys zs d e eq) p a m =
       let x : _ = moves t u d (and_both (plain C r) (plain C s) p).0 a (λ n b c. m n b (omega (arith, goes d, goes e))) in
       let y : _ = moves t u e (and_both (plain C r) (plain C s) p).1 a (λ n b c. m n (omega (arith, goes d)) c) in
-      (x.0 ++ y.0, d_seq {xs = x.0 ++ y.0} k x.0 y.0 x.1 y.1 refl)
+      in_row k x.0 y.0 x.1 y.1
   moves t u (d_around {i = i} k g d g' s) p a m =
       let x : _ = moves t u d p a (λ n b c. m n (omega arith) (omega (arith, s))) in
       (x.0, d_around k (rw (← m i (omega arith) (omega (arith, s, goes d))) g) x.1 (rw (← m k (omega (arith, goes d)) (omega (arith, s))) g') s)
@@ -110,7 +110,7 @@ module _ {K B L : Type 0} (N : Type 0) (table : Table K B L) (mode : ℕ → Boo
         let n : _ = and_both (nul S q r) (nul S q s) h in
         let y : _ = vacant r a q c k z.0 g.0 n.0 u i in
         let y' : _ = vacant s a q c k z.1 g.1 n.1 u i in
-        (y.0 ++ y'.0, d_seq {xs = y.0 ++ y'.0} i y.0 y'.0 y.1 y'.1 refl)
+        in_row i y.0 y'.0 y.1 y'.1
     vacant (around cs ds r) a q c k p f h u i = cc
     vacant (alt r s) a q c k p f h u i =
         let z : _ = and_both (plain C r) (plain C s) p in
@@ -139,7 +139,7 @@ module _ {K B L : Type 0} (N : Type 0) (table : Table K B L) (mode : ℕ → Boo
       λ u sm e mt.
           let y : _ = moves t u d p a (λ n b c'. sm n b (omega arith)) in
           let z : _ = l.2 u (λ n b c'. sm n (omega arith) c') e mt in
-          (y.0 ++ z.0, d_seq {xs = y.0 ++ z.0} k y.0 z.0 y.1 z.1 refl),
+          in_row k y.0 z.0 y.1 z.1,
     )
 
     longer_first : (c : Loop K B L) (r s : Rule K B L) (i k j : ℕ) → k ≡ j → Empty N table c s → Longer t c r i k x → Longer t c (seq r s) i j x
@@ -150,7 +150,7 @@ module _ {K B L : Type 0} (N : Type 0) (table : Table K B L) (mode : ℕ → Boo
       λ u sm e mt.
           let y : _ = l.2 u (λ n p q. sm n p (omega arith)) e (rw eq mt) in
           let z : _ = h u e in
-          (y.0 ++ z.0, d_seq {xs = y.0 ++ z.0} e y.0 z.0 y.1 z.1 refl),
+          in_row e y.0 z.0 y.1 z.1,
     )
 
     longer_seen : (c : Loop K B L) (w : K) (b' : B) (cs ds : List ℕ) (r s : Rule K B L) (i j : ℕ) (v' : List ℕ) → each mode v' ≡ true → suc i ≡ j → has cs (t.cls i) ≡ true → has ds x ≡ true → WordOf N table c r v' → Longer t c (look w cs ds b' r s) i j x

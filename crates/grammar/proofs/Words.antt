@@ -21,6 +21,10 @@ rematch u i w w' e h m = rw (same h) m
     same : Some w ≡ Some w' → w ≡ w'
     same h = cc
 
+-- two parts in a row
+pub in_row : {K B L N : Type 0} {t : Source K B N} {table : Table K B L} {c : Loop K B L} {r s : Rule K B L} {i j : ℕ} (k : ℕ) (ys zs : List N) → Derives t table c r ys i k → Derives t table c s zs k j → (xs : List N) × Derives t table c (seq r s) xs i j
+in_row k ys zs d e = (ys ++ zs, d_seq k ys zs d e refl)
+
 -- what the choices of `some_word`, `hollow` and `begun` say
 first_found : (o p : Option (List ℕ)) (w : List ℕ) → ◌≡◌ {A = Option (List ℕ)} (elim o [ Some v ↦ Some v | None ↦ p ]) (Some w) → (o ≡ Some w) ⊎ (p ≡ Some w)
 first_found (Some v) p w h = inl h
@@ -63,7 +67,7 @@ module _ {K B L : Type 0} (N : Type 0) (table : Table K B L) where
       let n : _ = split u i p.0 q.0 e (rematch u i (p.0 ++ q.0) w e q.2 m) in
       let x : _ = some_sound V v r a c g p.0 p.1 u i n.0 n.1 in
       let y : _ = some_sound V v s a c g q.0 q.1 u n.0 e n.2 in
-      (x.0 ++ y.0, d_seq {xs = x.0 ++ y.0} n.0 x.0 y.0 x.1 y.1 refl)
+      in_row n.0 x.0 y.0 x.1 y.1
   some_sound V v (around [] ds r) a c g w h u i e m = absurd (none_some w h)
   some_sound V v (around (x ∷ cs) [] r) a c g w h u i e m = absurd (none_some w h)
   some_sound V v (around (x ∷ cs) (y ∷ ds) r) a c g w h u i e m =
@@ -105,7 +109,7 @@ module _ {K B L : Type 0} (N : Type 0) (table : Table K B L) where
       let p : _ = both_hollow (hollow E r) (hollow E s) h in
       let x : _ = hollow_sound E v r c p.0 u i in
       let y : _ = hollow_sound E v s c p.1 u i in
-      (x.0 ++ y.0, d_seq {xs = x.0 ++ y.0} i x.0 y.0 x.1 y.1 refl)
+      in_row i x.0 y.0 x.1 y.1
   hollow_sound E v (around cs ds r) c h u i = cc
   hollow_sound E v (alt r s) c h u i = elim (either_hollow (hollow E r) (hollow E s) h) [
     | inl p ↦ let x : _ = hollow_sound E v r c p u i in (x.0, d_left x.1)
@@ -140,11 +144,11 @@ module _ {K B L : Type 0} (N : Type 0) (table : Table K B L) where
         let n : _ = split u (suc i) p.0 q.0 e (rematch u (suc i) (p.0 ++ q.0) w e q.2 m.1) in
         let y : _ = begun_sound V W E v b e' r a c g x p.0 p.1 u i n.0 (m.0, n.1) in
         let z : _ = some_sound N table V v s a c g q.0 q.1 u n.0 e n.2 in
-        (y.0 ++ z.0, d_seq {xs = y.0 ++ z.0} n.0 y.0 z.0 y.1 z.1 refl)
+        in_row n.0 y.0 z.0 y.1 z.1
     | inr o ↦
         let y : _ = hollow_sound E e' r c o.0 u i in
         let z : _ = begun_sound V W E v b e' s a c g x w o.1 u i e m in
-        (y.0 ++ z.0, d_seq {xs = y.0 ++ z.0} i y.0 z.0 y.1 z.1 refl)
+        in_row i y.0 z.0 y.1 z.1
   ]
   begun_sound V W E v b e' (around cs [] r) a c g x w h u i e m = absurd (none_some w h)
   begun_sound V W E v b e' (around cs (d ∷ ds) r) a c g x w h u i e m = elim (found_by (has cs x) (some_word V a r >>= λ v'. Some (v' ++ (d ∷ []))) None w h) [
