@@ -1,0 +1,5 @@
+pub mod Rules
+pub mod Automaton
+pub mod View
+pub mod Conditions
+pub mod Reading
