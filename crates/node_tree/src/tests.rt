@@ -1,0 +1,54 @@
+use super::*;
+use std::test::*;
+
+fn leaf(rt: &HostRuntime, kind: Kind, from: u32) -> Node {
+    Node {
+        kind,
+        text: Text::new(rt.alloc()),
+        kids: List::new(rt.alloc()),
+        span: Span { from, to: from },
+    }
+}
+
+// An array of an array of nothing and of a name.
+fn tree(rt: &HostRuntime) -> Result<Node, Memory> {
+    let mut root = leaf(rt, Kind::Array, 0);
+    root.kids.push(leaf(rt, Kind::Array, 1))?;
+    root.kids.push(leaf(rt, Kind::Name, 2))?;
+    Ok(root)
+}
+
+#[test]
+fn walks_in_preorder(rt: HostRuntime) {
+    let tree = tree(&rt).unwrap();
+    let mut places = Vec::new(rt.alloc());
+    for node in tree.walk().unwrap() {
+        places.push(node.span.from).unwrap();
+    }
+    assert!(rt; places.as_slice() == [0, 1, 2].as_slice());
+    assert!(rt; tree.kids().count() == 2);
+}
+
+#[test]
+fn copies_have_the_same_content(rt: HostRuntime) {
+    let first = tree(&rt).unwrap();
+    let mut second = first.copy().unwrap();
+    assert!(rt; first.same_content(&second));
+    let _ = second.kids.pop();
+    second.kids.push(leaf(&rt, Kind::Id, 9)).unwrap();
+    assert!(rt; first.same_content(&second));
+    let _ = second.kids.pop();
+    assert!(rt; !first.same_content(&second));
+    assert!(rt; first.order(&second) == std::cmp::Ordering::Greater);
+}
+
+#[test]
+fn texts_grow(rt: HostRuntime) {
+    let mut text = Text::from_str(rt.alloc(), "a").unwrap();
+    text.push("é").unwrap();
+    assert!(rt; text.as_str() == "aé");
+    assert!(rt; text.len() == 3);
+    assert!(rt; text.get(1) == Some(195));
+    assert!(rt; text.get(3).is_none());
+    assert!(rt; text.copy().unwrap().is_same(&text));
+}
