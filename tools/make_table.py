@@ -3,15 +3,16 @@
 
     tools/make_table.py CRATE MODULE START ..
 
-reads the rules of crates/CRATE/specs/MODULE.antt, where each START is a term of the type `List Rule`, as 'rules true',
-and writes crates/CRATE/src/table.rt (the columns and the rows) and crates/CRATE/proofs/Left.antt (what is left to read
-in each state). The states are built from the starts by Antimirov's partial derivatives, as proofs/Derivatives.antt of
+reads the rules of crates/CRATE/specs/MODULE.antt (and what they cite in specs/), where each START is a term of the type `List Rule`, as 'rules true',
+and writes crates/CRATE/src/table.rt (the columns, the rows and the starts) and crates/CRATE/proofs/Certificate.antt (what
+is left to read in each state, and that each start accepts its rules). The states are built from the starts by Antimirov's partial derivatives, as proofs/Derivatives.antt of
 the crate `lexing` defines them. Nothing of this is trusted: a wrong table or a wrong certificate is refused.
 It prints each start's state and the width of a row. Run `rt fmt` in the crate after it.
 """
 import re
 import sys
 from functools import lru_cache
+from glob import glob
 
 SYMBOLS = 131  # ASCII, and three classes of other characters
 ROWS_A_LIST = 26  # so many rows are checked within the steps that one declaration may take
@@ -39,6 +40,15 @@ def either(a, b):
     return ('Or', a, b)
 
 
+def to(low, high):
+    return ('To', low, high)
+
+
+def but(codes):
+    ends = [-1, *codes, SYMBOLS]
+    return ('OneOf', tuple(to(a + 1, b - 1) for a, b in zip(ends, ends[1:])))
+
+
 def exactly(codes):
     return folded(then, EMPTY, [the(c) for c in codes])
 
@@ -51,6 +61,13 @@ BUILT_IN = {
     'any_of': (1, lambda parts: folded(either, NEVER, parts)),
     'in_order': (1, lambda parts: folded(then, EMPTY, parts)),
     'codes': (1, lambda text: tuple(map(ord, text))),
+    'but': (1, but),
+    'digits': (0, lambda: to(48, 57)),
+    'capitals': (0, lambda: to(65, 90)),
+    'underscore': (0, lambda: to(95, 95)),
+    'small_letters': (0, lambda: to(97, 122)),
+    'other_starts': (0, lambda: to(128, 128)),
+    'other_continues': (0, lambda: to(128, 129)),
     'map': (2, lambda f, parts: tuple(apply(f, [part]) for part in parts)),
 }
 
@@ -192,7 +209,7 @@ def value(term, bound):
             return bound[term[1]]
         if term[1] in ('true', 'false'):
             return term[1] == 'true'
-        if term[1] in BUILT_IN or any(patterns for patterns, _ in definitions.get(term[1], [])):
+        if BUILT_IN.get(term[1], (0,))[0] or any(patterns for patterns, _ in definitions.get(term[1], [])):
             return term[1]
         return constant(term[1])
     return apply(term[1][1], [value(part, bound) for part in term[2]])
@@ -282,8 +299,74 @@ def numbers(values, width):
     return '\n'.join('    ' + ' '.join(f'{v},' for v in values[i:i + width]) for i in range(0, len(values), width))
 
 
+def imports(rules_file, starts, own, entries):
+    """The lines that import what the entries cite of the rules' file, and what the starts cite of its own imports."""
+    text = ' '.join(entries)
+    path = 'Rattle.' + rules_file[len('crates/'):-len('.antt')].replace('/', '.')
+    lines = [f'use {path}.{{{", ".join(name for name in own if re.search(rf"[ (]{name}[ )]", text))}}}']
+    cited = set(re.findall(r'\w+', ' '.join(starts)))
+    for place, names in re.findall(r'^use (\S+)\.\{(.*)\}$', open(rules_file, encoding='utf-8').read(), re.M):
+        wanted = [name for name in names.split(', ') if name in cited]
+        if wanted:
+            lines.append(f'use {place}.{{{", ".join(wanted)}}}')
+    constructors = [name for name in ('Empty', 'OneOf', 'Then', 'Or', 'Many', 'the', 'To') if re.search(rf'[ (]{name}[ )]', text)]
+    return lines + [f'use Rattle.lexing.specs.Rules.{{Expression, {", ".join(constructors)}, Rule}}']
+
+
+def certificate(crate, entries, width, starts, lines):
+    """The made proof: what is left in each state, that the rows agree with it, and what each start therefore accepts."""
+    chunks = [entries[i:i + ROWS_A_LIST] for i in range(0, len(entries), ROWS_A_LIST)]
+    parts = [f'entries_{number}' for number in range(1, len(chunks) + 1)]
+    opened = ' '.join(['entries', *parts])
+    text = f"""-- What is left to read in each state of the automaton; so it accepts what the rules spell.
+use Rattle.std.proofs.Common.{{◌≡◌, ℕ, Bool, true, false, List, [], ◌∷◌, ◌++◌, refl, leb-true}}
+use Rattle.lexing.specs.Automaton.{{Table, IsWhole, IsSound, Accepts}}
+use Rattle.lexing.proofs.Certificate.{{Entry, rows_right, row_right, rows_append, certified}}
+use Rattle.lexing.proofs.Whole.{{is_whole, whole}}
+use Rattle.{crate}.specs.declared.table.TheConstants.{{COLUMNS, ROWS, WIDTH}}
+"""
+    text += '\n'.join(lines) + """
+
+abbrev pub the_table : Table
+the_table = record { columns = COLUMNS; rows = ROWS; width = WIDTH }
+
+abbrev entry : ℕ → List Rule → Entry
+entry s rules = record { place = s; left = rules }
+
+abbrev left : ℕ → Expression → Rule
+left w e = record { word = w; spelled = e }
+
+"""
+    for part, chunk in zip(parts, chunks):
+        text += f'unfoldable {part} : List Entry\n{part} =\n    ' + '\n    ∷ '.join(chunk) + '\n    ∷ []\n\n'
+    text += 'unfoldable entries : List Entry\nentries = ' + ' ++ ('.join(parts) + ')' * (len(parts) - 1) + '\n\n'
+    for part in parts:
+        text += f'rows_of_{part} : rows_right the_table entries {part} ≡ true\nunfolding {opened} row_right\nrows_of_{part} = refl\n\n'
+    joined = f'rows_of_{parts[-1]}'
+    for part in reversed(parts[:-1]):
+        joined = f'rows_append the_table entries {part} _ rows_of_{part} ({joined})'
+    text += f'rows : rows_right the_table entries entries ≡ true\nunfolding entries\nrows = {joined}\n\n'
+    text += 'is_whole_table : IsWhole the_table\nunfolding is_whole\nis_whole_table = whole the_table refl\n'
+    for number, (start, state) in enumerate(starts):
+        place = state * width
+        text += f"""
+pub accepts_{number} : Accepts the_table {place} ({start})
+unfolding {opened}
+accepts_{number} = certified the_table entries {place} ({start}) rows refl
+
+pub sound_{number} : IsSound (record {{ table = the_table; start = {place} }})
+sound_{number} = record {{ whole = is_whole_table; begins = record {{ row = leb-true _ _ refl; nothing = refl }} }}
+"""
+    return text
+
+
 def main(crate, module, *starts):
-    read_definitions(f'crates/{crate}/specs/{module}.antt')
+    rules_file = f'crates/{crate}/specs/{module}.antt'
+    read_definitions(rules_file)
+    own = list(definitions)
+    for path in glob(f'crates/{crate}/specs/*.antt'):
+        if path != rules_file:
+            read_definitions(path)
     states, after, first = automaton([value(Parser(start).term(), {}) for start in starts])
     columns, rows, width = table(states, after)
     made = 'Made by tools/make_table.py %s %s %s: do not edit.' % (crate, module, ' '.join(f"'{s}'" for s in starts))
@@ -291,31 +374,21 @@ def main(crate, module, *starts):
     with open(f'crates/{crate}/src/table.rt', 'w', encoding='utf-8') as out:
         out.write(f'//! {made}\n//!\n//! The automaton of the tokens: the column of each symbol, and the rows of the states.\n\n')
         out.write(f'pub static COLUMNS: [u8; {SYMBOLS}] = [\n{numbers(columns, 20)}\n];\n\n')
-        out.write(f'pub static ROWS: [u16; {len(flat)}] = [\n{numbers(flat, width)}\n];\n')
+        out.write(f'pub static ROWS: [u16; {len(flat)}] = [\n{numbers(flat, width)}\n];\n\n')
+        out.write(f'/// The length of a row.\npub const WIDTH: usize = {width};\n\n')
+        out.write('/// The states where reading begins: %s.\n' % ', '.join(f'`{start}`' for start in starts))
+        out.write('pub const STARTS: [usize; %d] = [%s];\n' % (len(first), ', '.join(str(s * width) for s in first)))
     names = {}
-    for name, clauses in definitions.items():
-        if not clauses[0][0] and constant(name)[:1] and constant(name)[0] in ('Then', 'Or', 'Many', 'OneOf'):
+    for name in own:
+        if not definitions[name][0][0] and constant(name)[:1] and constant(name)[0] in ('Then', 'Or', 'Many', 'OneOf'):
             names.setdefault(constant(name), name)
     entries = []
     for number, rules in enumerate(states):
         left = starts[first.index(number)] if number in first else None
         left = left or ''.join(f'left {w} {shown(e, names, True)} ∷ ' for w, e in rules) + '[]'
         entries.append(f'entry {number * width} ({left})')
-    parts = [entries[i:i + ROWS_A_LIST] for i in range(0, len(entries), ROWS_A_LIST)]
-    text = ''
-    for number, part in enumerate(parts, 1):
-        text += f'unfoldable pub entries_{number} : List Entry\nentries_{number} =\n    ' + '\n    ∷ '.join(part) + '\n    ∷ []\n\n'
-    all_parts = ' ++ ('.join(f'entries_{number}' for number in range(1, len(parts) + 1)) + ')' * (len(parts) - 1)
-    used = [name for name in definitions if re.search(rf'[ (]{name}\b', text)]
-    with open(f'crates/{crate}/proofs/Left.antt', 'w', encoding='utf-8') as out:
-        out.write(f'-- {made}\n-- What is left to read in each state of the automaton.\n')
-        out.write('use Rattle.std.proofs.Common.{ℕ, List, [], ◌∷◌, ◌++◌, true, false}\n')
-        out.write('use Rattle.lexing.specs.Rules.{Range, To, Expression, Never, Empty, OneOf, Then, Or, Many, the, Rule}\n')
-        out.write('use Rattle.lexing.proofs.Certificate.{Entry}\n')
-        out.write(f'use Rattle.{crate}.specs.{module}.{{{", ".join(used)}}}\n\n')
-        out.write('abbrev pub entry : ℕ → List Rule → Entry\nentry s rules = record { place = s; left = rules }\n\n')
-        out.write('abbrev pub left : ℕ → Expression → Rule\nleft w e = record { word = w; spelled = e }\n\n')
-        out.write(text + 'unfoldable pub entries : List Entry\nentries = ' + all_parts + '\n')
+    with open(f'crates/{crate}/proofs/Certificate.antt', 'w', encoding='utf-8') as out:
+        out.write(f'-- {made}\n' + certificate(crate, entries, width, list(zip(starts, first)), imports(rules_file, starts, own, entries)))
     print(f'{len(states)} states, width {width}, starts at', ', '.join(str(s * width) for s in first))
 
 

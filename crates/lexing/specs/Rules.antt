@@ -1,5 +1,5 @@
 -- Rules: which spellings a token or a skipped part has. A spelling is a list of characters.
-use Rattle.std.specs.Prelude.{◌≡◌, ℕ, ◌≤◌, ◌⊎◌, Bool, true, false, ◌||◌, ◌&&◌, nat_le, nat_lt, if◌then◌else◌, List, [], ◌∷◌, ◌++◌, length}
+use Rattle.std.specs.Prelude.{◌≡◌, ℕ, ◌+◌, ◌-◌, ◌≤◌, ◌⊎◌, Bool, true, false, ◌||◌, ◌&&◌, nat_le, nat_lt, if◌then◌else◌, List, [], ◌∷◌, ◌++◌, length}
 use Rattle.std.specs.List.{concat, AllByRecursion}
 use Rattle.unicode_ident.specs.Ident.{is_xid_start, is_xid_continue}
 
@@ -10,6 +10,26 @@ symbol c = if nat_lt c 128 then c else (if is_xid_start c then 128 else (if is_x
 -- the symbols from the first number to the second
 pub data Range : Type 0 where
   To : ℕ → ℕ → Range
+
+abbrev pub digits : Range
+digits = To 48 57
+
+abbrev pub capitals : Range
+capitals = To 65 90
+
+abbrev pub underscore : Range
+underscore = To 95 95
+
+abbrev pub small_letters : Range
+small_letters = To 97 122
+
+-- the XID start characters that are not ASCII
+abbrev pub other_starts : Range
+other_starts = To 128 128
+
+-- the XID continue characters that are not ASCII
+abbrev pub other_continues : Range
+other_continues = To 128 129
 
 -- a symbol lies in one of the ranges
 abbrev pub among : List Range → ℕ → Bool
@@ -39,7 +59,15 @@ Matches (Many a) cs = (parts : List (List ℕ)) × (cs ≡ concat parts) × AllB
 abbrev pub the : ℕ → Expression
 the c = OneOf (To c c ∷ [])
 
--- these ASCII characters in order
+abbrev pub gaps : ℕ → List ℕ → List Range
+gaps from [] = To from 130 ∷ []
+gaps from (c ∷ cs) = To from (c - 1) ∷ gaps (c + 1) cs
+
+-- any character but these, which are ASCII, in order and not 0
+abbrev pub but : List ℕ → Expression
+but cs = OneOf (gaps 0 cs)
+
+-- these ASCII characters one after the other
 abbrev pub exactly : List ℕ → Expression
 exactly [] = Empty
 exactly (c ∷ []) = the c
