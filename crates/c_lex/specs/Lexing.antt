@@ -1,9 +1,10 @@
 -- The tokens of a text in C.
-use Rattle.std.specs.Prelude.{◌≡◌, ℕ, ◌+◌, Bool, true, false, ◌==◌, if◌then◌else◌, List, [], ◌∷◌, ◌++◌, length, Option, Some, None, Result, Ok, Err}
+use Rattle.std.specs.Prelude.{◌≡◌, ℕ, ◌+◌, Bool, true, false, List, [], ◌∷◌, ◌++◌, length, Option, Some, None, Result, Ok, Err}
 use Rattle.std.specs.Str.{chars}
 use Rattle.node_tree.specs.declared.view.Mode.{Mode}
 use Rattle.node_tree.specs.declared.fault.LexFault.{LexFault}
 use Rattle.node_tree.specs.declared.fault.LexFault.TheVariants.{Memory, NoTokens}
+use Rattle.lexing.specs.Mark.{past_mark, mark_len}
 use Rattle.lexing.specs.Reading.{Turn, Language, Lexes}
 use Rattle.c_lex.specs.declared.progress.Class.{Class}
 use Rattle.c_lex.specs.declared.progress.Class.TheVariants.{Name, Number, Str, Char, Op, Meta, MetaDots, Directive, Blank, LineEnd, Comment, LongComment, OpenComment}
@@ -66,15 +67,7 @@ step p number text = turn_by (word_of (class_of number) text) (class_of number) 
 abbrev pub c_language : Mode → Language Progress CToken
 c_language mode = record { rules = λ p. rules mode p.fresh; step = step; finish = λ p. Some (token words.End p.at [] ∷ []) }
 
--- one byte order mark at the start is skipped
-abbrev pub past_mark : List ℕ → List ℕ
-past_mark [] = []
-past_mark (c ∷ cs) = if c == 0xfeff then cs else c ∷ cs
-
-abbrev pub mark_len : List ℕ → ℕ
-mark_len [] = 0
-mark_len (c ∷ cs) = if c == 0xfeff then 3 else 0
-
+-- reading begins behind a byte order mark, at the start of a line
 abbrev pub first : List ℕ → Progress
 first cs = record { at = mark_len cs; fresh = true }
 

@@ -9,7 +9,7 @@ ghost use Rattle.c_lex.specs.Lexing as spec;
 use crate::progress::{Progress, keep, step};
 use crate::table::{COLUMNS, ROWS, STARTS, WIDTH};
 use crate::token::{CToken, CWord};
-use lexing::Automaton;
+use lexing::{Automaton, without_mark};
 use node_tree::{LexFault, List, Mode};
 use std::alloc::Global;
 
@@ -22,18 +22,6 @@ fn automaton(mode: Mode, fresh: bool) -> Automaton<'static>
         (Mode::Text, true) => Automaton::new(&COLUMNS, &ROWS, WIDTH, STARTS[1]),
         (Mode::Pattern, false) => Automaton::new(&COLUMNS, &ROWS, WIDTH, STARTS[2]),
         (Mode::Pattern, true) => Automaton::new(&COLUMNS, &ROWS, WIDTH, STARTS[3]),
-    }
-}
-
-/// A text without the byte order mark at its start.
-fn without_mark(text: &str) -> &str
-    ensures chars { chars result.now ≡ spec.past_mark (chars text.now) }
-    ensures len { length text.now ≡ length result.now + spec.mark_len (chars text.now) }
-{
-    let mut rest = text.chars();
-    match rest.next() {
-        Some('\u{feff}') => rest.as_str(),
-        _ => text,
     }
 }
 

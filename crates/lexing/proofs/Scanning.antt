@@ -1,9 +1,10 @@
 -- Reading from left to right finds the longest spelling.
-use Rattle.std.proofs.Common.{◌≡◌, ℕ, zero, suc, ◌+◌, ◌<◌, ◌≤◌, Bool, true, false, cond, ◌⊎◌, inl, inr, List, [], ◌∷◌, ◌++◌, length, refl, sym, ap, ◌∙◌, subst, arith, append_assoc, length-append, drop, get_or, ◌≢◌}
+use Rattle.std.proofs.Common.{◌≡◌, ℕ, zero, suc, ◌+◌, ◌<◌, ◌≤◌, Bool, true, false, cond, ◌⊎◌, inl, inr, List, [], ◌∷◌, ◌++◌, length, refl, sym, ap, ◌∙◌, subst, arith, append_assoc, length-append, drop, take, get_or, ◌≢◌}
 use Rattle.std.specs.Prelude.{if◌then◌else◌, Option, Some, None, encode_utf8_all, encode_utf8}
 use Rattle.std.specs.Char.{len_utf8}
-use Rattle.std.proofs.lemmas.Str.{encodes-append, length-encode}
-use Rattle.std.proofs.lemmas.List.{append-nil, at_drop_more, at_drop_all}
+use Rattle.std.specs.Str.{chars, IsUtf8}
+use Rattle.std.proofs.lemmas.Str.{encodes-append, encodes-chars, length-encode}
+use Rattle.std.proofs.lemmas.List.{append-nil, at_drop_more, at_drop_all, take_more, take-append-drop}
 use Rattle.std.specs.Prelude.{slice_index}
 use Rattle.lexing.specs.Rules.{symbol, Rule, Spells, BeginsWith, BeginsWithNone}
 use Rattle.lexing.specs.Automaton.{Table, step, word_at, IsWhole, accepted, Accepts, IsBest}
@@ -77,6 +78,19 @@ len_more read c len e =
     let q = length-append (encode_utf8_all read) (encode_utf8_all (c ∷ [])) in
     let r = length-append (encode_utf8 c) [] in
     omega (arith, length-encode c)
+
+-- the bytes of the characters that were read, one more, and the whole text
+pub record LenAt (text : List ℕ) (n len : ℕ) : Type 0 where
+  pub is : len ≡ length (encode_utf8_all (take n (chars text)))
+  pub within : len ≤ length text
+
+pub len_at : (text : List ℕ) (n len c k : ℕ) → IsUtf8 text → (n < length (chars text)) × (c ≡ get_or (chars text) n c) → len ≡ length (encode_utf8_all (take n (chars text))) → k ≡ len_utf8 c → LenAt text (n + 1) (len + k)
+len_at text n len c k u h e ek =
+    let cs = chars text in
+    let t : take (n + 1) cs ≡ take n cs ++ c ∷ [] = take_more cs n c h.0 ∙ ap (λ (x : ℕ). take n cs ++ x ∷ []) (sym h.1) in
+    let l : len + k ≡ length (encode_utf8_all (take (n + 1) cs)) = ap (λ (x : ℕ). len + x) ek ∙ len_more (take n cs) c len e ∙ ap (λ (x : List ℕ). length (encode_utf8_all x)) (sym t) in
+    let whole : text ≡ encode_utf8_all (take (n + 1) cs) ++ encode_utf8_all (drop (n + 1) cs) = sym (encodes-chars text u) ∙ ap encode_utf8_all (sym (take-append-drop (n + 1) cs)) ∙ encodes-append (take (n + 1) cs) (drop (n + 1) cs) in
+    record { is = l; within = omega (arith, ap length whole, length-append (encode_utf8_all (take (n + 1) cs)) (encode_utf8_all (drop (n + 1) cs))) }
 
 scan_best : (m : Table) (start : ℕ) (cs : List ℕ) (s len : ℕ) (best : Best) (read : List ℕ)
     → ((xs : List ℕ) → accepted m start (read ++ xs) ≡ accepted m s xs)

@@ -3,3 +3,4 @@ pub mod Automaton
 pub mod View
 pub mod Conditions
 pub mod Reading
+pub mod Mark

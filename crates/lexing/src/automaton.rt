@@ -82,7 +82,6 @@ impl<'m> Automaton<'m> {
 
     /// The longest spelling at the front of a text.
     fn longest(&self, text: &str) -> Best
-        requires { length text.now ≤ 1000000 }
         ensures best { IsBest (accepted self.now.table self.now.start) (chars text.now) result }
         ensures begins { IsStart self.now.table self.now.start }
     {
@@ -105,7 +104,6 @@ impl<'m> Automaton<'m> {
 
     /// The longest spelling at the front of a text, by each list of rules that the automaton accepts.
     pub fn next_piece<'t>(&self, text: &'t str) -> Option<Piece<'t>>
-        requires { length text.now ≤ 1000000 }
         ensures takes { (rules : List Rule) → Accepts self.now.table self.now.start rules → Takes rules text.now result }
         ensures utf8 { IfSome result (λ p. IsUtf8 p.text.now × IsUtf8 p.rest.now) }
     {

@@ -2,5 +2,10 @@
 #![tactic(auto)]
 
 mod automaton;
+mod mark;
 
 pub use automaton::{Automaton, Piece};
+pub use mark::without_mark;
+
+#[cfg(test)]
+mod tests;

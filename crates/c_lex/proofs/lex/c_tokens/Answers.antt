@@ -3,10 +3,11 @@ use Rattle.std.specs.Prelude.{Option, None, Err}
 use Rattle.std.specs.Str.{chars}
 use Rattle.std.proofs.lemmas.Result.{err_from_is_err_and}
 use Rattle.lexing.specs.Reading.{Turn}
+use Rattle.lexing.specs.Mark.{past_mark, mark_len}
 use Rattle.lexing.proofs.Languages.{IsAt, begins, turned, barred, none_left, given, only}
 use Rattle.node_tree.specs.declared.fault.LexFault.{LexFault}
 use Rattle.node_tree.specs.declared.fault.LexFault.TheVariants.{Memory, NoTokens}
-use Rattle.c_lex.specs.Lexing.{c_language, first, past_mark, mark_len, Turns, Gives}
+use Rattle.c_lex.specs.Lexing.{c_language, first, Turns, Gives}
 use Rattle.c_lex.specs.declared.progress.Progress.{Progress}
 use Rattle.c_lex.specs.declared.token.CToken.{CToken}
 use Rattle.c_lex.proofs.lex.c_tokens.Goals as goal

@@ -2,8 +2,8 @@ use Rattle.std.proofs.Common.{◌≡◌, ◌+◌, ℕ, List, ◌∷◌, ◌++◌
 use Rattle.std.specs.Prelude.{encode_utf8}
 use Rattle.std.specs.Str.{IsUtf8, chars}
 use Rattle.std.proofs.lemmas.Str.{chars_past_char, length-encode}
-use Rattle.c_lex.specs.Lexing.{past_mark, mark_len}
-use Rattle.c_lex.proofs.lex.without_mark.Goals as goal
+use Rattle.lexing.specs.Mark.{past_mark, mark_len}
+use Rattle.lexing.proofs.mark.without_mark.Goals as goal
 
 marked_chars : (text rest : List ℕ) (c : ℕ) → IsUtf8 text → text ≡ encode_utf8 c ++ rest → c ≡ 0xfeff → chars rest ≡ past_mark (chars text)
 marked_chars text rest c u e m = sym (ap past_mark (chars_past_char text rest c u e) ∙ ap (λ (x : ℕ). past_mark (x ∷ chars rest)) m)
