@@ -1,6 +1,6 @@
 -- Made by tools/make_table.py c_lex Tokens 'rules Text false' 'rules Text true' 'rules Pattern false' 'rules Pattern true': do not edit.
 -- What is left to read in each state of the automaton; so it accepts what the rules spell.
-use Rattle.std.proofs.Common.{◌≡◌, ℕ, Bool, true, false, List, [], ◌∷◌, ◌++◌, refl, leb-true}
+use Rattle.std.proofs.Common.{◌≡◌, ℕ, true, false, List, [], ◌∷◌, ◌++◌, refl, leb-true}
 use Rattle.lexing.specs.Automaton.{Table, IsWhole, IsSound, Accepts}
 use Rattle.lexing.proofs.Certificate.{Entry, rows_right, row_right, rows_append, certified}
 use Rattle.lexing.proofs.Whole.{is_whole, whole}

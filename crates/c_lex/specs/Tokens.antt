@@ -1,5 +1,5 @@
 -- The tokens of C and the parts between them, as regular expressions.
-use Rattle.std.specs.Prelude.{ℕ, Bool, List, [], ◌∷◌, ◌++◌, codes, if◌then◌else◌, map}
+use Rattle.std.specs.Prelude.{Bool, List, [], ◌∷◌, ◌++◌, codes, if◌then◌else◌, map}
 use Rattle.node_tree.specs.declared.view.Mode.{Mode}
 use Rattle.node_tree.specs.declared.view.Mode.TheVariants.{Text, Pattern}
 use Rattle.lexing.specs.Rules.{To, digits, capitals, underscore, small_letters, other_starts, other_continues, Expression, OneOf, Then, Or, Many, the, but, exactly, maybe, some, any_of, in_order, Rule}

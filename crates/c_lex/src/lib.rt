@@ -9,3 +9,6 @@ mod token;
 
 pub use lex::c_tokens;
 pub use token::{CToken, CWord};
+
+#[cfg(test)]
+mod tests;

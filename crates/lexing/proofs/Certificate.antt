@@ -1,9 +1,9 @@
 -- A table of states with what is left to read in each, checked by computing: the automaton then accepts the rules' spellings.
-use Rattle.std.proofs.Common.{◌≡◌, ℕ, zero, suc, ◌+◌, ◌<◌, ◌≤◌, Bool, true, false, cond, ◌&&◌, ◌||◌, ◌==◌, ◌⊎◌, inl, inr, List, [], ◌∷◌, ◌++◌, length, refl, sym, ap, ◌∙◌, subst, arith, eqb-true, eq-eqb, nat_lt}
+use Rattle.std.proofs.Common.{◌≡◌, ℕ, zero, suc, ◌<◌, Bool, true, false, ◌&&◌, ◌||◌, ◌==◌, ◌⊎◌, inl, inr, List, [], ◌∷◌, ◌++◌, refl, sym, ap, ◌∙◌, subst, arith, eqb-true}
 use Rattle.std.specs.Prelude.{if◌then◌else◌, Option, Some, None}
 use Rattle.std.proofs.lemmas.Bool.{and_parts}
 use Rattle.std.proofs.lemmas.Bool.Decides.{nat_tests}
-use Rattle.lexing.specs.Rules.{symbol, Range, To, among, Expression, Never, Empty, OneOf, Then, Or, Many, Matches, Rule, Spells}
+use Rattle.lexing.specs.Rules.{symbol, Range, To, Expression, Never, Empty, OneOf, Then, Or, Many, Matches, Rule, Spells}
 use Rattle.lexing.specs.Automaton.{Table, step, word_at, accepted, Accepts}
 use Rattle.lexing.proofs.Derivatives.{nullable, left_of, SomeMatches, nullable_sound, nullable_complete, left_sound, left_complete}
 

@@ -1,12 +1,12 @@
 -- The longest spelling that meets a condition: where the longest does not meet it, leave its word out and look again.
-use Rattle.std.proofs.Common.{◌≡◌, ◌≢◌, ℕ, zero, suc, ◌+◌, ◌<◌, ◌≤◌, Bool, true, false, ◌&&◌, ◌||◌, ◌==◌, ◌⊎◌, inl, inr, List, [], ◌∷◌, ◌++◌, length, refl, sym, ap, ◌∙◌, subst, arith, eqb-true, eq-eqb}
-use Rattle.std.specs.Prelude.{if◌then◌else◌, Option, Some, None}
+use Rattle.std.proofs.Common.{◌≡◌, ◌≢◌, ℕ, ◌≤◌, Bool, true, false, ◌&&◌, ◌||◌, ◌==◌, inl, inr, List, [], ◌∷◌, ◌++◌, length, refl, sym, ap, ◌∙◌, subst, arith, eqb-true, eq-eqb}
+use Rattle.std.specs.Prelude.{if◌then◌else◌, Some}
 use Rattle.std.proofs.lemmas.Bool.{and_parts}
-use Rattle.lexing.specs.Rules.{symbol, Expression, Never, Empty, OneOf, Then, Or, Many, Matches, Rule, Spells, BeginsWith, BeginsWithNone}
+use Rattle.lexing.specs.Rules.{symbol, Expression, Empty, Matches, Rule, Spells, BeginsWith, BeginsWithNone}
 use Rattle.lexing.specs.Automaton.{Table, step}
 use Rattle.lexing.specs.Conditions.{BeginsWithSuch, BeginsWithNoneSuch, without, IsPrefixFree}
 use Rattle.lexing.proofs.Derivatives.{nullable, nullable_complete}
-use Rattle.lexing.proofs.Certificate.{Entry, find, rows_right, same, same_is, after, after_complete, within_right, found_right, row_next, Follows, symbol_few}
+use Rattle.lexing.proofs.Certificate.{Entry, find, rows_right, same, same_is, after, after_complete, within_right, found_right, row_next, symbol_few}
 
 -- ---- rules without a word
 

@@ -1,12 +1,11 @@
 -- What a scanner cites: the tokens of a text that was read up to a place.
-use Rattle.std.proofs.Common.{◌≡◌, ℕ, Bool, true, false, ◌==◌, List, [], ◌∷◌, ◌++◌, length, refl, sym, ap, ◌∙◌, subst, arith, eqb-true}
-use Rattle.std.specs.Prelude.{encode_utf8_all, Option, Some, None}
+use Rattle.std.proofs.Common.{◌≡◌, ℕ, true, false, ◌==◌, List, [], ◌∷◌, ◌++◌, length, refl, sym, ap, ◌∙◌, subst, arith, eqb-true}
+use Rattle.std.specs.Prelude.{encode_utf8_all, Some, None}
 use Rattle.std.specs.Str.{chars, IsUtf8}
 use Rattle.std.proofs.lemmas.Str.{encodes-chars}
-use Rattle.lexing.specs.Rules.{Rule, Spells, BeginsWith, BeginsWithNone, IsSharp}
+use Rattle.lexing.specs.Rules.{BeginsWithNone}
 use Rattle.lexing.specs.Automaton.{IsPiece}
-use Rattle.lexing.specs.Conditions.{BeginsWithSuch}
-use Rattle.lexing.specs.Reading.{Turn, Reader, Language, reader, is_end, HasTokens, Lexes}
+use Rattle.lexing.specs.Reading.{Turn, Language, reader, is_end, HasTokens, Lexes}
 use Rattle.lexing.proofs.Conditions.{such_here, none_here}
 use Rattle.lexing.proofs.Reading.{Goes, HasOneTurn, starts, goes_on, no_piece, stuck, ended, at_end}
 

@@ -1,11 +1,11 @@
 -- A piece of a text, from the longest accepted front of its characters.
-use Rattle.std.proofs.Common.{◌≡◌, ◌≢◌, ℕ, zero, suc, ◌+◌, ◌-◌, ◌<◌, ◌≤◌, Bool, true, false, ◌&&◌, List, [], ◌∷◌, ◌++◌, length, take, drop, refl, sym, ap, ◌∙◌, subst, arith, length-append}
-use Rattle.std.specs.Prelude.{encode_utf8_all, encode_utf8}
+use Rattle.std.proofs.Common.{◌≡◌, ◌≢◌, ℕ, suc, ◌-◌, ◌<◌, ◌≤◌, Bool, true, false, ◌&&◌, List, [], ◌∷◌, ◌++◌, length, take, drop, refl, sym, ap, ◌∙◌, subst, arith}
+use Rattle.std.specs.Prelude.{encode_utf8_all}
 use Rattle.std.specs.Str.{IsUtf8, IsCharBoundary, chars, all_scalars}
 use Rattle.std.proofs.lemmas.Bool.{and_parts}
 use Rattle.std.proofs.lemmas.Str.{encodes-append, encodes-chars, scalars-chars, chars-encodes, IsCharBoundary-at_seam, length-le-encodes}
 use Rattle.std.proofs.Math.Seq.{take-append_seam, drop-append_seam}
-use Rattle.lexing.specs.Rules.{Rule, Spells, BeginsWith, BeginsWithNone, IsSharp}
+use Rattle.lexing.specs.Rules.{Rule, Spells, BeginsWithNone, IsSharp}
 use Rattle.lexing.specs.Automaton.{Table, accepted, word_at, Accepts, IsBest, IsPiece}
 use Rattle.lexing.specs.declared.automaton.Best.{Best}
 

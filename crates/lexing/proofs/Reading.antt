@@ -1,5 +1,5 @@
 -- Reading lexeme after lexeme: what was read and what is left decide all the tokens that the characters have.
-use Rattle.std.proofs.Common.{◌≡◌, ◌≢◌, ℕ, ◌+◌, ◌<◌, ◌≤◌, Bool, true, false, List, [], ◌∷◌, ◌++◌, length, refl, sym, ap, ◌∙◌, subst, arith, append_assoc}
+use Rattle.std.proofs.Common.{◌≡◌, ℕ, true, false, List, [], ◌∷◌, ◌++◌, length, refl, sym, ap, ◌∙◌, subst, arith, append_assoc}
 use Rattle.lexing.specs.Rules.{Rule, Spells, IsSharp}
 use Rattle.lexing.specs.Conditions.{BeginsWithSuch, BeginsWithNoneSuch}
 use Rattle.lexing.specs.Reading.{Lexeme, Turn, Reader, Reads, HasTokens}

@@ -1,13 +1,13 @@
 -- Reading from left to right finds the longest spelling.
-use Rattle.std.proofs.Common.{◌≡◌, ℕ, zero, suc, ◌+◌, ◌<◌, ◌≤◌, Bool, true, false, cond, ◌⊎◌, inl, inr, List, [], ◌∷◌, ◌++◌, length, refl, sym, ap, ◌∙◌, subst, arith, append_assoc, length-append, drop, take, get_or, ◌≢◌}
-use Rattle.std.specs.Prelude.{if◌then◌else◌, Option, Some, None, encode_utf8_all, encode_utf8}
+use Rattle.std.proofs.Common.{◌≡◌, ℕ, zero, suc, ◌+◌, ◌<◌, ◌≤◌, ◌⊎◌, inl, inr, List, [], ◌∷◌, ◌++◌, length, refl, sym, ap, ◌∙◌, subst, arith, append_assoc, length-append, drop, take, get_or, ◌≢◌}
+use Rattle.std.specs.Prelude.{encode_utf8_all, encode_utf8}
 use Rattle.std.specs.Char.{len_utf8}
 use Rattle.std.specs.Str.{chars, IsUtf8}
 use Rattle.std.proofs.lemmas.Str.{encodes-append, encodes-chars, length-encode}
 use Rattle.std.proofs.lemmas.List.{append-nil, at_drop_more, at_drop_all, take_more, take-append-drop}
 use Rattle.std.specs.Prelude.{slice_index}
-use Rattle.lexing.specs.Rules.{symbol, Rule, Spells, BeginsWith, BeginsWithNone}
-use Rattle.lexing.specs.Automaton.{Table, step, word_at, IsWhole, accepted, Accepts, IsBest}
+use Rattle.lexing.specs.Rules.{symbol}
+use Rattle.lexing.specs.Automaton.{Table, step, word_at, IsWhole, accepted, IsBest}
 use Rattle.lexing.specs.declared.automaton.Best.{Best}
 
 -- the later of two places where the automaton accepts

@@ -1,5 +1,5 @@
 -- An automaton that reads characters. A state is the place of its row; a row has the word that the state accepts, plus 1, or 0, and then the next state for each column.
-use Rattle.std.specs.Prelude.{◌≡◌, ℕ, zero, suc, ◌+◌, ◌≤◌, ◌<◌, List, [], ◌∷◌, ◌++◌, length, slice_index, encode_utf8_all, Option, Some, None}
+use Rattle.std.specs.Prelude.{◌≡◌, ℕ, suc, ◌+◌, ◌≤◌, ◌<◌, List, [], ◌∷◌, ◌++◌, length, slice_index, encode_utf8_all, Option, Some, None}
 use Rattle.std.specs.Str.{chars}
 use Rattle.lexing.specs.declared.automaton.Best.{Best}
 use Rattle.lexing.specs.declared.automaton.Piece.{Piece}

@@ -1,5 +1,5 @@
 -- The longest spelling that meets a condition, for words whose spellings an automaton cannot tell alone.
-use Rattle.std.specs.Prelude.{◌≡◌, ℕ, ◌≤◌, Bool, ◌==◌, if◌then◌else◌, List, [], ◌∷◌, ◌++◌, length}
+use Rattle.std.specs.Prelude.{◌≡◌, ℕ, ◌≤◌, ◌==◌, if◌then◌else◌, List, [], ◌∷◌, ◌++◌, length}
 use Rattle.lexing.specs.Rules.{Rule, Spells}
 
 -- the text begins with a spelling that meets the condition, and with no longer one that does

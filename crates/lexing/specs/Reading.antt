@@ -1,5 +1,5 @@
 -- Characters read lexeme after lexeme, with a state: the state says which rules hold, and each lexeme gives tokens.
-use Rattle.std.specs.Prelude.{◌≡◌, ℕ, Bool, true, false, List, [], ◌∷◌, ◌++◌, encode_utf8_all, Option, Some, None}
+use Rattle.std.specs.Prelude.{◌≡◌, ℕ, Bool, true, false, List, [], ◌∷◌, ◌++◌, encode_utf8_all, Option, Some}
 use Rattle.lexing.specs.Rules.{Rule}
 use Rattle.lexing.specs.Conditions.{BeginsWithSuch}
 

@@ -1,5 +1,5 @@
 -- What an automaton is, without where its table lies in memory.
-use Rattle.lexing.specs.Automaton.{Table, Started}
+use Rattle.lexing.specs.Automaton.{Started}
 use Rattle.lexing.specs.declared.automaton.Automaton.TheInside.{Inside}
 
 abbrev pub started : Inside → Started

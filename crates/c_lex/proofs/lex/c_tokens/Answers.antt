@@ -1,4 +1,4 @@
-use Rattle.std.proofs.Common.{◌≡◌, ℕ, ◌-◌, length, ap, ◌∙◌, sym, subst, arith, length-append, true, refl, List}
+use Rattle.std.proofs.Common.{◌≡◌, ℕ, ◌-◌, length, ap, subst, arith, length-append, true, refl, List}
 use Rattle.std.specs.Prelude.{Option, None, Err}
 use Rattle.std.specs.Str.{chars}
 use Rattle.std.proofs.lemmas.Result.{err_from_is_err_and}

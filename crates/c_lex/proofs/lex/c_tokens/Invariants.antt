@@ -1,6 +1,6 @@
 use Rattle.std.proofs.Common.{◌≡◌, ◌+◌, length}
 use Rattle.std.specs.Str.{chars}
-use Rattle.lexing.specs.Mark.{past_mark, mark_len}
+use Rattle.lexing.specs.Mark.{past_mark}
 use Rattle.lexing.proofs.Languages.{IsAt}
 use Rattle.c_lex.specs.Lexing.{c_language, first}
 use Rattle.c_lex.proofs.lex.c_tokens.Given as goal

@@ -1,5 +1,5 @@
 use Rattle.std.proofs.Common.{refl, leb-true}
-use Rattle.lexing.specs.Automaton.{Table, IsWhole}
+use Rattle.lexing.specs.Automaton.{IsWhole}
 use Rattle.lexing.specs.declared.tests.TheConstants.{COLUMNS, ROWS}
 use Rattle.lexing.proofs.Whole.{is_whole, whole}
 use Rattle.lexing.proofs.tests.numbers.Goals as goal

@@ -1,4 +1,4 @@
-use Rattle.std.proofs.Common.{◌≡◌, ℕ, ◌≤◌, ◌<◌, length, List, ◌+◌, drop, take}
+use Rattle.std.proofs.Common.{◌≡◌, ◌≤◌, length, ◌+◌, drop, take}
 use Rattle.std.specs.Prelude.{encode_utf8_all}
 use Rattle.std.specs.Str.{chars}
 use Rattle.lexing.proofs.Scanning.{scan}
