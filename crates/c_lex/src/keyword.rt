@@ -1,7 +1,9 @@
 //! The keywords of C.
 
-ghost use Rattle.std.specs.Prelude.{◌≡◌, map};
+ghost use Rattle.std.specs.Prelude.{◌≡◌};
 ghost use Rattle.c_lex.specs.Keywords as spec;
+
+use lexing::is_among;
 
 const KEYWORDS: [&[u8]; 37] = [
     b"auto",
@@ -42,18 +44,6 @@ const KEYWORDS: [&[u8]; 37] = [
     b"_Complex",
     b"_Noreturn",
 ];
-
-fn is_among(mut table: &[&[u8]], text: &[u8]) -> bool
-    ensures { result ≡ spec.is_among (map (λ k. k.now) table.entry.now) text.now }
-{
-    while let [word, rest @ ..] = table {
-        if *word == text {
-            return true;
-        }
-        table = rest;
-    }
-    false
-}
 
 /// Whether a name is a keyword.
 pub fn is_keyword(text: &str) -> bool

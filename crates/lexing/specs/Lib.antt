@@ -4,3 +4,4 @@ pub mod View
 pub mod Conditions
 pub mod Reading
 pub mod Mark
+pub mod WordList
