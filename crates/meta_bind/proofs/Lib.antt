@@ -1,0 +1,4 @@
+pub mod Lookups
+pub mod Places
+pub mod Names
+pub mod BindingOrder

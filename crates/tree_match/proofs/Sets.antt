@@ -1,0 +1,68 @@
+-- Sets that loops gather.
+use Rattle.std.proofs.Common.{◌≡◌, ◌⊎◌, inl, inr, ◌↔◌, List, [], ◌∷◌, ◌++◌, refl, sym, ap, ◌∙◌, subst}
+use Rattle.tree_match.specs.Relation.{Among, Adds}
+
+module _ (A B X L Matches W : Type 0) where
+  -- what was gathered and what is left are the whole, once more is gathered
+  pub gathered : (B ↔ (A ⊎ X)) → (L ↔ (X ⊎ Matches)) → ((A ⊎ L) ↔ W) → ((B ⊎ Matches) ↔ W)
+  gathered more split all = (
+    λ h. elim h [
+      | inl b ↦ elim (more.0 b) [ inl a ↦ all.0 (inl a) | inr x ↦ all.0 (inr (split.1 (inl x))) ]
+      | inr m ↦ all.0 (inr (split.1 (inr m)))
+    ],
+    λ w. elim (all.1 w) [
+      | inl a ↦ inl (more.1 (inl a))
+      | inr l ↦ elim (split.0 l) [ inl x ↦ inl (more.1 (inr x)) | inr m ↦ inr m ]
+    ],
+  )
+
+pub gathered_all : (A L W : Type 0) → (L → ⊥) → ((A ⊎ L) ↔ W) → (A ↔ W)
+gathered_all A L W none all = (λ a. all.0 (inl a), λ w. elim (all.1 w) [ inl a ↦ a | inr l ↦ absurd (none l) ])
+
+pub same_set : (A : Type 0) → A ↔ A
+same_set A = (λ a. a, λ a. a)
+
+module _ {X : Type 0} where
+  among_left : (xs : List X) (y x : X) → Among xs x → Among (xs ++ y ∷ []) x
+  among_left [] y x h = absurd h
+  among_left (z ∷ zs) y x (inl e) = inl e
+  among_left (z ∷ zs) y x (inr h) = inr (among_left zs y x h)
+
+  among_last : (xs : List X) (y x : X) → y ≡ x → Among (xs ++ y ∷ []) x
+  among_last [] y x e = inl e
+  among_last (z ∷ zs) y x e = inr (among_last zs y x e)
+
+  among_cases : (xs : List X) (y x : X) → Among (xs ++ y ∷ []) x → Among xs x ⊎ (y ≡ x)
+  among_cases [] y x (inl e) = inr e
+  among_cases [] y x (inr h) = absurd h
+  among_cases (z ∷ zs) y x (inl e) = inl (inl e)
+  among_cases (z ∷ zs) y x (inr h) = elim (among_cases zs y x h) [ inl a ↦ inl (inr a) | inr e ↦ inr e ]
+
+  pub among_more : (xs : List X) (y x : X) → Among (xs ++ y ∷ []) x ↔ (Among xs x ⊎ (y ≡ x))
+  among_more xs y x = (among_cases xs y x, λ h. elim h [ inl a ↦ among_left xs y x a | inr e ↦ among_last xs y x e ])
+
+  -- an item is put at the end
+  pub pushed : (old new : List X) (y : X) → new ≡ old ++ y ∷ [] → Adds old new (λ x. y ≡ x)
+  pushed old new y e x = let P : List X → Type 0 = λ xs. Among xs x ↔ (Among old x ⊎ (y ≡ x)) in subst P (sym e) (among_more old y x)
+
+-- the same set, said otherwise
+pub adds_as : {X : Type 0} (old new : List X) (P Q : X → Type 0) → Adds old new P → ((x : X) → P x ↔ Q x) → Adds old new Q
+adds_as old new P Q adds same x = (
+  λ a. elim ((adds x).0 a) [ inl o ↦ inl o | inr p ↦ inr ((same x).0 p) ],
+  λ a. elim a [ inl o ↦ (adds x).1 (inl o) | inr q ↦ (adds x).1 (inr ((same x).1 q)) ],
+)
+
+pub adds_none : {X : Type 0} (old : List X) (P : X → Type 0) → ((x : X) → P x → ⊥) → Adds old old P
+adds_none old P none x = (λ a. inl a, λ a. elim a [ inl o ↦ o | inr p ↦ absurd (none x p) ])
+
+pub plus_as : (A B P Q : Type 0) → (B ↔ (A ⊎ P)) → (P ↔ Q) → (B ↔ (A ⊎ Q))
+plus_as A B P Q more same = (
+  λ b. elim (more.0 b) [ inl a ↦ inl a | inr p ↦ inr (same.0 p) ],
+  λ x. elim x [ inl a ↦ more.1 (inl a) | inr q ↦ more.1 (inr (same.1 q)) ],
+)
+
+pub plus_none : (A P : Type 0) → (P → ⊥) → (A ↔ (A ⊎ P))
+plus_none A P none = (λ a. inl a, λ x. elim x [ inl a ↦ a | inr p ↦ absurd (none p) ])
+
+pub chain : (A B C : Type 0) → (A ↔ B) → (B ↔ C) → (A ↔ C)
+chain A B C f g = (λ a. g.0 (f.0 a), λ c. f.1 (g.1 c))
