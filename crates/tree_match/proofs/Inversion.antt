@@ -8,7 +8,9 @@ use Rattle.node_tree.specs.Tree.{kind_of, text_of, kids_of, pre_of}
 use Rattle.meta_bind.specs.declared.bound.Bound.{Bound}
 use Rattle.tree_match.specs.declared.class.Role.{Role}
 use Rattle.tree_match.specs.declared.class.Role.TheVariants as roles
-use Rattle.tree_match.specs.Relation.{Among, Matches, MatchesKids, MatchesList, in_order, same_node, wildcard, metavariable, any_string, deep, both_empty, head_and_rest, dots, named_dots, Binds, role_of, is_term, is_expression, IsString, wild, IsOne}
+use Rattle.tree_match.specs.Sets.{Among}
+use Rattle.tree_match.specs.Kinds.{role_of, is_term, is_expression, IsOne}
+use Rattle.tree_match.specs.Relation.{Matches, MatchesKids, MatchesList, in_order, same_node, wildcard, metavariable, some_string, deep, both_empty, head_and_rest, dots, named_dots, Binds, IsString, wild}
 use Rattle.tree_match.specs.Fronts.{End, Leads, MatchesFront, no_pattern_front, head_front, dots_front, named_dots_front}
 use Rattle.tree_match.specs.States.{Goes, Runs, Heads}
 
@@ -22,21 +24,21 @@ module _ (p n : Node) (b : List Bound) (role : role_of (kind_of p) ≡ roles.Pla
       to c (same_node _ _ _ x) = x
       to _ (wildcard r _ _) = absurd (let e = sym role ∙ r in cc)
       to c (metavariable r _ _ _) = absurd (let e = sym role ∙ r in cc)
-      to _ (any_string r _) = absurd (let e = sym role ∙ r in cc)
+      to _ (some_string r _) = absurd (let e = sym role ∙ r in cc)
       to c (deep _ _ r _ _ _ _) = absurd (let e = sym role ∙ r in cc)
 
   pub plain_kinds : (c : List Bound) → Matches p n b c → kind_of p ≡ kind_of n
   plain_kinds c (same_node _ k _ x) = k
   plain_kinds _ (wildcard r _ _) = absurd (let e = sym role ∙ r in cc)
   plain_kinds c (metavariable r _ _ _) = absurd (let e = sym role ∙ r in cc)
-  plain_kinds _ (any_string r _) = absurd (let e = sym role ∙ r in cc)
+  plain_kinds _ (some_string r _) = absurd (let e = sym role ∙ r in cc)
   plain_kinds c (deep _ _ r _ _ _ _) = absurd (let e = sym role ∙ r in cc)
 
   pub plain_texts : (c : List Bound) → Matches p n b c → text_of p ≡ text_of n
   plain_texts c (same_node _ _ t x) = t
   plain_texts _ (wildcard r _ _) = absurd (let e = sym role ∙ r in cc)
   plain_texts c (metavariable r _ _ _) = absurd (let e = sym role ∙ r in cc)
-  plain_texts _ (any_string r _) = absurd (let e = sym role ∙ r in cc)
+  plain_texts _ (some_string r _) = absurd (let e = sym role ∙ r in cc)
   plain_texts c (deep _ _ r _ _ _ _) = absurd (let e = sym role ∙ r in cc)
 
 module _ (p n : Node) (b : List Bound) (role : role_of (kind_of p) ≡ roles.Meta) where
@@ -44,7 +46,7 @@ module _ (p n : Node) (b : List Bound) (role : role_of (kind_of p) ≡ roles.Met
   meta_terms c (same_node r _ _ _) = absurd (let e = sym role ∙ r in cc)
   meta_terms _ (wildcard _ _ t) = t
   meta_terms c (metavariable _ _ t _) = t
-  meta_terms _ (any_string r _) = absurd (let e = sym role ∙ r in cc)
+  meta_terms _ (some_string r _) = absurd (let e = sym role ∙ r in cc)
   meta_terms c (deep _ _ r _ _ _ _) = absurd (let e = sym role ∙ r in cc)
 
   pub meta_wild : text_of p ≡ wild → is_term (kind_of n) ≡ true → (t c : List Bound) → t ≡ b → (t ≡ c) ↔ Matches p n b c
@@ -54,7 +56,7 @@ module _ (p n : Node) (b : List Bound) (role : role_of (kind_of p) ≡ roles.Met
       to c (same_node r _ _ _) = absurd (let e = sym role ∙ r in cc)
       to _ (wildcard _ _ _) = refl
       to c (metavariable _ ne _ _) = absurd (ne text)
-      to _ (any_string r _) = absurd (let e = sym role ∙ r in cc)
+      to _ (some_string r _) = absurd (let e = sym role ∙ r in cc)
       to c (deep _ _ r _ _ _ _) = absurd (let e = sym role ∙ r in cc)
 
   pub meta_named : text_of p ≢ wild → is_term (kind_of n) ≡ true → (c : List Bound) → Binds n (text_of p) (n ∷ []) b c ↔ Matches p n b c
@@ -64,25 +66,25 @@ module _ (p n : Node) (b : List Bound) (role : role_of (kind_of p) ≡ roles.Met
       to c (same_node r _ _ _) = absurd (let e = sym role ∙ r in cc)
       to _ (wildcard _ is _) = absurd (text is)
       to c (metavariable _ _ _ x) = x
-      to _ (any_string r _) = absurd (let e = sym role ∙ r in cc)
+      to _ (some_string r _) = absurd (let e = sym role ∙ r in cc)
       to c (deep _ _ r _ _ _ _) = absurd (let e = sym role ∙ r in cc)
 
 module _ (p n : Node) (b : List Bound) (role : role_of (kind_of p) ≡ roles.StrAny) where
   pub any_string : IsString n → (t c : List Bound) → t ≡ b → (t ≡ c) ↔ Matches p n b c
-  any_string is t c t-is = (λ e. let P : List Bound → Type 0 = λ d. Matches p n b d in subst P (sym t-is ∙ e) (any_string role is), λ x. t-is ∙ to c x)
+  any_string is t c t-is = (λ e. let P : List Bound → Type 0 = λ d. Matches p n b d in subst P (sym t-is ∙ e) (some_string role is), λ x. t-is ∙ to c x)
     where
       to : (c : List Bound) → Matches p n b c → b ≡ c
       to c (same_node r _ _ _) = absurd (let e = sym role ∙ r in cc)
       to _ (wildcard r _ _) = absurd (let e = sym role ∙ r in cc)
       to c (metavariable r _ _ _) = absurd (let e = sym role ∙ r in cc)
-      to _ (any_string _ _) = refl
+      to _ (some_string _ _) = refl
       to c (deep _ _ r _ _ _ _) = absurd (let e = sym role ∙ r in cc)
 
   pub any_strings : (c : List Bound) → Matches p n b c → IsString n
   any_strings c (same_node r _ _ _) = absurd (let e = sym role ∙ r in cc)
   any_strings _ (wildcard r _ _) = absurd (let e = sym role ∙ r in cc)
   any_strings c (metavariable r _ _ _) = absurd (let e = sym role ∙ r in cc)
-  any_strings _ (any_string _ is) = is
+  any_strings _ (some_string _ is) = is
   any_strings c (deep _ _ r _ _ _ _) = absurd (let e = sym role ∙ r in cc)
 
 -- some node of a list matches
@@ -97,21 +99,21 @@ module _ (p n : Node) (b : List Bound) (role : role_of (kind_of p) ≡ roles.Dee
       to c (same_node r _ _ _) = absurd (let e = sym role ∙ r in cc)
       to _ (wildcard r _ _) = absurd (let e = sym role ∙ r in cc)
       to c (metavariable r _ _ _) = absurd (let e = sym role ∙ r in cc)
-      to _ (any_string r _) = absurd (let e = sym role ∙ r in cc)
+      to _ (some_string r _) = absurd (let e = sym role ∙ r in cc)
       to c (deep q' m _ is _ among x) = let e : q' ≡ q = (let f = sym is ∙ one in cc) in let P : Node → Type 0 = λ y. Matches y m b c in (m, among, subst P e x)
 
   pub deep_one : (c : List Bound) → Matches p n b c → length (kids_of p) ≡ 1
   deep_one c (same_node r _ _ _) = absurd (let e = sym role ∙ r in cc)
   deep_one _ (wildcard r _ _) = absurd (let e = sym role ∙ r in cc)
   deep_one c (metavariable r _ _ _) = absurd (let e = sym role ∙ r in cc)
-  deep_one _ (any_string r _) = absurd (let e = sym role ∙ r in cc)
+  deep_one _ (some_string r _) = absurd (let e = sym role ∙ r in cc)
   deep_one c (deep q' m _ is _ among x) = ap length is
 
   pub deep_expression : (c : List Bound) → Matches p n b c → is_expression (kind_of n) ≡ true
   deep_expression c (same_node r _ _ _) = absurd (let e = sym role ∙ r in cc)
   deep_expression _ (wildcard r _ _) = absurd (let e = sym role ∙ r in cc)
   deep_expression c (metavariable r _ _ _) = absurd (let e = sym role ∙ r in cc)
-  deep_expression _ (any_string r _) = absurd (let e = sym role ∙ r in cc)
+  deep_expression _ (some_string r _) = absurd (let e = sym role ∙ r in cc)
   deep_expression c (deep q' m _ is ex among x) = ex
 
 -- a pattern that matches no node by itself
@@ -119,7 +121,7 @@ pub no_one : (p n : Node) (b c : List Bound) → Matches p n b c → IsOne (role
 no_one p n b c (same_node r _ _ _) = let P : Role → Type 0 = IsOne in subst P (sym r) tt
 no_one p n b _ (wildcard r _ _) = let P : Role → Type 0 = IsOne in subst P (sym r) tt
 no_one p n b c (metavariable r _ _ _) = let P : Role → Type 0 = IsOne in subst P (sym r) tt
-no_one p n b _ (any_string r _) = let P : Role → Type 0 = IsOne in subst P (sym r) tt
+no_one p n b _ (some_string r _) = let P : Role → Type 0 = IsOne in subst P (sym r) tt
 no_one p n b c (deep _ _ r _ _ _ _) = let P : Role → Type 0 = IsOne in subst P (sym r) tt
 
 pub no_dots : (p n : Node) (b c : List Bound) → role_of (kind_of p) ≡ roles.Dots → Matches p n b c → ⊥

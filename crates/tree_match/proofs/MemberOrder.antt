@@ -12,8 +12,8 @@ use Rattle.node_tree.proofs.Orders.{IsOrder, nat_order, lists_order, span_order,
 use Rattle.meta_bind.specs.declared.bound.Bound.{Bound}
 use Rattle.meta_bind.specs.Bounds.{binding_cmp}
 use Rattle.meta_bind.proofs.BindingOrder.{binding_order}
-use Rattle.tree_match.specs.Relation.{Among}
-use Rattle.tree_match.specs.Leaf.{Member, member_cmp, MemberAt, MemberIn}
+use Rattle.tree_match.specs.Sets.{Among}
+use Rattle.tree_match.specs.Members.{Member, member_cmp, MemberAt, MemberIn}
 use Rattle.tree_match.proofs.Sets.{among_more}
 use Rattle.tree_match.proofs.Ascents.{among_reverse}
 

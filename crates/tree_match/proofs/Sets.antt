@@ -1,6 +1,6 @@
 -- Sets that loops gather.
 use Rattle.std.proofs.Common.{◌≡◌, ◌⊎◌, inl, inr, ◌↔◌, List, [], ◌∷◌, ◌++◌, refl, sym, ap, ◌∙◌, subst}
-use Rattle.tree_match.specs.Relation.{Among, Adds}
+use Rattle.tree_match.specs.Sets.{Among, Adds}
 
 module _ (A B X L Matches W : Type 0) where
   -- what was gathered and what is left are the whole, once more is gathered

@@ -4,7 +4,8 @@ use Rattle.node_tree.specs.declared.node.Node.{Node}
 use Rattle.node_tree.specs.Tree.{kids_of, text_of, span_of, content_of}
 use Rattle.meta_bind.specs.declared.bound.Bound.{Bound}
 use Rattle.tree_match.specs.declared.state.State.{State}
-use Rattle.tree_match.specs.Relation.{Among, Adds, Matches, MatchesList, both_empty, head_and_rest, dots, named_dots, Binds, fresh, again, bound_by, run_span, end_of}
+use Rattle.tree_match.specs.Sets.{Among, Adds}
+use Rattle.tree_match.specs.Relation.{Matches, MatchesList, both_empty, head_and_rest, dots, named_dots, Binds, fresh, again, bound_by, run_span, end_of}
 use Rattle.tree_match.specs.Fronts.{End, Leads, MatchesFront, no_pattern_front, head_front, dots_front, named_dots_front}
 use Rattle.tree_match.proofs.FrontLaws.{whole_front}
 use Rattle.tree_match.specs.States.{AnyFrom, AddsFrom, From, Goes, Runs, RunOf, Entered, Heads, IsCovered}
@@ -211,19 +212,18 @@ entered_heads h q ps kids at kid old found b c e lt is none adds =
     )
 
 -- the one state that a list of kids begins with
-pub begins : (h : Node) (ps : List Node) (old new : List State) (s : State) (b : List Bound) (c : End) → old ≡ [] → new ≡ old ++ s ∷ [] → s.at ≡ 0 → s.floating ≡ false → s.trail ≡ b
-    → AnyFrom h ps new c ↔ Leads h ps (kids_of h) b c
-begins h ps old new s b c none is at stays trail =
+pub begins : (h : Node) (ps : List Node) (states : List State) (s : State) (b : List Bound) (c : End) → states ≡ s ∷ [] → s.at ≡ 0 → s.floating ≡ false → s.trail ≡ b
+    → AnyFrom h ps states c ↔ Leads h ps (kids_of h) b c
+begins h ps states s b c is at stays trail =
     let P : List State → Type 0 = λ xs. AnyFrom h ps xs c ↔ Leads h ps (kids_of h) b c in
-    let N : List State → Type 0 = λ xs. AnyFrom h ps (xs ++ s ∷ []) c ↔ Leads h ps (kids_of h) b c in
     let A : ℕ → Type 0 = λ i. Goes s.floating h ps (drop i (kids_of h)) s.trail c ↔ Leads h ps (kids_of h) b c in
     let F : Bool → Type 0 = λ f. Goes f h ps (kids_of h) s.trail c ↔ Leads h ps (kids_of h) b c in
     let T : List Bound → Type 0 = λ x. Leads h ps (kids_of h) x c ↔ Leads h ps (kids_of h) b c in
     let whole : From h ps s c ↔ Leads h ps (kids_of h) b c = subst A (sym at) (subst F (sym stays) (subst T (sym trail) (λ x. x, λ x. x))) in
-    subst P (sym is) (subst N (sym none) (
+    subst P (sym is) (
       λ (t, among, goes). elim among [ inl e ↦ (let R : State → Type 0 = λ u. From h ps u c in whole.0 (subst R (sym e) goes)) | inr a ↦ absurd a ],
       λ x. (s, inl refl, whole.1 x),
-    ))
+    )
 
 pub next_pattern : (h q : Node) (items : List Node) (i : ℕ) (old new : List State) (c : End) (W : Type 0) → i < length items → q ≡ get_or items i q
     → AnyFrom h (drop (i + 1) items) new c ↔ AnyFrom h (q ∷ drop (i + 1) items) old c → AnyFrom h (drop i items) old c ↔ W → AnyFrom h (drop (i + 1) items) new c ↔ W

@@ -1,11 +1,13 @@
 -- Where the search of a list of kids stands.
 use Rattle.std.specs.Prelude.{◌≡◌, ◌⊎◌, ◌↔◌, ◌≤◌, ℕ, List, [], ◌∷◌, take, drop, Bool, true, false, Option, Some}
 use Rattle.node_tree.specs.declared.node.Node.{Node}
-use Rattle.node_tree.specs.Tree.{text_of, kids_of}
+use Rattle.node_tree.specs.Tree.{text_of, kids_of, span_of}
 use Rattle.meta_bind.specs.declared.bound.Bound.{Bound}
 use Rattle.tree_match.specs.declared.state.State.{State}
-use Rattle.tree_match.specs.Relation.{Among, Matches, Binds}
+use Rattle.tree_match.specs.Sets.{Among}
+use Rattle.tree_match.specs.Relation.{Matches, Binds}
 use Rattle.tree_match.specs.Fronts.{End, Leads}
+use Rattle.tree_match.specs.Members.{Member}
 
 -- the patterns match these nodes, or where it floats what remains after some of them
 abbrev pub Goes : Bool → Node → List Node → List Node → List Bound → End → Type 0
@@ -48,3 +50,7 @@ Steps h p old new = (ps : List Node) (c : End) → AnyFrom h ps new c ↔ AnyFro
 -- some state floats from there on with this binding
 abbrev pub IsCovered : List State → ℕ → List Bound → Type 0
 IsCovered states at b = (s : State) × Among states s × (s.floating ≡ true) × (s.at ≤ at) × (s.trail ≡ b)
+
+-- the range of the holder, with a binding to which the patterns lead from one of the states
+abbrev pub MemberFrom : Node → List Node → List State → Member → Type 0
+MemberFrom h ps states m = (m.0 ≡ span_of h) × AnyFrom h ps states ([], m.1)

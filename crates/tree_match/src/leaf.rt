@@ -1,20 +1,22 @@
 //! The set of members of a pattern in a file.
 
-ghost use Rattle.std.specs.Prelude.{◌≡◌, ◌≤◌, length, slice_get, take, map, IfOk, MatchOption};
+ghost use Rattle.std.specs.Prelude.{◌≡◌, ◌≤◌, [], length, slice_get, IfOk, MatchOption};
 ghost use Rattle.std.specs.Option.{option_copied};
+ghost use Rattle.node_tree.specs.Tree.{pre_of};
+ghost use Rattle.tree_match.specs.Members.{MemberIn};
 ghost use Rattle.tree_match.specs.Leaf.{IsWhole, HasMore};
-ghost use Rattle.tree_match.specs.Ascending.{IsAscending};
 
-use crate::members::add_node;
+use crate::spread::add_node;
 use meta_bind::{Binding, Trail};
-use node_tree::{List, Memory, Node, Span};
+use node_tree::{List, Memory, Node, Span, Twin};
 use std::alloc::Global;
 use std::marker::Model;
 
 // The most members of a set.
 const MOST: usize = 10000;
 
-/// Members in order, each once.
+/// The members of a set: ranges, each with what the metavariables stand for there. They stand in order of range, then of
+/// binding (the names with their spans, then the contents), each once.
 #[derive(Drop)]
 pub struct LeafSet {
     members: List<(Span, Binding)>,
@@ -22,14 +24,13 @@ pub struct LeafSet {
 
 impl Model for LeafSet {
     ghost use Rattle.std.specs.Prelude.{List as list};
+    ghost use Rattle.std.specs.Coded.{coded_list, coded×};
     ghost use Rattle.node_tree.specs.declared.span.Span.{Span as span};
+    ghost use Rattle.node_tree.specs.contracts.span.Span as spans;
     ghost use Rattle.meta_bind.specs.declared.bound.Bound.{Bound as bound};
+    ghost use Rattle.meta_bind.specs.contracts.binding.Binding as bindings;
 
     ghost Value = { list (span × list bound) };
-
-    ghost use Rattle.std.specs.Coded.{coded_list, coded×};
-    ghost use Rattle.node_tree.specs.contracts.span.Span as spans;
-    ghost use Rattle.meta_bind.specs.contracts.binding.Binding as bindings;
 
     ghost coded = { coded_list (coded× spans.the_row.coded bindings.the_row.coded) };
 
@@ -37,12 +38,23 @@ impl Model for LeafSet {
 }
 
 impl LeafSet {
+    // The set without members, which takes no memory.
+    pub fn empty(alloc: Global) -> LeafSet
+        ensures { result ≡ [] }
+    {
+        LeafSet {
+            members: List::new(alloc),
+        }
+    }
+
+    /// How many members there are.
     pub fn len(&self) -> usize
         ensures { result ≡ length self.now }
     {
         self.members.len()
     }
 
+    /// The member at a place, counted from 0.
     pub fn get(&self, at: usize) -> Option<&(Span, Binding)>
         ensures { option_copied result ≡ slice_get self.now at }
     {
@@ -50,20 +62,39 @@ impl LeafSet {
     }
 }
 
-/// The members of a pattern, or that there are more than 10,000.
+impl Twin for LeafSet {
+    fn copy(&self) -> Result<LeafSet, Memory> {
+        let mut members = List::new(self.members.alloc());
+        for (range, binding) in self.members.as_slice() {
+            members.push((*range, binding.copy()?))?;
+        }
+        Ok(LeafSet { members })
+    }
+}
+
+/// The members of a pattern in a file, or that there are more than 10,000.
 #[derive(Drop)]
 pub enum Leaf {
     Full(LeafSet),
     Crowded,
 }
 
-// The members, where there are at most 10,000.
+impl Twin for Leaf {
+    fn copy(&self) -> Result<Leaf, Memory> {
+        match self {
+            Leaf::Full(members) => Ok(Leaf::Full(members.copy()?)),
+            Leaf::Crowded => Ok(Leaf::Crowded),
+        }
+    }
+}
+
+/// The members with borrowed bindings, or none where there are more than 10,000.
 pub fn members_of<'t>(
     alloc: Global,
     pattern: &'t Node,
     tree: &'t Node,
 ) -> Result<Option<List<(Span, Trail<'t>)>>, Memory>
-    ensures { IfOk result (λ o. MatchOption o (HasMore pattern.now tree.now 10000) (λ l. IsWhole pattern.now tree.now l × (length l ≤ 10000))) }
+    ensures { IfOk result (λ o. MatchOption o (HasMore (λ m. MemberIn pattern.now (pre_of tree.now) m) 10000) (λ l. IsWhole (λ m. MemberIn pattern.now (pre_of tree.now) m) l × (length l ≤ 10000))) }
 {
     let mut members = List::new(alloc);
     for node in tree.walk()? {
@@ -75,13 +106,13 @@ pub fn members_of<'t>(
     Ok(Some(members))
 }
 
-// The members with bindings of their own.
+/// The members with bindings of their own.
 pub fn keep_all(alloc: Global, members: &[(Span, Trail<'_>)]) -> Result<LeafSet, Memory>
     ensures { IfOk result (λ s. s ≡ members.now) }
 {
     let mut kept = List::new(alloc);
-    for (place, trail) in members {
-        kept.push((*place, trail.keep()?))?;
+    for (range, trail) in members {
+        kept.push((*range, trail.keep()?))?;
     }
     Ok(LeafSet { members: kept })
 }

@@ -1,18 +1,12 @@
 //! Members in order, each once.
 
 ghost use Rattle.std.specs.Prelude.{◌≡◌, ◌↔◌, List as list, [], length, OnOk, IfOk, MatchOption};
-ghost use Rattle.node_tree.specs.declared.span.Span.{Span as span};
-ghost use Rattle.node_tree.specs.Tree.{span_of};
-ghost use Rattle.meta_bind.specs.declared.bound.Bound.{Bound as bound};
-ghost use Rattle.tree_match.specs.Relation.{Among, Adds, AddsUpTo, Matches};
+ghost use Rattle.tree_match.specs.Sets.{Among, Adds, AddsUpTo};
 ghost use Rattle.tree_match.specs.Ascending.{IsAscending, IsPlace};
-ghost use Rattle.tree_match.specs.Leaf.{member_cmp, MemberAt};
+ghost use Rattle.tree_match.specs.Members.{member_cmp};
 
-use crate::class::{Role, is_expression, role_of};
-use crate::search::relate;
 use meta_bind::Trail;
-use node_tree::{List, Memory, Node, Span};
-use std::alloc::Global;
+use node_tree::{List, Memory, Span};
 use std::cmp::Ordering;
 
 // The order of members.
@@ -25,18 +19,19 @@ fn order<'t>(a: &(Span, Trail<'t>), b: &(Span, Trail<'t>)) -> Ordering
 // Where the member belongs, if it isn't there yet.
 fn place_of<'t>(members: &[(Span, Trail<'t>)], one: &(Span, Trail<'t>)) -> Option<usize>
     requires { IsAscending member_cmp members.now }
-    ensures { MatchOption result (Among members.now one.now) (λ i. IsPlace member_cmp members.now one.now i) }
+    ensures { MatchOption result (Among members.now one.now) (λ at. IsPlace member_cmp members.now one.now at) }
 {
-    let mut at = members.len();
-    while at > 0 {
-        match order(one, &members[at - 1]) {
-            Ordering::Greater => return Some(at),
+    let mut low = 0;
+    let mut high = members.len();
+    while low < high {
+        let middle = low + (high - low) / 2;
+        match order(one, &members[middle]) {
+            Ordering::Greater => low = middle + 1,
             Ordering::Equal => return None,
-            Ordering::Less => {}
+            Ordering::Less => high = middle,
         }
-        at -= 1;
     }
-    Some(0)
+    Some(low)
 }
 
 // Adds a member.
@@ -51,44 +46,23 @@ fn add<'t>(members: &mut List<(Span, Trail<'t>)>, one: (Span, Trail<'t>)) -> Res
     Ok(())
 }
 
-// Adds a member at one range for each binding, as long as they are few enough.
-fn add_all<'t>(
+/// Adds a member at one range for each binding, and stops once there are more than `most`.
+pub fn add_all<'t>(
     members: &mut List<(Span, Trail<'t>)>,
-    place: Span,
+    range: Span,
     mut trails: List<Trail<'t>>,
     most: usize,
 ) -> Result<(), Memory>
     requires { IsAscending member_cmp members.old }
     ensures ordered { IsAscending member_cmp members.new }
-    ensures added { OnOk result (AddsUpTo most members.old members.new (λ m. (m.0 ≡ place) × Among trails.entry m.1)) }
+    ensures added { OnOk result (AddsUpTo most members.old members.new (λ m. (m.0 ≡ range) × Among trails.entry m.1)) }
 {
     trails.reverse();
     while let Some(trail) = trails.pop() {
-        add(members, (place, trail))?;
+        add(members, (range, trail))?;
         if members.len() > most {
             return Ok(());
         }
     }
-    Ok(())
-}
-
-/// Adds the members with the range of this node, as long as they are few enough.
-pub fn add_node<'t>(
-    alloc: Global,
-    pattern: &'t Node,
-    node: &'t Node,
-    members: &mut List<(Span, Trail<'t>)>,
-    most: usize,
-) -> Result<(), Memory>
-    requires { IsAscending member_cmp members.old }
-    ensures ordered { IsAscending member_cmp members.new }
-    ensures added { OnOk result (AddsUpTo most members.old members.new (λ m. MemberAt pattern.now node.now m)) }
-{
-    if role_of(pattern.kind) == Role::Meta && !is_expression(node.kind) {
-        return Ok(());
-    }
-    let mut trails = List::new(alloc);
-    relate(alloc, pattern, node, &Trail::new(alloc), &mut trails)?;
-    add_all(members, node.span, trails, most)?;
     Ok(())
 }

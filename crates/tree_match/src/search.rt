@@ -1,13 +1,15 @@
-//! The search.
+//! The search for the bindings that a pattern may take a binding to.
 
 ghost use Rattle.std.specs.Prelude.{◌≡◌, ◌⊎◌, ◌↔◌, ◌≤◌, ◌<◌, ◌+◌, [], ◌∷◌, length, drop, OnOk, IfOk};
 ghost use Rattle.node_tree.specs.Tree.{kids_of, kind_of};
-ghost use Rattle.tree_match.specs.Relation.{Among, Adds, Matches, MatchesList, role_of as role, IsOne};
+ghost use Rattle.tree_match.specs.Sets.{Among, Adds};
+ghost use Rattle.tree_match.specs.Kinds.{role_of as role, IsOne};
+ghost use Rattle.tree_match.specs.Relation.{Matches, MatchesList};
 ghost use Rattle.tree_match.specs.States.{AnyFrom, AddsFrom, Steps, From, Heads};
 ghost use Rattle.tree_match.specs.declared.class.Role.TheVariants.{Meta, Deep, Plain};
 
-use crate::class::{Role, is_expression, is_same, is_string, is_term, is_wild, role_of};
-use crate::list::{bound_run, enter, finish, float, put_trail, runs};
+use crate::class::{Role, is_alike, is_expression, is_string, is_term, is_wild, role_of};
+use crate::list::{bound_run, enter, finish, float, put_trail, runs, start};
 use crate::state::State;
 use meta_bind::Trail;
 use node_tree::{List, Memory, Node};
@@ -16,22 +18,22 @@ use std::slice;
 
 // Adds what a metavariable takes the binding to.
 fn meta<'t>(
-    p: &'t Node,
-    n: &'t Node,
+    pattern: &'t Node,
+    node: &'t Node,
     trail: &Trail<'t>,
     out: &mut List<Trail<'t>>,
 ) -> Result<(), Memory>
-    requires { role (kind_of p.now) ≡ Meta }
-    ensures { OnOk result (Adds out.old out.new (λ c. Matches p.now n.now trail.now c)) }
+    requires { role (kind_of pattern.now) ≡ Meta }
+    ensures { OnOk result (Adds out.old out.new (λ c. Matches pattern.now node.now trail.now c)) }
 {
-    if !is_term(n.kind) {
+    if !is_term(node.kind) {
         return Ok(());
     }
-    if is_wild(&p.text) {
+    if is_wild(&pattern.text) {
         put_trail(out, trail.copy()?)?;
         return Ok(());
     }
-    if let Some(bound) = bound_run(n, p.text.as_str(), slice::from_ref(n), trail)? {
+    if let Some(bound) = bound_run(node, pattern.text.as_str(), slice::from_ref(node), trail)? {
         put_trail(out, bound)?;
     }
     Ok(())
@@ -41,19 +43,19 @@ fn meta<'t>(
 #[cycle(search)]
 pub fn relate<'t>(
     alloc: Global,
-    p: &'t Node,
-    n: &'t Node,
+    pattern: &'t Node,
+    node: &'t Node,
     trail: &Trail<'t>,
     out: &mut List<Trail<'t>>,
 ) -> Result<(), Memory>
-    ensures { OnOk result (Adds out.old out.new (λ c. Matches p.now n.now trail.now c)) }
+    ensures { OnOk result (Adds out.old out.new (λ c. Matches pattern.now node.now trail.now c)) }
 {
-    match role_of(p.kind) {
-        Role::Plain => same(alloc, p, n, trail, out)?,
-        Role::Meta => meta(p, n, trail, out)?,
-        Role::Deep => deep(alloc, p, n, trail, out)?,
+    match role_of(pattern.kind) {
+        Role::Plain => same(alloc, pattern, node, trail, out)?,
+        Role::Meta => meta(pattern, node, trail, out)?,
+        Role::Deep => deep(alloc, pattern, node, trail, out)?,
         Role::StrAny => {
-            if is_string(n) {
+            if is_string(node) {
                 put_trail(out, trail.copy()?)?;
             }
         }
@@ -67,21 +69,18 @@ pub fn relate<'t>(
 #[cycle(search)]
 fn same<'t>(
     alloc: Global,
-    p: &'t Node,
-    n: &'t Node,
+    pattern: &'t Node,
+    node: &'t Node,
     trail: &Trail<'t>,
     out: &mut List<Trail<'t>>,
 ) -> Result<(), Memory>
-    requires { role (kind_of p.now) ≡ Plain }
-    ensures { OnOk result (Adds out.old out.new (λ c. Matches p.now n.now trail.now c)) }
+    requires { role (kind_of pattern.now) ≡ Plain }
+    ensures { OnOk result (Adds out.old out.new (λ c. Matches pattern.now node.now trail.now c)) }
 {
-    if !is_same(p.kind, n.kind) {
+    if !is_alike(pattern, node) {
         return Ok(());
     }
-    if !p.text.is_same(&n.text) {
-        return Ok(());
-    }
-    kids(alloc, p, n, trail, out)?;
+    kids(alloc, pattern, node, trail, out)?;
     Ok(())
 }
 
@@ -89,23 +88,23 @@ fn same<'t>(
 #[cycle(search)]
 fn deep<'t>(
     alloc: Global,
-    p: &'t Node,
-    n: &'t Node,
+    pattern: &'t Node,
+    node: &'t Node,
     trail: &Trail<'t>,
     out: &mut List<Trail<'t>>,
 ) -> Result<(), Memory>
-    requires { role (kind_of p.now) ≡ Deep }
-    ensures { OnOk result (Adds out.old out.new (λ c. Matches p.now n.now trail.now c)) }
+    requires { role (kind_of pattern.now) ≡ Deep }
+    ensures { OnOk result (Adds out.old out.new (λ c. Matches pattern.now node.now trail.now c)) }
 {
-    if !is_expression(n.kind) {
+    if !is_expression(node.kind) {
         return Ok(());
     }
-    let inner = p.kids.as_slice();
+    let inner = pattern.kids.as_slice();
     if inner.len() != 1 {
         return Ok(());
     }
-    for m in n.walk()? {
-        relate(alloc, &inner[0], m, trail, out)?;
+    for candidate in node.walk()? {
+        relate(alloc, &inner[0], candidate, trail, out)?;
     }
     Ok(())
 }
@@ -114,39 +113,34 @@ fn deep<'t>(
 #[cycle(search)]
 fn kids<'t>(
     alloc: Global,
-    p: &'t Node,
-    n: &'t Node,
+    pattern: &'t Node,
+    node: &'t Node,
     trail: &Trail<'t>,
     out: &mut List<Trail<'t>>,
 ) -> Result<(), Memory>
-    ensures { OnOk result (Adds out.old out.new (λ c. MatchesList n.now (kids_of p.now) (kids_of n.now) trail.now c)) }
+    ensures { OnOk result (Adds out.old out.new (λ c. MatchesList node.now (kids_of pattern.now) (kids_of node.now) trail.now c)) }
 {
-    let mut states = List::new(alloc);
-    states.push(State {
-        at: 0,
-        floating: false,
-        trail: trail.copy()?,
-    })?;
-    for q in p.kids.as_slice() {
-        states = step(alloc, q, n, &states)?;
+    let mut states = start(alloc, trail)?;
+    for item in pattern.kids.as_slice() {
+        states = step(alloc, item, node, &states)?;
     }
-    finish(n, &states, out)?;
+    finish(node, &states, out)?;
     Ok(())
 }
 
-// Where one pattern leads from these states.
+/// Where one pattern of a list leads from these states.
 #[cycle(search)]
-fn step<'t>(
+pub fn step<'t>(
     alloc: Global,
-    q: &'t Node,
-    h: &'t Node,
+    pattern: &'t Node,
+    holder: &'t Node,
     states: &List<State<'t>>,
 ) -> Result<List<State<'t>>, Memory>
-    ensures { IfOk result (λ next. Steps h.now q.now states.now next) }
+    ensures { IfOk result (λ next. Steps holder.now pattern.now states.now next) }
 {
     let mut next = List::new(alloc);
     for state in states.as_slice() {
-        advance(alloc, q, h, state, &mut next)?;
+        advance(alloc, pattern, holder, state, &mut next)?;
     }
     Ok(next)
 }
@@ -155,17 +149,17 @@ fn step<'t>(
 #[cycle(search)]
 fn advance<'t>(
     alloc: Global,
-    q: &'t Node,
-    h: &'t Node,
+    pattern: &'t Node,
+    holder: &'t Node,
     state: &State<'t>,
     next: &mut List<State<'t>>,
 ) -> Result<(), Memory>
-    ensures { OnOk result (AddsFrom h.now next.old next.new (λ ps c. From h.now (q.now ∷ ps) state.now c)) }
+    ensures { OnOk result (AddsFrom holder.now next.old next.new (λ ps c. From holder.now (pattern.now ∷ ps) state.now c)) }
 {
-    match role_of(q.kind) {
+    match role_of(pattern.kind) {
         Role::Dots => float(next, state.at, &state.trail)?,
-        Role::MetaDots => runs(q, h, state, next)?,
-        _ => items(alloc, q, h, state, next)?,
+        Role::MetaDots => runs(pattern, holder, state, next)?,
+        _ => items(alloc, pattern, holder, state, next)?,
     }
     Ok(())
 }
@@ -174,23 +168,23 @@ fn advance<'t>(
 #[cycle(search)]
 fn items<'t>(
     alloc: Global,
-    q: &'t Node,
-    h: &'t Node,
+    pattern: &'t Node,
+    holder: &'t Node,
     state: &State<'t>,
     next: &mut List<State<'t>>,
 ) -> Result<(), Memory>
-    requires { IsOne (role (kind_of q.now)) }
-    ensures { OnOk result (AddsFrom h.now next.old next.new (λ ps c. From h.now (q.now ∷ ps) state.now c)) }
+    requires { IsOne (role (kind_of pattern.now)) }
+    ensures { OnOk result (AddsFrom holder.now next.old next.new (λ ps c. From holder.now (pattern.now ∷ ps) state.now c)) }
 {
-    let end = h.kids.len();
+    let end = holder.kids.len();
     if state.floating {
         for at in state.at..end {
-            item_at(alloc, q, h, at, &state.trail, next)?;
+            item_at(alloc, pattern, holder, at, &state.trail, next)?;
         }
         return Ok(());
     }
     if state.at < end {
-        item_at(alloc, q, h, state.at, &state.trail, next)?;
+        item_at(alloc, pattern, holder, state.at, &state.trail, next)?;
     }
     Ok(())
 }
@@ -199,18 +193,18 @@ fn items<'t>(
 #[cycle(search)]
 fn item_at<'t>(
     alloc: Global,
-    q: &'t Node,
-    h: &'t Node,
+    pattern: &'t Node,
+    holder: &'t Node,
     at: usize,
     trail: &Trail<'t>,
     next: &mut List<State<'t>>,
 ) -> Result<(), Memory>
-    requires { at < length (kids_of h.now) }
-    ensures { OnOk result (AddsFrom h.now next.old next.new (λ ps c. Heads h.now q.now ps (drop at (kids_of h.now)) trail.now c)) }
+    requires { at < length (kids_of holder.now) }
+    ensures { OnOk result (AddsFrom holder.now next.old next.new (λ ps c. Heads holder.now pattern.now ps (drop at (kids_of holder.now)) trail.now c)) }
 {
     let mut found = List::new(alloc);
-    let kids = h.kids.as_slice();
-    relate(alloc, q, &kids[at], trail, &mut found)?;
+    let kids = holder.kids.as_slice();
+    relate(alloc, pattern, &kids[at], trail, &mut found)?;
     enter(next, at + 1, found)?;
     Ok(())
 }

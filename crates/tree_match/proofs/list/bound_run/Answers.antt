@@ -19,4 +19,4 @@ pub returns-in_ok-bind-in-None : goal.returns-in_ok-bind-in-None
 returns-in_ok-bind-in-None c =
     let f : Span → Bound = λ s. record { name = c.args.name.now; span = s; nodes = map content_of c.args.run.now } in
     bound_fresh c.args.holder.now c.args.name.now c.args.run.now c.args.trail.now _ c.in-None.ensures
-    (c.in_ok-bind-in-None.ensures ∙ ap (λ b. with_bound (f c.span_of_run-span.result) b) c.in_ok-bound-in-None.ensures ∙ ap (λ s. with_bound (f s) c.args.trail.now) c.span_of_run-span.ensures)
+    (c.in_ok-bind-in-None.ensures.ok ∙ ap (λ b. with_bound (f c.span_of_run-span.result) b) c.in_ok-bound-in-None.ensures ∙ ap (λ s. with_bound (f s) c.args.trail.now) c.span_of_run-span.ensures)

@@ -1,0 +1,170 @@
+use crate::answer::leaf_of;
+use crate::leaf::Leaf;
+use node_tree::{Kind, List, Memory, Node, Span, Text};
+use std::alloc::Global;
+use std::test::*;
+
+// A node without kids.
+fn leaf(alloc: Global, kind: Kind, text: &str, from: u32, to: u32) -> Result<Node, Memory> {
+    Ok(Node {
+        kind,
+        text: Text::from_str(alloc, text)?,
+        kids: List::new(alloc),
+        span: Span { from, to },
+    })
+}
+
+// An array of these nodes, in order.
+fn array(
+    alloc: Global,
+    from: u32,
+    to: u32,
+    items: &[(Kind, &str, u32, u32)],
+) -> Result<Node, Memory> {
+    let mut array = leaf(alloc, Kind::Array, "", from, to)?;
+    for (kind, text, start, end) in items {
+        array.kids.push(leaf(alloc, *kind, text, *start, *end)?)?;
+    }
+    Ok(array)
+}
+
+// An object with one member.
+fn object(alloc: Global, key: &str, value: Node) -> Result<Node, Memory> {
+    let end = value.span.to;
+    let mut member = leaf(alloc, Kind::Member, "", 1, end)?;
+    member.kids.push(leaf(alloc, Kind::Str, key, 1, 4)?)?;
+    member.kids.push(value)?;
+    let mut object = leaf(alloc, Kind::Object, "", 0, end)?;
+    object.kids.push(member)?;
+    Ok(object)
+}
+
+// The members as lines: the range, then each name with its span.
+fn lines(alloc: Global, pattern: &Node, tree: &Node) -> Result<String, Memory> {
+    let mut lines = String::new(alloc);
+    match leaf_of(alloc, pattern, tree)? {
+        Leaf::Crowded => lines.push_str("crowded")?,
+        Leaf::Full(set) => {
+            for i in 0..set.len() {
+                if let Some((range, binding)) = set.get(i) {
+                    lines.push_str(format!(in alloc; "{}..{}", range.from, range.to)?.as_str())?;
+                    for bound in binding.bounds() {
+                        let (name, span) = (bound.name.as_str(), bound.span);
+                        lines.push_str(format!(in alloc;
+                            " {name}={}..{}",
+                            span.from, span.to
+                        )?.as_str())?;
+                    }
+                    lines.push_str("\n")?;
+                }
+            }
+        }
+    }
+    Ok(lines)
+}
+
+#[test]
+fn dots_take_any_number(rt: HostRuntime) {
+    let alloc = rt.alloc();
+    let dots = (Kind::Dots, "", 0, 0);
+    let pattern = array(alloc, 0, 0, &[dots, (Kind::Meta, "$X", 0, 0), dots]).unwrap();
+    let mut tree = array(alloc, 0, 9, &[(Kind::Number, "1", 1, 2)]).unwrap();
+    let inner = array(alloc, 3, 6, &[(Kind::Number, "2", 4, 5)]).unwrap();
+    tree.kids.push(inner).unwrap();
+    tree.kids
+        .push(leaf(alloc, Kind::Number, "1", 7, 8).unwrap())
+        .unwrap();
+    assert!(rt;
+        lines(alloc, &pattern, &tree).unwrap().as_str()
+            == "0..9 $X=1..2\n0..9 $X=3..6\n0..9 $X=7..8\n3..6 $X=4..5\n"
+    );
+}
+
+#[test]
+fn a_name_stands_for_one_content(rt: HostRuntime) {
+    let alloc = rt.alloc();
+    let name = (Kind::Meta, "$X", 0, 0);
+    let pattern = array(alloc, 0, 0, &[name, name]).unwrap();
+    let same = array(
+        alloc,
+        0,
+        5,
+        &[(Kind::Number, "1", 1, 2), (Kind::Number, "1", 3, 4)],
+    )
+    .unwrap();
+    let other = array(
+        alloc,
+        0,
+        5,
+        &[(Kind::Number, "1", 1, 2), (Kind::Number, "2", 3, 4)],
+    )
+    .unwrap();
+    assert!(rt; lines(alloc, &pattern, &same).unwrap().as_str() == "0..5 $X=1..2\n");
+    assert!(rt; lines(alloc, &pattern, &other).unwrap().as_str() == "");
+}
+
+#[test]
+fn a_deep_pattern_matches_once(rt: HostRuntime) {
+    let alloc = rt.alloc();
+    let mut deep = leaf(alloc, Kind::Deep, "", 0, 0).unwrap();
+    deep.kids
+        .push(leaf(alloc, Kind::Number, "1", 0, 0).unwrap())
+        .unwrap();
+    let pattern = object(alloc, "\"k", deep).unwrap();
+    let value = array(
+        alloc,
+        5,
+        10,
+        &[(Kind::Number, "1", 6, 7), (Kind::Number, "1", 8, 9)],
+    )
+    .unwrap();
+    let mut tree = object(alloc, "\"k", value).unwrap();
+    tree.span.to = 11;
+    assert!(rt; lines(alloc, &pattern, &tree).unwrap().as_str() == "0..11\n");
+}
+
+#[test]
+fn an_empty_run_stands_at_the_start(rt: HostRuntime) {
+    let alloc = rt.alloc();
+    let pattern = array(
+        alloc,
+        0,
+        0,
+        &[(Kind::MetaDots, "$...A", 0, 0), (Kind::Number, "2", 0, 0)],
+    )
+    .unwrap();
+    let tree = array(alloc, 0, 3, &[(Kind::Number, "2", 1, 2)]).unwrap();
+    assert!(rt; lines(alloc, &pattern, &tree).unwrap().as_str() == "0..3 $...A=0..0\n");
+}
+
+#[test]
+fn a_lone_name_matches_expressions(rt: HostRuntime) {
+    let alloc = rt.alloc();
+    let pattern = leaf(alloc, Kind::Meta, "$X", 0, 0).unwrap();
+    let one = leaf(alloc, Kind::Number, "1", 5, 6).unwrap();
+    let mut tree = object(alloc, "\"a", one).unwrap();
+    tree.span.to = 7;
+    assert!(rt;
+        lines(alloc, &pattern, &tree).unwrap().as_str()
+            == "0..7 $X=0..7\n1..4 $X=1..4\n5..6 $X=5..6\n"
+    );
+}
+
+// So many zeros.
+fn zeros(alloc: Global, count: u32) -> Result<Node, Memory> {
+    let mut array = leaf(alloc, Kind::Array, "", 0, count)?;
+    for i in 0..count {
+        array.kids.push(leaf(alloc, Kind::Number, "0", i, i)?)?;
+    }
+    Ok(array)
+}
+
+#[test]
+fn more_than_ten_thousand_are_crowded(rt: HostRuntime) {
+    let alloc = rt.alloc();
+    let pattern = leaf(alloc, Kind::Number, "0", 0, 0).unwrap();
+    let full = zeros(alloc, 10000).unwrap();
+    assert!(rt; matches!(leaf_of(alloc, &pattern, &full).unwrap(), Leaf::Full(_)));
+    let crowded = zeros(alloc, 10001).unwrap();
+    assert!(rt; matches!(leaf_of(alloc, &pattern, &crowded).unwrap(), Leaf::Crowded));
+}
