@@ -2,3 +2,4 @@ pub mod Lookups
 pub mod Places
 pub mod Names
 pub mod BindingOrder
+pub mod Chains
