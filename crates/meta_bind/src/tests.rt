@@ -1,7 +1,7 @@
 use super::*;
 use node_tree::{Kind, List, Memory, Node, Span, Text, Twin};
 use std::alloc::Global;
-use std::test::*;
+use std::test::Fail;
 
 // A bound of that name to one number.
 fn bound(alloc: Global, name: &str, number: &str) -> Result<Bound, Memory> {
@@ -29,18 +29,19 @@ fn add(binding: &mut Binding, bound: Bound) -> Result<(), Memory> {
 }
 
 #[test]
-fn bounds_stand_in_order_of_name(rt: HostRuntime) {
+fn bounds_stand_in_order_of_name(rt: HostRuntime) -> Result<(), Fail> {
     let alloc = rt.alloc();
     let mut first = Binding::empty(alloc);
-    add(&mut first, bound(alloc, "$Y", "1").unwrap()).unwrap();
-    add(&mut first, bound(alloc, "$...X", "2").unwrap()).unwrap();
+    add(&mut first, bound(alloc, "$Y", "1")?)?;
+    add(&mut first, bound(alloc, "$...X", "2")?)?;
     assert!(rt; first.bounds().len() == 2);
     assert!(rt; first.get("$Y").is_some());
     assert!(rt; first.get("$X").is_none());
     let mut second = Binding::empty(alloc);
-    add(&mut second, bound(alloc, "$Z", "3").unwrap()).unwrap();
+    add(&mut second, bound(alloc, "$Z", "3")?)?;
     assert!(rt; first.agrees(&second));
-    add(&mut second, bound(alloc, "$Y", "3").unwrap()).unwrap();
+    add(&mut second, bound(alloc, "$Y", "3")?)?;
     assert!(rt; !first.agrees(&second));
-    assert!(rt; first.agrees(&first.copy().unwrap()));
+    assert!(rt; first.agrees(&first.copy()?));
+    Ok(())
 }

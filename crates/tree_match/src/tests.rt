@@ -2,7 +2,7 @@ use crate::answer::leaf_of;
 use crate::leaf::Leaf;
 use node_tree::{Kind, List, Memory, Node, Span, Text};
 use std::alloc::Global;
-use std::test::*;
+use std::test::Fail;
 
 // A node without kids.
 fn leaf(alloc: Global, kind: Kind, text: &str, from: u32, to: u32) -> Result<Node, Memory> {
@@ -64,90 +64,86 @@ fn lines(alloc: Global, pattern: &Node, tree: &Node) -> Result<String, Memory> {
 }
 
 #[test]
-fn dots_take_any_number(rt: HostRuntime) {
+fn dots_take_any_number(rt: HostRuntime) -> Result<(), Fail> {
     let alloc = rt.alloc();
     let dots = (Kind::Dots, "", 0, 0);
-    let pattern = array(alloc, 0, 0, &[dots, (Kind::Meta, "$X", 0, 0), dots]).unwrap();
-    let mut tree = array(alloc, 0, 9, &[(Kind::Number, "1", 1, 2)]).unwrap();
-    let inner = array(alloc, 3, 6, &[(Kind::Number, "2", 4, 5)]).unwrap();
-    tree.kids.push(inner).unwrap();
-    tree.kids
-        .push(leaf(alloc, Kind::Number, "1", 7, 8).unwrap())
-        .unwrap();
+    let pattern = array(alloc, 0, 0, &[dots, (Kind::Meta, "$X", 0, 0), dots])?;
+    let mut tree = array(alloc, 0, 9, &[(Kind::Number, "1", 1, 2)])?;
+    let inner = array(alloc, 3, 6, &[(Kind::Number, "2", 4, 5)])?;
+    tree.kids.push(inner)?;
+    tree.kids.push(leaf(alloc, Kind::Number, "1", 7, 8)?)?;
     assert!(rt;
-        lines(alloc, &pattern, &tree).unwrap().as_str()
+        lines(alloc, &pattern, &tree)?.as_str()
             == "0..9 $X=1..2\n0..9 $X=3..6\n0..9 $X=7..8\n3..6 $X=4..5\n"
     );
+    Ok(())
 }
 
 #[test]
-fn a_name_stands_for_one_content(rt: HostRuntime) {
+fn a_name_stands_for_one_content(rt: HostRuntime) -> Result<(), Fail> {
     let alloc = rt.alloc();
     let name = (Kind::Meta, "$X", 0, 0);
-    let pattern = array(alloc, 0, 0, &[name, name]).unwrap();
+    let pattern = array(alloc, 0, 0, &[name, name])?;
     let same = array(
         alloc,
         0,
         5,
         &[(Kind::Number, "1", 1, 2), (Kind::Number, "1", 3, 4)],
-    )
-    .unwrap();
+    )?;
     let other = array(
         alloc,
         0,
         5,
         &[(Kind::Number, "1", 1, 2), (Kind::Number, "2", 3, 4)],
-    )
-    .unwrap();
-    assert!(rt; lines(alloc, &pattern, &same).unwrap().as_str() == "0..5 $X=1..2\n");
-    assert!(rt; lines(alloc, &pattern, &other).unwrap().as_str() == "");
+    )?;
+    assert!(rt; lines(alloc, &pattern, &same)?.as_str() == "0..5 $X=1..2\n");
+    assert!(rt; lines(alloc, &pattern, &other)?.as_str() == "");
+    Ok(())
 }
 
 #[test]
-fn a_deep_pattern_matches_once(rt: HostRuntime) {
+fn a_deep_pattern_matches_once(rt: HostRuntime) -> Result<(), Fail> {
     let alloc = rt.alloc();
-    let mut deep = leaf(alloc, Kind::Deep, "", 0, 0).unwrap();
-    deep.kids
-        .push(leaf(alloc, Kind::Number, "1", 0, 0).unwrap())
-        .unwrap();
-    let pattern = object(alloc, "\"k", deep).unwrap();
+    let mut deep = leaf(alloc, Kind::Deep, "", 0, 0)?;
+    deep.kids.push(leaf(alloc, Kind::Number, "1", 0, 0)?)?;
+    let pattern = object(alloc, "\"k", deep)?;
     let value = array(
         alloc,
         5,
         10,
         &[(Kind::Number, "1", 6, 7), (Kind::Number, "1", 8, 9)],
-    )
-    .unwrap();
-    let mut tree = object(alloc, "\"k", value).unwrap();
+    )?;
+    let mut tree = object(alloc, "\"k", value)?;
     tree.span.to = 11;
-    assert!(rt; lines(alloc, &pattern, &tree).unwrap().as_str() == "0..11\n");
+    assert!(rt; lines(alloc, &pattern, &tree)?.as_str() == "0..11\n");
+    Ok(())
 }
 
 #[test]
-fn an_empty_run_stands_at_the_start(rt: HostRuntime) {
+fn an_empty_run_stands_at_the_start(rt: HostRuntime) -> Result<(), Fail> {
     let alloc = rt.alloc();
     let pattern = array(
         alloc,
         0,
         0,
         &[(Kind::MetaDots, "$...A", 0, 0), (Kind::Number, "2", 0, 0)],
-    )
-    .unwrap();
-    let tree = array(alloc, 0, 3, &[(Kind::Number, "2", 1, 2)]).unwrap();
-    assert!(rt; lines(alloc, &pattern, &tree).unwrap().as_str() == "0..3 $...A=0..0\n");
+    )?;
+    let tree = array(alloc, 0, 3, &[(Kind::Number, "2", 1, 2)])?;
+    assert!(rt; lines(alloc, &pattern, &tree)?.as_str() == "0..3 $...A=0..0\n");
+    Ok(())
 }
 
 #[test]
-fn a_lone_name_matches_expressions(rt: HostRuntime) {
+fn a_lone_name_matches_expressions(rt: HostRuntime) -> Result<(), Fail> {
     let alloc = rt.alloc();
-    let pattern = leaf(alloc, Kind::Meta, "$X", 0, 0).unwrap();
-    let one = leaf(alloc, Kind::Number, "1", 5, 6).unwrap();
-    let mut tree = object(alloc, "\"a", one).unwrap();
+    let pattern = leaf(alloc, Kind::Meta, "$X", 0, 0)?;
+    let one = leaf(alloc, Kind::Number, "1", 5, 6)?;
+    let mut tree = object(alloc, "\"a", one)?;
     tree.span.to = 7;
     assert!(rt;
-        lines(alloc, &pattern, &tree).unwrap().as_str()
-            == "0..7 $X=0..7\n1..4 $X=1..4\n5..6 $X=5..6\n"
+        lines(alloc, &pattern, &tree)?.as_str() == "0..7 $X=0..7\n1..4 $X=1..4\n5..6 $X=5..6\n"
     );
+    Ok(())
 }
 
 // So many zeros.
@@ -160,11 +156,12 @@ fn zeros(alloc: Global, count: u32) -> Result<Node, Memory> {
 }
 
 #[test]
-fn more_than_ten_thousand_are_crowded(rt: HostRuntime) {
+fn more_than_ten_thousand_are_crowded(rt: HostRuntime) -> Result<(), Fail> {
     let alloc = rt.alloc();
-    let pattern = leaf(alloc, Kind::Number, "0", 0, 0).unwrap();
-    let full = zeros(alloc, 10000).unwrap();
-    assert!(rt; matches!(leaf_of(alloc, &pattern, &full).unwrap(), Leaf::Full(_)));
-    let crowded = zeros(alloc, 10001).unwrap();
-    assert!(rt; matches!(leaf_of(alloc, &pattern, &crowded).unwrap(), Leaf::Crowded));
+    let pattern = leaf(alloc, Kind::Number, "0", 0, 0)?;
+    let full = zeros(alloc, 10000)?;
+    assert!(rt; matches!(leaf_of(alloc, &pattern, &full)?, Leaf::Full(_)));
+    let crowded = zeros(alloc, 10001)?;
+    assert!(rt; matches!(leaf_of(alloc, &pattern, &crowded)?, Leaf::Crowded));
+    Ok(())
 }
