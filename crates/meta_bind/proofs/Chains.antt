@@ -1,16 +1,14 @@
 -- The orders of nodes and bindings chain: what is below an item that is below a third is below the third.
-use Rattle.std.proofs.Common.{◌≡◌, ℕ, List, [], ◌∷◌, map, refl, sym, ap, ◌∙◌, subst}
+use Rattle.std.proofs.Common.{◌≡◌, List, [], ◌∷◌, map, refl, sym, ap, ◌∙◌, subst}
 use Rattle.std.specs.declared.cmp.Ordering.{Ordering}
 use Rattle.std.specs.declared.cmp.Ordering.TheVariants.{Less, Equal, Greater}
 use Rattle.std.specs.Ordering.{nat_cmp, ordering_then}
 use Rattle.std.specs.Cmp.Lexicographic.{slice_cmp}
 use Rattle.std.proofs.lemmas.Cmp.{nat_cmp_total}
-use Rattle.node_tree.specs.declared.node.Node.{Node, Node-F, out-Node, roll-Node, ind-Node}
-use Rattle.node_tree.specs.declared.span.Span.{Span}
+use Rattle.node_tree.specs.declared.node.Node.{Node, Node-F, out-Node, ind-Node}
 use Rattle.node_tree.specs.Span.{span_cmp}
 use Rattle.node_tree.specs.Order.{node_cmp, kind_place}
 use Rattle.node_tree.proofs.Orders.{nat_order, node_cmp_is, node_cmp_rolled, layer_cmp}
-use Rattle.meta_bind.specs.declared.bound.Bound.{Bound}
 use Rattle.meta_bind.specs.Bounds.{name_cmp, place_cmp, contents_cmp, binding_cmp}
 
 -- how the first of three items compares with the third, by how each compares with the next; nothing is said where one falls
