@@ -1,17 +1,15 @@
 -- What each role of a pattern says of a match.
-use Rattle.std.proofs.Common.{◌≡◌, ◌≢◌, ◌⊎◌, inl, inr, ◌↔◌, ℕ, zero, suc, ◌+◌, ◌≤◌, ◌<◌, List, [], ◌∷◌, ◌++◌, length, take, drop, get_or, map, refl, sym, ap, ◌∙◌, subst, arith, add-one, Bool, true, false}
+use Rattle.std.proofs.Common.{◌≡◌, ◌≢◌, ◌⊎◌, inl, inr, ◌↔◌, ℕ, zero, suc, ◌+◌, ◌≤◌, List, [], ◌∷◌, length, drop, refl, sym, ap, ◌∙◌, subst, arith, Bool, true, false}
 use Rattle.std.proofs.lemmas.List.{drop_all, drop-drop}
-use Rattle.std.proofs.Math.Seq.{drop-cons}
 use Rattle.node_tree.specs.declared.node.Node.{Node}
-use Rattle.node_tree.specs.declared.kind.Kind.{Kind}
 use Rattle.node_tree.specs.Tree.{kind_of, text_of, kids_of, pre_of}
 use Rattle.meta_bind.specs.declared.bound.Bound.{Bound}
 use Rattle.tree_match.specs.declared.class.Role.{Role}
 use Rattle.tree_match.specs.declared.class.Role.TheVariants as roles
 use Rattle.tree_match.specs.Sets.{Among}
 use Rattle.tree_match.specs.Kinds.{role_of, is_term, is_expression, IsOne}
-use Rattle.tree_match.specs.Relation.{Matches, MatchesKids, MatchesList, in_order, same_node, wildcard, metavariable, some_string, deep, both_empty, head_and_rest, dots, named_dots, Binds, IsString, wild}
-use Rattle.tree_match.specs.Fronts.{End, Leads, MatchesFront, no_pattern_front, head_front, dots_front, named_dots_front}
+use Rattle.tree_match.specs.Relation.{Matches, MatchesKids, MatchesList, in_order, same_node, wildcard, metavariable, some_string, deep, Binds, IsString, wild}
+use Rattle.tree_match.specs.Fronts.{End, Leads, head_front, dots_front, named_dots_front}
 use Rattle.tree_match.specs.States.{Goes, Runs, Heads}
 
 -- ---- one node
@@ -101,20 +99,6 @@ module _ (p n : Node) (b : List Bound) (role : role_of (kind_of p) ≡ roles.Dee
       to c (metavariable r _ _ _) = absurd (let e = sym role ∙ r in cc)
       to _ (some_string r _) = absurd (let e = sym role ∙ r in cc)
       to c (deep q' m _ is _ among x) = let e : q' ≡ q = (let f = sym is ∙ one in cc) in let P : Node → Type 0 = λ y. Matches y m b c in (m, among, subst P e x)
-
-  pub deep_one : (c : List Bound) → Matches p n b c → length (kids_of p) ≡ 1
-  deep_one c (same_node r _ _ _) = absurd (let e = sym role ∙ r in cc)
-  deep_one _ (wildcard r _ _) = absurd (let e = sym role ∙ r in cc)
-  deep_one c (metavariable r _ _ _) = absurd (let e = sym role ∙ r in cc)
-  deep_one _ (some_string r _) = absurd (let e = sym role ∙ r in cc)
-  deep_one c (deep q' m _ is _ among x) = ap length is
-
-  pub deep_expression : (c : List Bound) → Matches p n b c → is_expression (kind_of n) ≡ true
-  deep_expression c (same_node r _ _ _) = absurd (let e = sym role ∙ r in cc)
-  deep_expression _ (wildcard r _ _) = absurd (let e = sym role ∙ r in cc)
-  deep_expression c (metavariable r _ _ _) = absurd (let e = sym role ∙ r in cc)
-  deep_expression _ (some_string r _) = absurd (let e = sym role ∙ r in cc)
-  deep_expression c (deep q' m _ is ex among x) = ex
 
 -- a pattern that matches no node by itself
 pub no_one : (p n : Node) (b c : List Bound) → Matches p n b c → IsOne (role_of (kind_of p))

@@ -1,14 +1,9 @@
 -- The order of members tells members apart.
-use Rattle.std.proofs.Common.{◌≡◌, ◌⊎◌, inl, inr, ◌↔◌, ℕ, zero, suc, ◌+◌, ◌-◌, ◌<◌, ◌≤◌, List, [], ◌∷◌, ◌++◌, length, take, drop, get_or, reverse, refl, sym, ap, ◌∙◌, subst, arith, add-one}
-use Rattle.std.specs.declared.cmp.Ordering.{Ordering}
-use Rattle.std.specs.declared.cmp.Ordering.TheVariants.{Less, Equal, Greater}
-use Rattle.std.specs.Ordering.{ordering_reverse, ordering_then, nat_cmp}
-use Rattle.std.specs.Cmp.Lexicographic.{slice_cmp}
+use Rattle.std.proofs.Common.{◌≡◌, ◌⊎◌, inl, inr, ◌↔◌, ◌+◌, List, [], ◌∷◌, ◌++◌, reverse, refl, sym, ap, ◌∙◌, subst}
 use Rattle.node_tree.specs.declared.node.Node.{Node}
 use Rattle.node_tree.specs.declared.span.Span.{Span}
-use Rattle.node_tree.specs.Order.{node_cmp}
 use Rattle.node_tree.specs.Span.{span_cmp}
-use Rattle.node_tree.proofs.Orders.{IsOrder, nat_order, lists_order, span_order, node_order, then_first, then_second, then_flip}
+use Rattle.node_tree.proofs.Orders.{IsOrder, span_order, then_first, then_second, then_flip}
 use Rattle.meta_bind.specs.declared.bound.Bound.{Bound}
 use Rattle.meta_bind.specs.Bounds.{binding_cmp}
 use Rattle.meta_bind.proofs.BindingOrder.{binding_order}
@@ -52,9 +47,6 @@ pub start_nodes : (p : Node) (old : List Member) (items all : List Node) (m : Me
 start_nodes p old items all m none e =
     let P : List Node → Type 0 = λ ns. (Among old m ⊎ MemberIn p items m) ↔ MemberIn p ns m in
     subst P e (λ x. elim x [ inl a ↦ (let Q : List Member → Type 0 = λ xs. Among xs m in absurd (subst Q none a)) | inr x ↦ x ], λ x. inr x)
-
-pub no_nodes : (p : Node) (left : List Node) (m : Member) → left ≡ [] → MemberIn p left m → ⊥
-no_nodes p left m e (n, among, at) = let P : List Node → Type 0 = λ ns. Among ns n in subst P e among
 
 pub other_order : (place : Span) (trails turned : List (List Bound)) (m : Member) → turned ≡ reverse trails → ((m.0 ≡ place) × Among turned m.1) ↔ ((m.0 ≡ place) × Among trails m.1)
 other_order place trails turned m e =

@@ -1,22 +1,20 @@
 -- Members that states lead to.
-use Rattle.std.proofs.Common.{◌≡◌, ◌⊎◌, inl, inr, ◌↔◌, ℕ, ◌-◌, ◌≤◌, List, [], ◌∷◌, ◌++◌, length, take, drop, reverse, arith, length-drop, refl, sym, subst, ◌∙◌}
+use Rattle.std.proofs.Common.{◌≡◌, ◌⊎◌, inl, inr, ◌↔◌, ℕ, ◌-◌, ◌≤◌, List, [], ◌∷◌, ◌++◌, length, take, drop, reverse, arith, length-drop, sym, subst, ◌∙◌}
 use Rattle.std.proofs.lemmas.List.{drop_all, take_all}
 use Rattle.node_tree.specs.declared.node.Node.{Node}
-use Rattle.node_tree.specs.declared.span.Span.{Span}
 use Rattle.node_tree.specs.Tree.{kind_of, text_of, kids_of, span_of}
 use Rattle.meta_bind.specs.declared.bound.Bound.{Bound}
 use Rattle.tree_match.specs.declared.class.Role.TheVariants as roles
 use Rattle.tree_match.specs.declared.state.State.{State}
 use Rattle.tree_match.specs.Sets.{Among, Adds}
 use Rattle.tree_match.specs.Kinds.{role_of}
-use Rattle.tree_match.specs.Relation.{Matches, MatchesList}
 use Rattle.tree_match.specs.Fronts.{Leads}
 use Rattle.tree_match.specs.Members.{Member, MemberAt}
 use Rattle.tree_match.specs.States.{AnyFrom, MemberFrom}
 use Rattle.tree_match.proofs.Sets.{among_more, chain}
 use Rattle.tree_match.proofs.Ascents.{among_reverse}
 use Rattle.tree_match.proofs.FrontLaws.{whole_front}
-use Rattle.tree_match.proofs.Inversion.{plain, plain_kinds, plain_texts, ordered_kids}
+use Rattle.tree_match.proofs.Inversion.{plain, ordered_kids}
 
 module _ (h : Node) (ps : List Node) (m : Member) where
   -- the last of the states that are left
@@ -72,7 +70,3 @@ member_alike p n qs states b m role kinds texts e none begins =
       λ (range, x). ((λ r. absurd (let f = sym role ∙ r in cc)), range, all.0 x),
       λ (may, range, x). (range, all.1 x),
     )
-
--- a node of another kind or text has none
-pub no_member : (p n : Node) (m : Member) → role_of (kind_of p) ≡ roles.Plain → ((kind_of p ≡ kind_of n) × (text_of p ≡ text_of n) → ⊥) → MemberAt p n m → ⊥
-no_member p n m role differ (may, range, x) = differ (plain_kinds p n [] role m.1 x, plain_texts p n [] role m.1 x)

@@ -1,21 +1,20 @@
 -- Steps of the search of a list of kids.
-use Rattle.std.proofs.Common.{◌≡◌, ◌⊎◌, inl, inr, ◌↔◌, ℕ, zero, suc, ◌+◌, ◌≤◌, ◌<◌, List, [], ◌∷◌, ◌++◌, length, take, drop, get_or, map, refl, sym, ap, ◌∙◌, subst, arith, ◌-◌, length-drop, add-one, Bool, true, false}
+use Rattle.std.proofs.Common.{◌≡◌, ◌⊎◌, inl, inr, ◌↔◌, ℕ, suc, ◌+◌, ◌≤◌, ◌<◌, List, [], ◌∷◌, ◌++◌, length, take, drop, get_or, map, refl, sym, ap, ◌∙◌, subst, arith, ◌-◌, length-drop, add-one, Bool, true, false}
 use Rattle.node_tree.specs.declared.node.Node.{Node}
 use Rattle.node_tree.specs.Tree.{kids_of, text_of, span_of, content_of}
 use Rattle.meta_bind.specs.declared.bound.Bound.{Bound}
 use Rattle.tree_match.specs.declared.state.State.{State}
 use Rattle.tree_match.specs.Sets.{Among, Adds}
-use Rattle.tree_match.specs.Relation.{Matches, MatchesList, both_empty, head_and_rest, dots, named_dots, Binds, fresh, again, bound_by, run_span, end_of}
-use Rattle.tree_match.specs.Fronts.{End, Leads, MatchesFront, no_pattern_front, head_front, dots_front, named_dots_front}
+use Rattle.tree_match.specs.Relation.{Matches, MatchesList, Binds, fresh, again, bound_by, run_span, end_of}
+use Rattle.tree_match.specs.Fronts.{End, Leads, MatchesFront, no_pattern_front}
 use Rattle.tree_match.proofs.FrontLaws.{whole_front}
-use Rattle.tree_match.specs.States.{AnyFrom, AddsFrom, From, Goes, Runs, RunOf, Entered, Heads, IsCovered}
+use Rattle.tree_match.specs.States.{AnyFrom, From, Goes, Runs, RunOf, Entered, Heads, IsCovered}
 use Rattle.std.specs.Prelude.{Option, None, Some}
 use Rattle.std.proofs.lemmas.List.{drop_all, take_all, drop-drop}
 use Rattle.std.proofs.Math.Seq.{drop-cons}
 use Rattle.std.proofs.Math.Nat.{eq-or-lt_of_le}
 use Rattle.meta_bind.specs.Bounds.{bound_at, with_bound}
 use Rattle.node_tree.specs.declared.span.Span.{Span}
-use Rattle.node_tree.specs.declared.kind.Kind.{Kind}
 use Rattle.node_tree.specs.declared.kind.Kind.TheVariants as kinds
 use Rattle.tree_match.proofs.Sets.{among_more}
 
@@ -139,9 +138,6 @@ pub run_of : (h p : Node) (ps ns ms : List Node) (k : ℕ) (b t : List Bound) (c
 run_of h p ps ns ms k b t c binds e =
     let P : List Node → Type 0 = λ xs. Leads h ps xs t c ↔ RunOf k h p ps ns b c in
     subst P (sym e) (λ goes. (t, (binds t).1 refl, goes), λ (d, x, goes). let is : d ≡ t = (let s = (binds d).0 x in cc) in let Q : List Bound → Type 0 = λ y. Leads h ps (drop k ns) y c in subst Q is goes)
-
-pub no_run : (h p : Node) (ps ns : List Node) (k : ℕ) (b : List Bound) (c : End) → ((d : List Bound) → Binds h (text_of p) (take k ns) b d ↔ (None ≡ Some d)) → RunOf k h p ps ns b c → ⊥
-no_run h p ps ns k b c binds (d, x, goes) = let e = (binds d).0 x in absurd cc
 
 pub runs_more : (h p : Node) (ps ns : List Node) (k : ℕ) (b : List Bound) (c : End) → Runs k h p ps ns b c ↔ (RunOf k h p ps ns b c ⊎ Runs (k + 1) h p ps ns b c)
 runs_more h p ps ns k b c = (

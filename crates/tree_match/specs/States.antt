@@ -1,5 +1,5 @@
 -- Where the search of a list of kids stands.
-use Rattle.std.specs.Prelude.{◌≡◌, ◌⊎◌, ◌↔◌, ◌≤◌, ℕ, List, [], ◌∷◌, take, drop, Bool, true, false, Option, Some}
+use Rattle.std.specs.Prelude.{◌≡◌, ◌⊎◌, ◌↔◌, ◌≤◌, ℕ, List, [], ◌∷◌, take, drop, Bool, true, false}
 use Rattle.node_tree.specs.declared.node.Node.{Node}
 use Rattle.node_tree.specs.Tree.{text_of, kids_of, span_of}
 use Rattle.meta_bind.specs.declared.bound.Bound.{Bound}

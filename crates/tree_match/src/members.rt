@@ -1,6 +1,6 @@
 //! Members in order, each once.
 
-ghost use Rattle.std.specs.Prelude.{◌≡◌, ◌↔◌, List as list, [], length, OnOk, IfOk, MatchOption};
+ghost use Rattle.std.specs.Prelude.{◌≡◌, OnOk, MatchOption};
 ghost use Rattle.tree_match.specs.Sets.{Among, Adds, AddsUpTo};
 ghost use Rattle.tree_match.specs.Ascending.{IsAscending, IsPlace};
 ghost use Rattle.tree_match.specs.Members.{member_cmp};

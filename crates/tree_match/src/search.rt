@@ -1,11 +1,11 @@
 //! The search for the bindings that a pattern may take a binding to.
 
-ghost use Rattle.std.specs.Prelude.{◌≡◌, ◌⊎◌, ◌↔◌, ◌≤◌, ◌<◌, ◌+◌, [], ◌∷◌, length, drop, OnOk, IfOk};
+ghost use Rattle.std.specs.Prelude.{◌≡◌, ◌<◌, ◌+◌, ◌∷◌, length, drop, OnOk, IfOk};
 ghost use Rattle.node_tree.specs.Tree.{kids_of, kind_of};
-ghost use Rattle.tree_match.specs.Sets.{Among, Adds};
+ghost use Rattle.tree_match.specs.Sets.{Adds};
 ghost use Rattle.tree_match.specs.Kinds.{role_of as role, IsOne};
 ghost use Rattle.tree_match.specs.Relation.{Matches, MatchesList};
-ghost use Rattle.tree_match.specs.States.{AnyFrom, AddsFrom, Steps, From, Heads};
+ghost use Rattle.tree_match.specs.States.{AddsFrom, Steps, From, Heads};
 ghost use Rattle.tree_match.specs.declared.class.Role.TheVariants.{Meta, Deep, Plain};
 
 use crate::class::{Role, is_alike, is_expression, is_string, is_term, is_wild, role_of};

@@ -3,15 +3,15 @@
 //! Along the kids of the node the states after a new name are followed one by one, each to its end. So a search that finds
 //! too many members stops before it has made all states.
 
-ghost use Rattle.std.specs.Prelude.{◌≡◌, ◌↔◌, ◌≤◌, ◌<◌, List as list, [], length, drop, OnOk, IfOk};
-ghost use Rattle.node_tree.specs.Tree.{kind_of, span_of};
-ghost use Rattle.tree_match.specs.Sets.{Among, AddsUpTo};
+ghost use Rattle.std.specs.Prelude.{◌≡◌, ◌↔◌, ◌<◌, List as list, [], length, drop, OnOk, IfOk};
+ghost use Rattle.node_tree.specs.Tree.{kind_of};
+ghost use Rattle.tree_match.specs.Sets.{AddsUpTo};
 ghost use Rattle.tree_match.specs.Kinds.{role_of as role};
 ghost use Rattle.tree_match.specs.declared.class.Role.TheVariants.{Plain};
 ghost use Rattle.tree_match.specs.Fronts.{End};
 ghost use Rattle.tree_match.specs.States.{AnyFrom, MemberFrom};
 ghost use Rattle.tree_match.specs.Ascending.{IsAscending};
-ghost use Rattle.tree_match.specs.Members.{member_cmp, MayStand, MemberAt};
+ghost use Rattle.tree_match.specs.Members.{member_cmp, MemberAt};
 
 use crate::class::{Role, is_alike, is_expression, role_of};
 use crate::list::{alone, finish, start};

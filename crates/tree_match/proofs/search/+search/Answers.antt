@@ -1,13 +1,12 @@
 use Rattle.std.proofs.Common.{◌≡◌, ◌∷◌, [], ◌∙◌, ap, sym, arith, drop, true, false, refl, subst, length, List, get_or, ◌↔◌}
 use Rattle.node_tree.specs.declared.node.Node.{Node}
-use Rattle.meta_bind.specs.declared.bound.Bound.{Bound}
 use Rattle.tree_match.specs.declared.state.State.{State}
 use Rattle.tree_match.specs.Relation.{Matches}
-use Rattle.tree_match.specs.States.{AnyFrom, From, Goes}
+use Rattle.tree_match.specs.States.{AnyFrom}
 use Rattle.node_tree.specs.Tree.{kids_of}
 use Rattle.tree_match.proofs.Sets.{adds_as, adds_none, gathered, gathered_all, plus_as, plus_none, chain}
-use Rattle.tree_match.proofs.Inversion.{plain, plain_kinds, plain_texts, any_string, any_strings, no_dots, no_meta_dots, dots_again, deep_in, heads, goes_more, goes_last, no_goes, no_item, ordered_kids, somewhere_more, nowhere, one_kid, Somewhere}
-use Rattle.tree_match.proofs.Steps.{put_from, first_state, no_state, floating_from, staying_from, entered_heads, next_pattern, last_pattern, from_none}
+use Rattle.tree_match.proofs.Inversion.{plain, plain_kinds, plain_texts, any_string, any_strings, no_dots, no_meta_dots, dots_again, deep_in, heads, goes_more, no_goes, no_item, ordered_kids, somewhere_more, nowhere, one_kid, Somewhere}
+use Rattle.tree_match.proofs.Steps.{first_state, no_state, floating_from, staying_from, entered_heads, next_pattern, last_pattern, from_none}
 use Rattle.tree_match.proofs.search.+search.Goals as goal
 
 pub same-returns-then-not-is_alike : goal.same-returns-then-not-is_alike

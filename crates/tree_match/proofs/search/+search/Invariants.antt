@@ -3,7 +3,6 @@ use Rattle.node_tree.specs.declared.node.Node.{Node}
 use Rattle.node_tree.specs.Tree.{kids_of}
 use Rattle.meta_bind.specs.declared.bound.Bound.{Bound}
 use Rattle.tree_match.specs.Sets.{Among}
-use Rattle.tree_match.specs.Relation.{MatchesList}
 use Rattle.tree_match.specs.Fronts.{End, Leads}
 use Rattle.tree_match.specs.States.{AnyFrom, Goes}
 use Rattle.tree_match.proofs.Inversion.{Somewhere}

@@ -1,4 +1,4 @@
-use Rattle.std.proofs.Common.{◌↔◌, ◌⊎◌, inl, inr, arith, []}
+use Rattle.std.proofs.Common.{◌⊎◌, inl, inr, arith, []}
 use Rattle.tree_match.specs.Sets.{Among}
 use Rattle.tree_match.specs.States.{MemberFrom}
 use Rattle.tree_match.proofs.Sets.{gathered, gathered_all, plus_as}
