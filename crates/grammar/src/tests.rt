@@ -68,6 +68,9 @@ fn gives_a_tuple_the_span_of_its_parentheses(rt: HostRuntime) -> Result<(), Fail
 #[test]
 fn reads_calls_from_any_place(rt: HostRuntime) -> Result<(), Fail> {
     let tokens = tokens(&rt, b"a+f(x=-1,?)(), b")?;
+    if tokens.len() < 2 {
+        return Err(Fail::new("a token is missing"));
+    }
     let (node, end) = read_exprs(rt.alloc(), &tokens, 2)?;
     assert!(rt; end == 14);
     assert!(rt; is_node(Some(&node), Kind::Tuple, 0, 2, 14));
