@@ -83,3 +83,8 @@ is_only text mode r n e h t =
 pub is_placed : (text : List ℕ) (r : Result Node ReadFault) → IsUtf8 text → Gives (λ n. n) r (root_at text) → IfOk r (SpansLieIn text)
 is_placed text (Ok n) utf8 h = root_lies text n utf8 (root_sound text n h)
 is_placed text (Err e) utf8 h = tt
+
+-- a text has one tree
+pub one_tree : (mode : Mode) (text : List ℕ) (n m : Node) → IsTreeOf mode text n → IsTreeOf mode text m → n ≡ m
+one_tree modes.Text text n m s t = some_is n m (sym (root_complete text n s) ∙ root_complete text m t)
+one_tree modes.Pattern text n m s t = absurd s

@@ -1,68 +1,119 @@
 -- A run ends in one way.
-use Rattle.std.proofs.Common.{◌≡◌, ℕ, ◌≤◌, List, [], ◌++◌, length, map, refl, sym, ap, ◌∙◌, subst, arith, length-append}
+use Rattle.std.proofs.Common.{◌≡◌, ℕ, ◌≤◌, Bool, List, [], ◌∷◌, ◌++◌, length, map, refl, sym, ap, ◌∙◌, subst, arith, length-append}
 use Rattle.std.specs.Prelude.{Option, Some, None}
 use Rattle.std.specs.List.{concat}
 use Rattle.std.specs.Io.KnownBytes.{Consumes, IsAtEnd, Appends}
 use Rattle.std.proofs.lemmas.List.{append-nil}
 use Rattle.node_tree.specs.declared.node.Node.{Node}
-use Rattle.node_tree.specs.declared.span.Span.{Span}
+use Rattle.node_tree.specs.declared.view.Pattern.{Pattern}
+use Rattle.node_tree.specs.declared.view.Lang.{Lang}
+use Rattle.node_tree.specs.declared.view.Shape.{Shape}
+use Rattle.node_tree.specs.declared.view.Mode.TheVariants.{Text}
+use Rattle.node_tree.specs.Tree.{kids_of}
+use Rattle.json_tree.proofs.Trees.{one_tree}
 use Rattle.scan_world.specs.Streams.{AppendsFront}
-use Rattle.tree_match.specs.Leaf.{IsLeafOf}
+use Rattle.tree_match.specs.declared.leaf.Leaf.{Leaf}
+use Rattle.tree_match.specs.declared.leaf.Leaf.TheVariants.{Full, Crowded}
+use Rattle.tree_match.specs.Members.{Member, IsMember}
+use Rattle.tree_match.specs.Leaf.{IsLeaf}
+use Rattle.tree_match.proofs.Exclusion.{few_or_more, whole_once}
 use Rattle.semscan.specs.declared.status.Status.{Status}
-use Rattle.semscan.specs.declared.status.Status.TheVariants.{OverLimit, BadTarget, Done}
+use Rattle.semscan.specs.declared.status.Status.TheVariants.{OverLimit, BadTarget, TooMany, Done}
 use Rattle.semscan.specs.declared.status.LimitKind.TheVariants.{Target}
 use Rattle.semscan.specs.Words.{AreMatchWords}
 use Rattle.semscan.specs.Reading.{IsPatternOf, HasNoPattern, IsFileOf, HasNoFile}
 use Rattle.semscan.specs.Lines.{line_of}
 use Rattle.semscan.specs.Streams.{Tells, AppendsSome}
-use Rattle.semscan.specs.Run.{AskFor, Ends, usage, bad_pattern, over_limit, bad_target, done, Printed, PrintedFront, PrintedSome}
+use Rattle.semscan.specs.Run.{AskFor, Ends, usage, bad_pattern, over_limit, bad_target, too_many, done, Printed, PrintedFront, PrintedSome}
 use Rattle.semscan.proofs.Streaming.{nothing_written}
 
 same_words : (words : List (List ℕ)) (a b : List ℕ) → AreMatchWords words a → AreMatchWords words b → a ≡ b
 same_words words a b p q = cc
 
 -- words whose pattern is refused ask for none
-refused : (words : List (List ℕ)) (text : List ℕ) (pattern : Node) → AreMatchWords words text → HasNoPattern text → AskFor words pattern → ⊥
+refused : (words : List (List ℕ)) (text : List ℕ) (pattern : Pattern) → AreMatchWords words text → HasNoPattern text → AskFor words pattern → ⊥
 refused words text pattern are none ask =
     let P : List ℕ → Type 0 = λ t. IsPatternOf t pattern in
     none pattern (subst P (same_words words ask.text text ask.are_words are) ask.is_pattern)
 
+-- words ask for one pattern
+one_pattern : (words : List (List ℕ)) (p q : Pattern) → AskFor words p → AskFor words q → p ≡ q
+one_pattern words p q a b =
+    let P : List ℕ → Type 0 = λ t. IsPatternOf t q in
+    let c : IsPatternOf a.text q = subst P (same_words words b.text a.text b.are_words a.are_words) b.is_pattern in
+    let d = a.is_pattern in
+    let roots : d.root ≡ c.root = one_tree Text a.text d.root c.root d.tree c.tree in
+    let kids : p.tree ∷ [] ≡ q.tree ∷ [] = sym d.kids ∙ ap kids_of roots ∙ c.kids in
+    let make : Lang → Shape → Node → Bool → Pattern = λ l s t k. record { lang = l; shape = s; tree = t; constants = k } in
+    let trees : p.tree ≡ q.tree = cc in
+    ap (λ (l : Lang). make l p.shape p.tree p.constants) (d.lang ∙ sym c.lang) ∙ ap (λ (s : Shape). make q.lang s p.tree p.constants) (d.shape ∙ sym c.shape)
+    ∙ ap (λ (t : Node). make q.lang q.shape t p.constants) trees ∙ ap (λ (k : Bool). make q.lang q.shape q.tree k) (d.constants ∙ sym c.constants)
+
+-- what is said of one pattern and file holds of the others that the words and the input give
+same_leaf : (words : List (List ℕ)) (input : List ℕ) (p q : Pattern) (t u : Node) (leaf : Leaf) → AskFor words p → AskFor words q → IsFileOf input t → IsFileOf input u → IsLeaf (IsMember q u) leaf → IsLeaf (IsMember p t) leaf
+same_leaf words input p q t u leaf a b f g h =
+    let P : Pattern → Type 0 = λ x. IsLeaf (IsMember x u) leaf in
+    let Q : Node → Type 0 = λ x. IsLeaf (IsMember p x) leaf in
+    subst Q (one_tree Text input u t g.is_tree f.is_tree) (subst P (one_pattern words q p b a) h)
+
+-- the status and the lines of a run
+abbrev Same : Status → Status → List (List ℕ) → List (List ℕ) → Type 0
+Same s t ls ms = (t ≡ s) × (ms ≡ ls)
+
 module _ (words : List (List ℕ)) (input : List ℕ) where
-  pub once : (s t : Status) (ls ms : List (List ℕ)) → Ends words input s ls → Ends words input t ms → t ≡ s
-  once _ _ _ _ (usage other) (usage _) = refl
+  pub once : (s t : Status) (ls ms : List (List ℕ)) → Ends words input s ls → Ends words input t ms → Same s t ls ms
+  once _ _ _ _ (usage other) (usage _) = (refl, refl)
   once _ _ _ _ (usage other) (bad_pattern text are _) = absurd (other text are)
-  once _ _ _ _ (usage other) (over_limit pattern ask _) = absurd (other ask.text ask.are_words)
-  once _ _ _ _ (usage other) (bad_target pattern ask _ _) = absurd (other ask.text ask.are_words)
-  once _ _ _ _ (usage other) (done pattern tree spans ask _ _) = absurd (other ask.text ask.are_words)
+  once _ _ _ _ (usage other) (over_limit _ ask _) = absurd (other ask.text ask.are_words)
+  once _ _ _ _ (usage other) (bad_target _ ask _ _) = absurd (other ask.text ask.are_words)
+  once _ _ _ _ (usage other) (too_many _ _ ask _ _) = absurd (other ask.text ask.are_words)
+  once _ _ _ _ (usage other) (done _ _ _ ask _ _) = absurd (other ask.text ask.are_words)
   once _ _ _ _ (bad_pattern text are none) (usage other) = absurd (other text are)
-  once _ _ _ _ (bad_pattern text are none) (bad_pattern _ _ _) = refl
-  once _ _ _ _ (bad_pattern text are none) (over_limit pattern ask _) = absurd (refused words text pattern are none ask)
-  once _ _ _ _ (bad_pattern text are none) (bad_target pattern ask _ _) = absurd (refused words text pattern are none ask)
-  once _ _ _ _ (bad_pattern text are none) (done pattern tree spans ask _ _) = absurd (refused words text pattern are none ask)
+  once _ _ _ _ (bad_pattern text are none) (bad_pattern _ _ _) = (refl, refl)
+  once _ _ _ _ (bad_pattern text are none) (over_limit q ask _) = absurd (refused words text q are none ask)
+  once _ _ _ _ (bad_pattern text are none) (bad_target q ask _ _) = absurd (refused words text q are none ask)
+  once _ _ _ _ (bad_pattern text are none) (too_many q _ ask _ _) = absurd (refused words text q are none ask)
+  once _ _ _ _ (bad_pattern text are none) (done q _ _ ask _ _) = absurd (refused words text q are none ask)
   once _ _ _ _ (over_limit p ask long) (usage other) = absurd (other ask.text ask.are_words)
   once _ _ _ _ (over_limit p ask long) (bad_pattern text are none) = absurd (refused words text p are none ask)
-  once _ _ _ _ (over_limit p ask long) (over_limit _ _ _) = refl
-  once _ _ _ _ (over_limit p ask long) (bad_target pattern _ small _) = absurd (omega arith)
-  once _ _ _ _ (over_limit p ask long) (done pattern tree spans _ file _) = absurd (omega (arith, file.small))
+  once _ _ _ _ (over_limit p ask long) (over_limit _ _ _) = (refl, refl)
+  once _ _ _ _ (over_limit p ask long) (bad_target _ _ small _) = absurd (omega arith)
+  once _ _ _ _ (over_limit p ask long) (too_many _ _ _ file _) = absurd (omega (arith, file.small))
+  once _ _ _ _ (over_limit p ask long) (done _ _ _ _ file _) = absurd (omega (arith, file.small))
   once _ _ _ _ (bad_target p ask small none) (usage other) = absurd (other ask.text ask.are_words)
   once _ _ _ _ (bad_target p ask small none) (bad_pattern text are nothing) = absurd (refused words text p are nothing ask)
-  once _ _ _ _ (bad_target p ask small none) (over_limit pattern _ long) = absurd (omega arith)
-  once _ _ _ _ (bad_target p ask small none) (bad_target _ _ _ _) = refl
-  once _ _ _ _ (bad_target p ask small none) (done pattern tree spans _ file _) = absurd (none tree file)
-  once _ _ _ _ (done p tree spans ask file leaf) (usage other) = absurd (other ask.text ask.are_words)
-  once _ _ _ _ (done p tree spans ask file leaf) (bad_pattern text are none) = absurd (refused words text p are none ask)
-  once _ _ _ _ (done p tree spans ask file leaf) (over_limit pattern _ long) = absurd (omega (arith, file.small))
-  once _ _ _ _ (done p tree spans ask file leaf) (bad_target pattern _ _ none) = absurd (none tree file)
-  once _ _ _ _ (done p tree spans ask file leaf) (done _ _ _ _ _ _) = refl
+  once _ _ _ _ (bad_target p ask small none) (over_limit _ _ long) = absurd (omega arith)
+  once _ _ _ _ (bad_target p ask small none) (bad_target _ _ _ _) = (refl, refl)
+  once _ _ _ _ (bad_target p ask small none) (too_many _ tree _ file _) = absurd (none tree file)
+  once _ _ _ _ (bad_target p ask small none) (done _ tree _ _ file _) = absurd (none tree file)
+  once _ _ _ _ (too_many p t ask file more) (usage other) = absurd (other ask.text ask.are_words)
+  once _ _ _ _ (too_many p t ask file more) (bad_pattern text are none) = absurd (refused words text p are none ask)
+  once _ _ _ _ (too_many p t ask file more) (over_limit _ _ long) = absurd (omega (arith, file.small))
+  once _ _ _ _ (too_many p t ask file more) (bad_target _ _ _ none) = absurd (none t file)
+  once _ _ _ _ (too_many p t ask file more) (too_many _ _ _ _ _) = (refl, refl)
+  once _ _ _ _ (too_many p t ask file more) (done q u members ask' file' leaf) =
+      let whole = same_leaf words input p q t u (Full members) ask ask' file file' leaf in
+      absurd (few_or_more (IsMember p t) 10000 members whole.0 whole.1 more)
+  once _ _ _ _ (done p t members ask file leaf) (usage other) = absurd (other ask.text ask.are_words)
+  once _ _ _ _ (done p t members ask file leaf) (bad_pattern text are none) = absurd (refused words text p are none ask)
+  once _ _ _ _ (done p t members ask file leaf) (over_limit _ _ long) = absurd (omega (arith, file.small))
+  once _ _ _ _ (done p t members ask file leaf) (bad_target _ _ _ none) = absurd (none t file)
+  once _ _ _ _ (done p t members ask file leaf) (too_many q u ask' file' more) =
+      absurd (few_or_more (IsMember p t) 10000 members leaf.0 leaf.1 (same_leaf words input p q t u Crowded ask ask' file file' more))
+  once _ _ _ _ (done p t members ask file leaf) (done q u members' ask' file' leaf') =
+      let whole = same_leaf words input p q t u (Full members') ask ask' file file' leaf' in
+      (refl, ap (map line_of) (whole_once (IsMember p t) members' members whole.0 leaf.0))
 
--- so an answer is the only one for an input that the source tells
+-- so an answer and what was written are the only ones for an input that the source tells
 pub only_end : (words : List (List ℕ)) (left written after : Option (List ℕ)) (s : Status) → Printed words left written after s
-    → (bytes : List ℕ) (t : Status) (lines : List (List ℕ)) → left ≡ Some bytes → Ends words bytes t lines → t ≡ s
+    → (bytes : List ℕ) (t : Status) (lines : List (List ℕ)) → left ≡ Some bytes → Ends words bytes t lines → (t ≡ s) × Appends written after (concat lines)
 only_end words left written after s p bytes t lines e ends =
     let P : Option (List ℕ) → Type 0 = λ o. Tells o p.input in
     let same : bytes ≡ p.input = subst P e p.told in
     let Q : List ℕ → Type 0 = λ b. Ends words b t lines in
-    once words p.input s t p.lines lines p.ends (subst Q same ends)
+    let one = once words p.input s t p.lines lines p.ends (subst Q same ends) in
+    let R : List (List ℕ) → Type 0 = λ ls. Appends written after (concat ls) in
+    (one.0, subst R (sym one.1) p.printed)
 
 -- ---- the input that a source tells
 
@@ -90,7 +141,7 @@ unread words (Some xs) written s ends = record { input = xs; told = refl; lines 
 
 -- ---- how a run with a pattern ends
 
-module _ (words : List (List ℕ)) (text : List ℕ) (pattern : Node) (are : AreMatchWords words text) (is : IsPatternOf text pattern) where
+module _ (words : List (List ℕ)) (text : List ℕ) (pattern : Pattern) (are : AreMatchWords words text) (is : IsPatternOf text pattern) where
   ask : AskFor words pattern
   ask = record { text = text; are_words = are; is_pattern = is }
 
@@ -108,15 +159,19 @@ module _ (words : List (List ℕ)) (text : List ℕ) (pattern : Node) (are : Are
     printed = nothing_written written;
   }
 
-  module _ (left after : Option (List ℕ)) (read : List ℕ) (h : Consumes left after read) (end : IsAtEnd after) (tree : Node) (file : IsFileOf read tree) (spans : List Span) (leaf : IsLeafOf pattern tree spans) where
-    is_done : Ends words read Done (map line_of spans)
-    is_done = done pattern tree spans ask file leaf
+  module _ (left after : Option (List ℕ)) (read : List ℕ) (h : Consumes left after read) (end : IsAtEnd after) (tree : Node) (file : IsFileOf read tree) where
+    pub ends_too_many : (written : Option (List ℕ)) → IsLeaf (IsMember pattern tree) Crowded → Printed words left written written (TooMany 10000)
+    ends_too_many written more = record { input = read; told = whole_input left after read h end; lines = []; ends = too_many pattern tree ask file more; printed = nothing_written written }
 
-    pub ends_done : (written written_after : Option (List ℕ)) → Appends written written_after (concat (map line_of spans)) → Printed words left written written_after Done
-    ends_done written written_after put = record { input = read; told = whole_input left after read h end; lines = map line_of spans; ends = is_done; printed = put }
+    module _ (members : List Member) (leaf : IsLeaf (IsMember pattern tree) (Full members)) where
+      is_done : Ends words read Done (map line_of members)
+      is_done = done pattern tree members ask file leaf
 
-    pub ends_cut : (written written_after : Option (List ℕ)) → AppendsFront written written_after (concat (map line_of spans)) → PrintedFront words left written written_after
-    ends_cut written written_after put = record { input = read; told = whole_input left after read h end; lines = map line_of spans; ends = is_done; printed = put }
+      pub ends_done : (written written_after : Option (List ℕ)) → Appends written written_after (concat (map line_of members)) → Printed words left written written_after Done
+      ends_done written written_after put = record { input = read; told = whole_input left after read h end; lines = map line_of members; ends = is_done; printed = put }
 
-    pub ends_short : (written written_after : Option (List ℕ)) → AppendsSome written written_after (map line_of spans) → PrintedSome words left written written_after
-    ends_short written written_after put = record { input = read; told = whole_input left after read h end; lines = map line_of spans; ends = is_done; printed = put }
+      pub ends_cut : (written written_after : Option (List ℕ)) → AppendsFront written written_after (concat (map line_of members)) → PrintedFront words left written written_after
+      ends_cut written written_after put = record { input = read; told = whole_input left after read h end; lines = map line_of members; ends = is_done; printed = put }
+
+      pub ends_short : (written written_after : Option (List ℕ)) → AppendsSome written written_after (map line_of members) → PrintedSome words left written written_after
+      ends_short written written_after put = record { input = read; told = whole_input left after read h end; lines = map line_of members; ends = is_done; printed = put }

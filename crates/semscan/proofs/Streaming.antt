@@ -6,6 +6,9 @@ use Rattle.std.specs.Io.KnownBytes.{Consumes, Appends}
 use Rattle.std.proofs.lemmas.List.{append-nil, take_more, take-append-drop, take-map, map-append}
 use Rattle.std.proofs.lemmas.List.Folds.{concat-append}
 use Rattle.scan_world.specs.Streams.{AppendsFront}
+use Rattle.meta_bind.specs.declared.bound.Bound.{Bound}
+use Rattle.meta_bind.specs.Bounds.{seen}
+use Rattle.semscan.specs.Lines.{bound_text}
 use Rattle.semscan.specs.Streams.{AppendsSome}
 
 pub nothing_read : (left : Option (List ℕ)) → Consumes left left []
@@ -32,10 +35,10 @@ written_on (Some xs) (Some ys) (Some zs) x y h k = k ∙ ap (λ (l : List ℕ). 
 
 module _ {X : Type 0} (line : X → List ℕ) where
   -- the lines of the first items
-  abbrev lines_to : List X → ℕ → List ℕ
+  abbrev pub lines_to : List X → ℕ → List ℕ
   lines_to items i = concat (map line (take i items))
 
-  one_more : (items : List X) (i : ℕ) (x d : X) → i < length items → x ≡ get_or items i d → lines_to items (i + 1) ≡ lines_to items i ++ line x
+  pub one_more : (items : List X) (i : ℕ) (x d : X) → i < length items → x ≡ get_or items i d → lines_to items (i + 1) ≡ lines_to items i ++ line x
   one_more items i x d lt is =
       ap (λ (l : List X). concat (map line l)) (take_more items i d lt ∙ ap (λ (y : X). take i items ++ y ∷ []) (sym is))
       ∙ ap concat (map-append line (take i items) (x ∷ [])) ∙ concat-append (map line (take i items)) (line x ∷ [])
@@ -67,3 +70,17 @@ module _ {X : Type 0} (line : X → List ℕ) where
 
 pub no_front : (a b : Option (List ℕ)) (piece : List ℕ) → b ≡ a → AppendsFront a b piece
 no_front a b piece e = let P : Option (List ℕ) → Type 0 = λ o. AppendsFront a o piece in subst P (sym e) ([], piece, refl, nothing_written a)
+
+-- ---- the names of a member
+
+seen_texts : (bs : List Bound) → map bound_text (map seen bs) ≡ map bound_text bs
+seen_texts [] = refl
+seen_texts (b ∷ bs) = ap (λ (l : List (List ℕ)). bound_text b ∷ l) (seen_texts bs)
+
+-- after one more name
+pub one_name : (front old part new : List ℕ) (bs : List Bound) (i : ℕ) (b d : Bound) → i < length bs → b ≡ get_or bs i d → old ≡ front ++ concat (map bound_text (map seen (take i bs))) → part ≡ bound_text b → new ≡ old ++ part
+    → new ≡ front ++ concat (map bound_text (map seen (take (i + 1) bs)))
+one_name front old part new bs i b d lt is before this after =
+    after ∙ ap (λ (l : List ℕ). old ++ l) this ∙ ap (λ (l : List ℕ). l ++ bound_text b) (before ∙ ap (λ (l : List (List ℕ)). front ++ concat l) (seen_texts (take i bs)))
+    ∙ append_assoc front (lines_to bound_text bs i) (bound_text b)
+    ∙ ap (λ (l : List ℕ). front ++ l) (sym (one_more bound_text bs i b d lt is) ∙ ap concat (sym (seen_texts (take (i + 1) bs))))

@@ -3,9 +3,11 @@ use Rattle.std.specs.Prelude.{◌≡◌, ℕ, ◌≤◌, List, [], ◌∷◌, le
 use Rattle.std.specs.List.{concat}
 use Rattle.std.specs.Io.KnownBytes.{Appends}
 use Rattle.node_tree.specs.declared.node.Node.{Node}
-use Rattle.node_tree.specs.declared.span.Span.{Span}
+use Rattle.node_tree.specs.declared.view.Pattern.{Pattern}
 use Rattle.scan_world.specs.Streams.{AppendsFront}
-use Rattle.tree_match.specs.Leaf.{IsLeafOf}
+use Rattle.tree_match.specs.declared.leaf.Leaf.TheVariants.{Full, Crowded}
+use Rattle.tree_match.specs.Members.{Member, IsMember}
+use Rattle.tree_match.specs.Leaf.{IsLeaf}
 use Rattle.semscan.specs.declared.status.Status.{Status}
 use Rattle.semscan.specs.declared.status.Status.TheVariants as statuses
 use Rattle.semscan.specs.declared.status.LimitKind.TheVariants.{Target}
@@ -15,7 +17,7 @@ use Rattle.semscan.specs.Lines.{line_of}
 use Rattle.semscan.specs.Streams.{Tells, AppendsSome}
 
 -- the words ask where this pattern matches
-pub record AskFor (words : List (List ℕ)) (pattern : Node) : Type 0 where
+pub record AskFor (words : List (List ℕ)) (pattern : Pattern) : Type 0 where
   pub text : List ℕ
   pub are_words : AreMatchWords words text
   pub is_pattern : IsPatternOf text pattern
@@ -25,9 +27,10 @@ pub record AskFor (words : List (List ℕ)) (pattern : Node) : Type 0 where
 pub data Ends (words : List (List ℕ)) (input : List ℕ) : Status → List (List ℕ) → Type 0 where
   usage : AreOtherWords words → Ends words input statuses.Usage []
   bad_pattern : (text : List ℕ) → AreMatchWords words text → HasNoPattern text → Ends words input statuses.BadPattern []
-  over_limit : (pattern : Node) → AskFor words pattern → 1000001 ≤ length input → Ends words input (statuses.OverLimit Target 1000001) []
-  bad_target : (pattern : Node) → AskFor words pattern → length input ≤ 1000000 → HasNoFile input → Ends words input statuses.BadTarget []
-  done : (pattern tree : Node) (spans : List Span) → AskFor words pattern → IsFileOf input tree → IsLeafOf pattern tree spans → Ends words input statuses.Done (map line_of spans)
+  over_limit : (pattern : Pattern) → AskFor words pattern → 1000001 ≤ length input → Ends words input (statuses.OverLimit Target 1000001) []
+  bad_target : (pattern : Pattern) → AskFor words pattern → length input ≤ 1000000 → HasNoFile input → Ends words input statuses.BadTarget []
+  too_many : (pattern : Pattern) (tree : Node) → AskFor words pattern → IsFileOf input tree → IsLeaf (IsMember pattern tree) Crowded → Ends words input (statuses.TooMany 10000) []
+  done : (pattern : Pattern) (tree : Node) (members : List Member) → AskFor words pattern → IsFileOf input tree → IsLeaf (IsMember pattern tree) (Full members) → Ends words input statuses.Done (map line_of members)
 
 -- the status is that of a run which met no fault and had its memory
 abbrev pub IsAnswer : Status → Type 0

@@ -79,6 +79,7 @@ fn report(rt: &impl Eprint, status: Status) -> io::Result<()> {
         Status::InputFault => eprintln!(rt; "semscan: input failed"),
         Status::OutputFault => eprintln!(rt; "semscan: output failed"),
         Status::OverLimit(_, count) => eprintln!(rt; "semscan: over limit {count}"),
+        Status::TooMany(most) => eprintln!(rt; "semscan: more than {most}"),
         Status::BadTarget => eprintln!(rt; "semscan: no tree"),
         Status::BadPattern => eprintln!(rt; "semscan: no pattern"),
     }

@@ -10,7 +10,7 @@ use std::str;
 
 /// The pattern that a text writes. NoTree also says that the text is too long.
 pub fn read_pattern(alloc: Global, text: &str) -> Result<Pattern, ReadFault>
-    ensures pattern { IfOk result (λ p. IsPatternOf text.now p.tree) }
+    ensures pattern { IfOk result (IsPatternOf text.now) }
     ensures none { result ≡ Err ReadFault.NoTree → HasNoPattern text.now }
 {
     if text.len() > 1_000_000 {

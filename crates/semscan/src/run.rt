@@ -1,7 +1,8 @@
 //! The top call.
 
 ghost use Rattle.std.specs.Prelude.{◌≡◌, ◌⊎◌, ℕ, List, Some, map, string_bytes};
-ghost use Rattle.std.specs.Io.KnownBytes.{IsAtEnd};
+ghost use Rattle.std.specs.List.{concat};
+ghost use Rattle.std.specs.Io.KnownBytes.{IsAtEnd, Appends};
 ghost use Rattle.scan_world.specs.Faults.{Rose};
 ghost use Rattle.semscan.specs.declared.status.Status.{Status as status};
 ghost use Rattle.semscan.specs.Run.{IsAnswer, Ends, Printed, PrintedFront, PrintedSome};
@@ -16,7 +17,7 @@ use node_tree::{ReadFault, Steps};
 use scan_world::{Sink, Source};
 use std::alloc::Global;
 use std::sync::ledger::Ledger;
-use tree_match::match_leaf;
+use tree_match::{Leaf, match_leaf};
 
 /// Does what the words ask for, from the input to the lines on the output. `specs/Run.antt` says what a run is; the clauses
 /// say which part of it each status promises.
@@ -29,7 +30,7 @@ pub fn run<S: Source, K: Sink, L: Ledger>(
 ) -> Status
     // A run without a fault ends and prints as the definition says, and in no other way.
     ensures ends { IsAnswer result → Printed (map string_bytes words.now.items) (S.left input.old) (K.written out.old) (K.written out.new) result }
-    ensures only { IsAnswer result → (bytes : List ℕ) (s : status) (lines : List (List ℕ)) → S.left input.old ≡ Some bytes → Ends (map string_bytes words.now.items) bytes s lines → s ≡ result }
+    ensures only { IsAnswer result → (bytes : List ℕ) (s : status) (lines : List (List ℕ)) → S.left input.old ≡ Some bytes → Ends (map string_bytes words.now.items) bytes s lines → (s ≡ result) × Appends (K.written out.old) (K.written out.new) (concat lines) }
 
     // It leaves the counts of faults as they were, and is done only at the end of the input.
     ensures input_kept { IsAnswer result → S.faults input.new ≡ S.faults input.old }
@@ -67,10 +68,12 @@ pub fn run<S: Source, K: Sink, L: Ledger>(
         Err(ReadFault::Memory) => return Status::Memory,
         Err(ReadFault::NoTree) => return Status::BadTarget,
     };
-    let Ok(members) = match_leaf(alloc, &file, &pattern, steps) else {
-        return Status::Memory;
+    let members = match match_leaf(alloc, &file, &pattern, steps) {
+        Ok(Leaf::Full(members)) => members,
+        Ok(Leaf::Crowded) => return Status::TooMany(10_000),
+        Err(_) => return Status::Memory,
     };
-    match print_all(alloc, out, members.as_slice()) {
+    match print_all(alloc, out, &members) {
         Ok(()) => Status::Done,
         Err(OutputError::Memory) => Status::Memory,
         Err(OutputError::Failed) => Status::OutputFault,

@@ -22,6 +22,8 @@ pub enum Status {
     OutputFault,
     /// Something passes its limit, with the number that it came to.
     OverLimit(LimitKind, u64),
+    /// There are more members or findings than that.
+    TooMany(u64),
     /// The input is not UTF-8, or it has no tree.
     BadTarget,
     /// The pattern has no tree, or it is too long.
@@ -38,6 +40,7 @@ impl Status {
             Status::InputFault => 4,
             Status::OutputFault => 5,
             Status::OverLimit(_, _) => 8,
+            Status::TooMany(_) => 9,
             Status::BadTarget => 11,
             Status::BadPattern => 12,
         }
