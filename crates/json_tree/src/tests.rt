@@ -1,5 +1,6 @@
 use super::*;
 use node_tree::{Kind, Mode, Node, ReadFault};
+use std::alloc::AllocError;
 use std::test::*;
 
 // Whether the text has a tree.
@@ -8,15 +9,15 @@ fn reads(rt: &HostRuntime, text: &str) -> bool {
 }
 
 // So many opening and then so many closing brackets.
-fn nested(rt: &HostRuntime, depth: usize) -> String {
+fn nested(rt: &HostRuntime, depth: usize) -> Result<String, AllocError> {
     let mut text = String::new(rt.alloc());
     for _ in 0..depth {
-        text.push('[').unwrap();
+        text.push('[')?;
     }
     for _ in 0..depth {
-        text.push(']').unwrap();
+        text.push(']')?;
     }
-    text
+    Ok(text)
 }
 
 fn is(node: &Node, kind: Kind, text: &str, from: u32, to: u32) -> bool {
@@ -94,14 +95,14 @@ fn texts_without_a_tree(rt: HostRuntime) {
 
 #[test]
 fn a_tree_is_at_most_500_deep(rt: HostRuntime) {
-    assert!(rt; reads(&rt, nested(&rt, 499).as_str()));
-    assert!(rt; !reads(&rt, nested(&rt, 500).as_str()));
+    assert!(rt; reads(&rt, nested(&rt, 499).expect(&rt, "memory").as_str()));
+    assert!(rt; !reads(&rt, nested(&rt, 500).expect(&rt, "memory").as_str()));
 }
 
 #[test]
 fn a_tree_has_kinds_texts_and_spans(rt: HostRuntime) {
-    let tree = read_json(rt.alloc(), "[1,{\"a\":1}]", Mode::Text).unwrap();
-    let mut walk = tree.walk().unwrap();
+    let tree = read_json(rt.alloc(), "[1,{\"a\":1}]", Mode::Text).expect(&rt, "a tree");
+    let mut walk = tree.walk().expect(&rt, "memory");
     for (kind, text, from, to) in [
         (Kind::Root, "", 0, 11),
         (Kind::Array, "", 0, 11),
@@ -111,7 +112,7 @@ fn a_tree_has_kinds_texts_and_spans(rt: HostRuntime) {
         (Kind::Str, "\"a", 4, 7),
         (Kind::Number, "1", 8, 9),
     ] {
-        assert!(rt; is(walk.next().unwrap(), kind, text, from, to));
+        assert!(rt; is(walk.next().expect(&rt, "a node"), kind, text, from, to));
     }
     assert!(rt; walk.next().is_none());
 }
