@@ -80,7 +80,7 @@ use Rattle.grammar.specs.Rule.{Rule, has}
 use Rattle.grammar.specs.Reader.{read, choice, turns, ◌>>=◌}
 use Rattle.grammar.proofs.Rounds.{turn, turned, made}
 use Rattle.grammar.proofs.Stable.{room_step}
-use MODULE.Table.{Level, LEVELS, table, grammarROUNDS, Row}
+use MODULE.Table.{Level, LEVELS, table, grammarNAMES, Row}
 use MODULE.Build.{source, build}
 use MODULE.Sets.{sets, ranks}
 use MODULE.Reading.{level}
@@ -120,9 +120,10 @@ def main():
     levels = ', '.join(rows)
     loops = [l for l in rows if l in table.loops]
     shapes = {l: Parser(rows[l]).infix() for l in rows}
-    rounds = sorted({loop_row(t)[4] for t in shapes.values() if loop_row(t)})
+    found = [loop_row(t) for t in shapes.values() if loop_row(t)]
+    named = sorted({f[4] for f in found} | {f[1] for f in found if f[1]})
     out = HEAD.replace('TOKENS', '\n'.join(uses)).replace('MODULE', module).replace('PROOFS', proofs).replace('LEVELS', levels)
-    out = out.replace('ROUNDS', ''.join(', ' + r for r in rounds))
+    out = out.replace('NAMES', ''.join(', ' + n for n in named))
     lines = out.split('\n')
     for level in rows:
         if level not in loops:
