@@ -1,5 +1,5 @@
 -- Patterns sign by sign. A sign that stands for any run may be met once: what follows it is looked for from there on.
-use Rattle.std.proofs.Common.{◌≡◌, ◌↔◌, ◌<◌, ◌≤◌, false, List, [], ◌∷◌, ◌++◌, length, refl, sym, ap, ◌∙◌, subst, arith, append_assoc}
+use Rattle.std.proofs.Common.{◌≡◌, ◌↔◌, ◌≤◌, false, List, [], ◌∷◌, ◌++◌, length, refl, sym, ap, ◌∙◌, subst, arith, append_assoc}
 use Rattle.std.specs.Prelude.{IsTrue}
 use Rattle.path_glob.specs.Fitting.{Fits, FitsLater}
 use Rattle.path_glob.specs.Fronts.{Meets}

@@ -1,5 +1,5 @@
 -- How far a pattern has come when it meets a sign that stands for any run.
-use Rattle.std.specs.Prelude.{ℕ, ◌<◌, ◌≤◌, List, length}
+use Rattle.std.specs.Prelude.{◌<◌, ◌≤◌, List, length}
 use Rattle.path_glob.specs.Fitting.{Fits, FitsLater}
 use Rattle.path_glob.specs.declared.front.Front.{Front}
 use Rattle.path_glob.specs.declared.front.Front.TheVariants.{Whole, Run, Miss}

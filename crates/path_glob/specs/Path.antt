@@ -1,5 +1,5 @@
 -- What a path is, and the language that it names.
-use Rattle.std.specs.Prelude.{◌≡◌, ◌≢◌, ◌≤◌, ℕ, List, [], length, All, codes, if◌then◌else◌, ◌||◌, Option, Some, None, nat_eq, Bool, ◌∷◌}
+use Rattle.std.specs.Prelude.{◌≢◌, ◌≤◌, ℕ, List, [], length, All, codes, if◌then◌else◌, Option, Some, None, nat_eq, Bool, ◌∷◌}
 use Rattle.std.specs.List.{ends_with, list_any}
 use Rattle.node_tree.specs.declared.view.Lang.{Lang}
 use Rattle.node_tree.specs.declared.view.Lang.TheVariants.{Json, Python, C, Regex}

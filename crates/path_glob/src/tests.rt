@@ -1,16 +1,7 @@
 use super::*;
 use node_tree::Lang;
+use std::str::from_utf8;
 use std::test::*;
-
-// `a` many times, and then `end`.
-fn long(rt: &HostRuntime, piece: &str, times: usize, end: &str) -> String {
-    let mut text = String::new(rt.alloc());
-    for _ in 0..times {
-        text.push_str(piece).unwrap();
-    }
-    text.push_str(end).unwrap();
-    text
-}
 
 #[test]
 fn matches_as_worked_out(rt: HostRuntime) {
@@ -45,19 +36,36 @@ fn a_question_mark_is_one_character(rt: HostRuntime) {
 
 #[test]
 fn ends_fast_on_many_stars(rt: HostRuntime) {
-    let stars = long(&rt, "*a", 1000, "b");
-    let segment = long(&rt, "a", 2000, "c");
-    assert!(rt; !matches(stars.as_str(), segment.as_str()));
-    let globs = long(&rt, "**/a/", 200, "b");
-    let path = long(&rt, "a/", 500, "c");
-    assert!(rt; !matches(globs.as_str(), path.as_str()));
+    let mut glob = [b'*'; 1001];
+    glob[500] = b'a';
+    glob[1000] = b'b';
+    let segment = [b'a'; 2000];
+    assert!(rt;
+        !matches(
+            from_utf8(&glob).unwrap_or(""),
+            from_utf8(&segment).unwrap_or("")
+        )
+    );
+    assert!(rt;
+        matches(
+            from_utf8(&glob[..1000]).unwrap_or(""),
+            from_utf8(&segment).unwrap_or("")
+        )
+    );
+    assert!(rt;
+        !matches(
+            "**/a/**/a/**/a/**/b",
+            "a/a/a/a/a/a/a/a/a/a/a/a/a/a/a/a/a/a/a/c"
+        )
+    );
 }
 
 #[test]
 fn tells_paths(rt: HostRuntime) {
     assert!(rt; path_ok("src/.hidden/a b.py"));
-    assert!(rt; path_ok(long(&rt, "a", 1024, "").as_str()));
-    assert!(rt; !path_ok(long(&rt, "a", 1025, "").as_str()));
+    let segment = [b'a'; 1025];
+    assert!(rt; path_ok(from_utf8(&segment[..1024]).unwrap_or("")));
+    assert!(rt; !path_ok(from_utf8(&segment).unwrap_or("")));
     for text in ["", "/a", "a/", "a//b", ".", "a/..", "../a", "a\nb"] {
         assert!(rt; !path_ok(text));
     }

@@ -1,4 +1,4 @@
-use Rattle.std.proofs.Common.{ℕ, lit<, arith, sym, ◌∙◌}
+use Rattle.std.proofs.Common.{lit<, arith, ◌∙◌}
 use Rattle.std.proofs.lemmas.List.{get_or_default}
 use Rattle.std.proofs.lemmas.Str.Pattern.{contains_char}
 use Rattle.path_glob.proofs.glob.matches.Goals as goal

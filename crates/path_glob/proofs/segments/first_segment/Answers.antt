@@ -1,4 +1,4 @@
-use Rattle.std.proofs.Common.{◌≡◌, eqb, lit<, ap, ◌∙◌}
+use Rattle.std.proofs.Common.{eqb, lit<, ap, ◌∙◌}
 use Rattle.std.proofs.lemmas.Str.Pattern.{split_once_first}
 use Rattle.std.proofs.lemmas.List.Splits.{slice_split_first}
 use Rattle.path_glob.specs.Segments.{segments_left}
