@@ -1,5 +1,5 @@
 -- The order of nodes tells nodes apart.
-use Rattle.std.proofs.Common.{◌≡◌, ◌≢◌, ◌⊎◌, inl, inr, ℕ, zero, suc, ◌+◌, ◌<◌, ◌≤◌, List, [], ◌∷◌, ◌++◌, length, take, drop, get_or, map, refl, sym, ap, ◌∙◌, subst, arith, add-one, length-drop, Bool, true, false}
+use Rattle.std.proofs.Common.{◌≡◌, ℕ, suc, ◌+◌, ◌<◌, ◌≤◌, List, [], ◌∷◌, length, drop, get_or, map, refl, sym, ap, ◌∙◌, subst, arith, add-one, length-drop}
 use Rattle.std.specs.declared.cmp.Ordering.{Ordering}
 use Rattle.std.specs.declared.cmp.Ordering.TheVariants.{Less, Equal, Greater}
 use Rattle.std.specs.Ordering.{nat_cmp, ordering_then, ordering_reverse}
@@ -8,11 +8,11 @@ use Rattle.std.proofs.lemmas.Cmp.{nat_cmp_total, ranked}
 use Rattle.std.proofs.lemmas.List.{drop_all}
 use Rattle.std.proofs.Math.Seq.{drop-cons}
 use denote.Enum.Bare.{tag_one}
-use Rattle.node_tree.specs.declared.node.Node.{Node, Node-F, out-Node, roll-Node, out-roll-Node, roll-out-Node, fold-Node, fold_out-Node, ind-Node}
+use Rattle.node_tree.specs.declared.node.Node.{Node, Node-F, out-Node, roll-Node, out-roll-Node, roll-out-Node, fold_out-Node, ind-Node}
 use Rattle.node_tree.specs.declared.kind.Kind.{Kind}
 use Rattle.node_tree.specs.contracts.kind.Kind.{the_type}
 use Rattle.node_tree.specs.declared.span.Span.{Span}
-use Rattle.node_tree.specs.Tree.{kind_of, text_of, kids_of, span_of, content_of, content_is, content_kind, no_span}
+use Rattle.node_tree.specs.Tree.{kind_of, text_of, kids_of, content_of, content_is, content_kind, no_span}
 use Rattle.node_tree.specs.Order.{node_cmp, node_step, kind_place}
 use Rattle.node_tree.specs.Span.{span_cmp}
 

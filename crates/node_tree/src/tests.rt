@@ -1,5 +1,5 @@
 use super::*;
-use std::test::*;
+use std::test::Fail;
 
 fn leaf(rt: &HostRuntime, kind: Kind, from: u32) -> Node {
     Node {
@@ -19,36 +19,39 @@ fn tree(rt: &HostRuntime) -> Result<Node, Memory> {
 }
 
 #[test]
-fn walks_in_preorder(rt: HostRuntime) {
-    let tree = tree(&rt).unwrap();
+fn walks_in_preorder(rt: HostRuntime) -> Result<(), Fail> {
+    let tree = tree(&rt)?;
     let mut places = Vec::new(rt.alloc());
-    for node in tree.walk().unwrap() {
-        places.push(node.span.from).unwrap();
+    for node in tree.walk()? {
+        places.push(node.span.from)?;
     }
     assert!(rt; places.as_slice() == [0, 1, 2].as_slice());
     assert!(rt; tree.kids().count() == 2);
+    Ok(())
 }
 
 #[test]
-fn copies_have_the_same_content(rt: HostRuntime) {
-    let first = tree(&rt).unwrap();
-    let mut second = first.copy().unwrap();
+fn copies_have_the_same_content(rt: HostRuntime) -> Result<(), Fail> {
+    let first = tree(&rt)?;
+    let mut second = first.copy()?;
     assert!(rt; first.same_content(&second));
     let _ = second.kids.pop();
-    second.kids.push(leaf(&rt, Kind::Id, 9)).unwrap();
+    second.kids.push(leaf(&rt, Kind::Id, 9))?;
     assert!(rt; first.same_content(&second));
     let _ = second.kids.pop();
     assert!(rt; !first.same_content(&second));
     assert!(rt; first.order(&second) == std::cmp::Ordering::Greater);
+    Ok(())
 }
 
 #[test]
-fn texts_grow(rt: HostRuntime) {
-    let mut text = Text::from_str(rt.alloc(), "a").unwrap();
-    text.push("é").unwrap();
+fn texts_grow(rt: HostRuntime) -> Result<(), Fail> {
+    let mut text = Text::from_str(rt.alloc(), "a")?;
+    text.push("é")?;
     assert!(rt; text.as_str() == "aé");
     assert!(rt; text.len() == 3);
     assert!(rt; text.get(1) == Some(195));
     assert!(rt; text.get(3).is_none());
-    assert!(rt; text.copy().unwrap().is_same(&text));
+    assert!(rt; text.copy()?.is_same(&text));
+    Ok(())
 }

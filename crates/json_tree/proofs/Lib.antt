@@ -1,0 +1,16 @@
+pub mod Basics
+pub mod Strings
+pub mod Numbers
+pub mod Quoted
+pub mod Tokens
+pub mod Cuts
+pub mod Lists
+pub mod Loops
+pub mod Descent
+pub mod Sound
+pub mod Complete
+pub mod Depths
+pub mod Nesting
+pub mod Places
+pub mod Trees
+pub mod Entries
