@@ -1,0 +1,4 @@
+pub mod Keywords
+pub mod Classes
+pub mod Tokens
+pub mod Lexing
