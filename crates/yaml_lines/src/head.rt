@@ -1,49 +1,79 @@
 //! What stands on a line: indentation, marks, and where the content begins.
 
+ghost use Rattle.std.specs.Prelude.{◌≡◌, ◌≤◌, ◌^◌, ◌<◌, length, option_map, IfOk, Option};
+ghost use Rattle.std.specs.Option.{option_copied};
+ghost use Rattle.std.specs.Borrow.{Bor};
+ghost use Rattle.yaml_lines.specs.Blanks as spec;
+ghost use Rattle.yaml_lines.specs.Marks.{without_comment as after_comment};
+ghost use Rattle.yaml_lines.specs.Marking.{IsMarked};
+
 use crate::scan::is_blank;
 use node_tree::{List, Memory};
 use std::alloc::Global;
 
 /// A text without the blanks at its start.
-pub fn past_blanks(text: &str) -> &str {
+pub fn past_blanks(text: &[u8]) -> &[u8]
+    ensures { result.now ≡ spec.past_blanks text.now }
+{
     let mut rest = text;
-    loop {
-        rest = match rest.as_bytes().first() {
-            Some(b' ') | Some(b'\t') => &rest[1..],
-            _ => return rest,
-        };
+    'blanks: while let Some((first, more)) = rest.split_first() {
+        if !is_blank(*first) {
+            return rest;
+        }
+        rest = more;
     }
+    rest
 }
 
 /// A text without the blanks at its end.
-pub fn before_blanks(text: &str) -> &str {
+pub fn before_blanks(text: &[u8]) -> &[u8]
+    ensures { result.now ≡ spec.before_blanks text.now }
+{
     let mut rest = text;
-    loop {
-        rest = match rest.as_bytes().last() {
-            Some(b' ') | Some(b'\t') => &rest[..rest.len() - 1],
-            _ => return rest,
-        };
+    'blanks: while let Some((last, more)) = rest.split_last() {
+        if !is_blank(*last) {
+            return rest;
+        }
+        rest = more;
     }
+    rest
 }
 
 /// How many spaces a line begins with.
-pub fn indentation(line: &str) -> usize {
-    line.bytes().take_while(|byte| *byte == b' ').count()
+pub fn indentation(line: &[u8]) -> usize
+    ensures { result ≡ spec.indentation line.now }
+{
+    line.iter().take_while(|byte| **byte == b' ').count()
 }
 
-/// Whether a text is blank.
-pub fn is_blank_text(text: &str) -> bool {
-    past_blanks(text).is_empty()
+/// Whether a line has nothing but blanks.
+pub fn is_blank_line(line: &[u8]) -> bool
+    ensures { result ≡ spec.is_blank_line line.now }
+{
+    line.iter().all(|byte| is_blank(*byte))
 }
 
-/// Whether a text is blank, or a comment alone.
-pub fn is_skipped(text: &str) -> bool {
-    let rest = past_blanks(text);
-    rest.is_empty() || rest.starts_with('#')
+/// Whether nothing is there, or a comment.
+fn is_comment(rest: &[u8]) -> bool
+    ensures { result ≡ spec.is_comment rest.now }
+{
+    match rest.first() {
+        None => true,
+        Some(byte) => *byte == b'#',
+    }
+}
+
+/// Whether a line is blank, or a comment alone.
+pub fn is_skipped(line: &[u8]) -> bool
+    ensures { result ≡ spec.is_skipped line.now }
+{
+    is_comment(past_blanks(line))
 }
 
 /// Whether a text is at its end or begins with a blank, so that a sign before it stands alone.
-pub fn ends_sign(rest: &[u8]) -> bool {
+pub fn ends_sign(rest: &[u8]) -> bool
+    ensures { result ≡ spec.ends_sign rest.now }
+{
     match rest.first() {
         None => true,
         Some(byte) => is_blank(*byte),
@@ -51,42 +81,52 @@ pub fn ends_sign(rest: &[u8]) -> bool {
 }
 
 /// What follows a sign that stands alone at the start of a text.
-pub fn past_sign<'t>(text: &'t str, sign: char) -> Option<&'t str> {
-    let rest = text.strip_prefix(sign)?;
-    if ends_sign(rest.as_bytes()) { Some(rest) } else { None }
+pub fn past_sign(text: &[u8], sign: u8) -> Option<&[u8]>
+    ensures { option_copied result ≡ spec.past_sign sign text.now }
+{
+    match text.split_first() {
+        Some((first, rest)) if *first == sign && ends_sign(rest) => Some(rest),
+        _ => None,
+    }
 }
 
 /// The marks of a line: where they stand, what follows them, and whether a tab stands before one of them, and after the last.
 #[derive(Drop)]
 pub struct Marks<'t> {
     pub dashes: List<u32>,
-    pub content: &'t str,
+    pub content: &'t [u8],
     pub tab_before: bool,
     pub tab_after: bool,
 }
 
-/// Whether blanks before a text hold a tab.
-fn has_tab(text: &str, rest: &str) -> bool {
-    text.len() - rest.len() > indentation(text)
+/// A text, unless it is a comment.
+fn without_comment(text: &[u8]) -> &[u8]
+    ensures { result.now ≡ after_comment text.now }
+{
+    match text.first() {
+        Some(b'#') => &[],
+        _ => text,
+    }
 }
 
 /// The marks of a line. Where a comment follows the last, nothing does.
-pub fn marks(alloc: Global, line: &str) -> Result<Marks<'_>, Memory> {
+pub fn read_marks<'t>(alloc: Global, line: &'t [u8]) -> Result<Marks<'t>, Memory>
+    requires { length line.now < 2 ^ 32 }
+    ensures { IfOk result (IsMarked line.now) }
+{
     let mut dashes = List::new(alloc);
-    let mut content = past_blanks(line);
-    let mut tab_before = false;
-    let mut tab_after = has_tab(line, content);
-    while let Some(rest) = past_sign(content, '-') {
-        dashes.push((line.len() - content.len()) as u32)?;
-        content = past_blanks(rest);
-        tab_before = tab_before || tab_after;
-        tab_after = has_tab(rest, content);
+    let mut before = false;
+    let mut tab = false;
+    for (at, byte) in line.iter().enumerate() {
+        if is_blank(*byte) {
+            tab = tab || *byte == b'\t';
+        } else if *byte == b'-' && ends_sign(&line[at + 1..]) {
+            dashes.push(at as u32)?;
+            before = before || tab;
+            tab = false;
+        } else {
+            return Ok(Marks { dashes, content: without_comment(&line[at..]), tab_before: before, tab_after: tab });
+        }
     }
-    if dashes.is_empty() {
-        tab_before = tab_after;
-    }
-    if content.starts_with('#') {
-        content = "";
-    }
-    Ok(Marks { dashes, content, tab_before, tab_after })
+    Ok(Marks { dashes, content: &[], tab_before: before, tab_after: tab })
 }

@@ -6,6 +6,7 @@
 #![tactic(auto)]
 
 mod body;
+mod escape;
 mod fault;
 mod feature;
 mod head;

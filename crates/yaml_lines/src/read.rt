@@ -1,18 +1,22 @@
 //! The lines of a text.
 
+ghost use Rattle.std.specs.Prelude.{◌≡◌, ◌≤◌, ◌^◌, length, IfOk, Option};
+ghost use Rattle.yaml_lines.specs.Lines as spec;
+
 use crate::body::body_len;
 use crate::fault::{Feature, YFault};
-use crate::feature::{is_start, line_feature, text_feature, value_feature};
-use crate::head::{before_blanks, is_skipped, marks, past_blanks};
-use crate::key::{key, Key};
+use crate::feature::{content_feature, is_start, line_feature, value_feature};
+use crate::head::{Marks, before_blanks, is_skipped, past_blanks, read_marks};
+use crate::key::{Key, read_key, text_of};
 use crate::line::YLine;
-use crate::scan::{scan_line, Place, Scan};
+use crate::scan::{Place, Scan, Scanned, scan_line};
 use node_tree::{List, Memory, Text};
 use std::alloc::Global;
 use std::str::from_utf8;
 
 /// Copies of some lines.
-fn copies(alloc: Global, lines: &[&str]) -> Result<List<Text>, Memory> {
+fn copies(alloc: Global, lines: &[&str]) -> Result<List<Text>, Memory>
+{
     let mut all = List::new(alloc);
     for line in lines {
         all.push(Text::from_str(alloc, line)?)?;
@@ -20,53 +24,66 @@ fn copies(alloc: Global, lines: &[&str]) -> Result<List<Text>, Memory> {
     Ok(all)
 }
 
-/// A line that begins a value, with the column of the last key or mark above it, and the lines that follow it.
-fn read_line(alloc: Global, number: u32, holder: Option<u32>, line: &str, below: &[&str]) -> Result<YLine, YFault> {
-    if let Some(feature) = line_feature(line.as_bytes()) {
-        return Err(YFault::OutsideProfile(feature, number));
-    }
-    let marks = marks(alloc, line)?;
-    let (key, rest) = match key(alloc, marks.content)? {
+/// What a line says by itself.
+#[derive(Drop)]
+struct Head<'t> {
+    marks: Marks<'t>,
+    key: Option<Text>,
+    scanned: Scanned,
+    value: &'t [u8],
+}
+
+/// What a line says by itself.
+fn read_head<'t>(alloc: Global, line: &'t [u8]) -> Result<Head<'t>, Memory> {
+    let marks = read_marks(alloc, line)?;
+    let (key, rest) = match read_key(alloc, marks.content)? {
         Some(Key { content, rest }) => (Some(content), past_blanks(rest)),
         None => (None, marks.content),
     };
-    if marks.tab_before || (marks.tab_after && key.is_some()) {
-        return Err(YFault::OutsideProfile(Feature::Tab, number));
-    }
-    if let Some(feature) = text_feature(marks.content.as_bytes()) {
-        return Err(YFault::OutsideProfile(feature, number));
-    }
-    let scanned = scan_line(Scan { place: Place::Begin, depth: 0 }, rest.as_bytes());
+    let scanned = scan_line(Scan { place: Place::Begin, depth: 0 }, rest);
     let value = before_blanks(&rest[..scanned.len]);
-    if let Some(feature) = value_feature(value.as_bytes()) {
-        return Err(YFault::OutsideProfile(feature, number));
-    }
-    let column = (line.len() - marks.content.len()) as u32;
-    let holder = if key.is_some() { Some(column) } else { marks.dashes.as_slice().last().copied().or(holder) };
-    let len = body_len(value.as_bytes(), scanned, holder, below);
-    Ok(YLine {
-        number,
-        column,
-        dashes: marks.dashes,
-        key,
-        value: Text::from_str(alloc, value)?,
-        body: copies(alloc, &below[..len])?,
-    })
+    Ok(Head { marks, key, scanned, value })
 }
 
-/// The column of the last key or mark of a line.
-fn holder_of(line: &YLine, above: Option<u32>) -> Option<u32> {
-    if line.key.is_some() { Some(line.column) } else { line.dashes.as_slice().last().copied().or(above) }
+/// The first feature of a line that is outside the profile.
+fn feature(line: &[u8], head: &Head<'_>) -> Option<Feature> {
+    if let Some(feature) = line_feature(line) {
+        return Some(feature);
+    }
+    if head.marks.tab_before || (head.marks.tab_after && (head.marks.dashes.is_empty() || head.key.is_some())) {
+        return Some(Feature::Tab);
+    }
+    if let Some(feature) = content_feature(head.marks.content) {
+        return Some(feature);
+    }
+    value_feature(head.value)
+}
+
+/// The column of the last key or mark of a line, also of those above.
+fn holder_of(line: &[u8], head: &Head<'_>, above: Option<u32>) -> Option<u32> {
+    if head.key.is_some() {
+        Some((line.len() - head.marks.content.len()) as u32)
+    } else {
+        head.marks.dashes.as_slice().last().copied().or(above)
+    }
+}
+
+/// A line that says this, with the lines that go on with its value.
+fn line_of(alloc: Global, number: u32, line: &[u8], head: Head<'_>, body: &[&str]) -> Result<YLine, Memory> {
+    let column = (line.len() - head.marks.content.len()) as u32;
+    let value = text_of(alloc, head.value)?;
+    let body = copies(alloc, body)?;
+    Ok(YLine { number, column, dashes: head.marks.dashes, key: head.key, value, body })
 }
 
 /// The lines of a text that begin a value.
 fn read_all(alloc: Global, all: &[&str]) -> Result<List<YLine>, YFault> {
     let mut lines = List::new(alloc);
-    let mut holder = None;
+    let mut above = None;
     let mut fresh = true;
     let mut at = 0;
-    while at < all.len() {
-        let line = all[at];
+    'lines: while at < all.len() {
+        let line = all[at].as_bytes();
         at += 1;
         if is_skipped(line) {
             continue;
@@ -76,20 +93,30 @@ fn read_all(alloc: Global, all: &[&str]) -> Result<List<YLine>, YFault> {
             continue;
         }
         fresh = false;
-        let read = read_line(alloc, at as u32, holder, line, &all[at..])?;
-        holder = holder_of(&read, holder);
-        at += read.body.len();
-        lines.push(read)?;
+        let head = read_head(alloc, line)?;
+        if let Some(feature) = feature(line, &head) {
+            return Err(YFault::OutsideProfile(feature, at as u32));
+        }
+        above = holder_of(line, &head, above);
+        let len = body_len(head.value, head.scanned, above, &all[at..]);
+        lines.push(line_of(alloc, at as u32, line, head, &all[at..at + len])?)?;
+        at += len;
     }
     Ok(lines)
 }
 
+/// A text without a byte order mark.
+fn past_order_mark(text: &str) -> &str {
+    text.strip_prefix('\u{feff}').unwrap_or(text)
+}
+
 /// The lines of a YAML text that begin a value, in order.
-pub fn lines(alloc: Global, bytes: &[u8]) -> Result<List<YLine>, YFault> {
+pub fn lines(alloc: Global, bytes: &[u8]) -> Result<List<YLine>, YFault>
+    requires { length bytes.now ≤ 1000000 }
+{
     let Ok(text) = from_utf8(bytes) else {
         return Err(YFault::NotUtf8);
     };
-    let text = text.strip_prefix('\u{feff}').unwrap_or(text);
-    let all: Vec<&str> = text.lines().collect(alloc)?;
+    let all: Vec<&str> = past_order_mark(text).lines().collect(alloc)?;
     read_all(alloc, all.as_slice())
 }

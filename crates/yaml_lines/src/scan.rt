@@ -1,5 +1,9 @@
 //! How far a value has come: whether a quote or a flow sequence is open.
 
+ghost use Rattle.std.specs.Prelude.{◌≡◌, ◌^◌, ◌<◌, ◌≤◌, ◌+◌, ◌*◌, length};
+ghost use Rattle.yaml_lines.specs.Blanks.{is_blank as blank};
+ghost use Rattle.yaml_lines.specs.Scan as spec;
+
 /// Where in a value the next byte stands.
 #[derive(Clone, Copy, Debug, PartialEq, Eq)]
 pub enum Place {
@@ -25,12 +29,16 @@ pub struct Scan {
 }
 
 /// Whether a byte is a space or a tab.
-pub fn is_blank(byte: u8) -> bool {
+pub fn is_blank(byte: u8) -> bool
+    ensures { result ≡ blank byte }
+{
     byte == b' ' || byte == b'\t'
 }
 
-/// The place after a byte that stands where nothing is quoted and no scalar may begin.
-fn after_inside(depth: u64, byte: u8) -> Scan {
+/// The place after a byte that stands where no scalar may begin.
+fn after_inside(depth: u64, byte: u8) -> Scan
+    ensures { result ≡ spec.after_inside depth byte }
+{
     if depth == 0 {
         return Scan { place: Place::Inside, depth };
     }
@@ -42,9 +50,14 @@ fn after_inside(depth: u64, byte: u8) -> Scan {
 }
 
 /// The place after a byte that stands where a scalar may begin.
-fn after_begin(depth: u64, byte: u8) -> Scan {
+fn after_begin(depth: u64, byte: u8) -> Scan
+    requires { depth < 2 ^ 63 }
+    ensures { result ≡ spec.after_begin depth byte }
+{
+    if is_blank(byte) {
+        return Scan { place: Place::Begin, depth };
+    }
     match byte {
-        b' ' | b'\t' => Scan { place: Place::Begin, depth },
         b'[' => Scan { place: Place::Begin, depth: depth + 1 },
         b'\'' => Scan { place: Place::Single, depth },
         b'"' => Scan { place: Place::Double, depth },
@@ -53,7 +66,11 @@ fn after_begin(depth: u64, byte: u8) -> Scan {
 }
 
 /// The place after one more byte.
-pub fn after(scan: Scan, byte: u8) -> Scan {
+pub fn after(scan: Scan, byte: u8) -> Scan
+    requires { scan.depth < 2 ^ 63 }
+    ensures next { result ≡ spec.after scan byte }
+    ensures depth { result.depth ≤ scan.depth + 1 }
+{
     let depth = scan.depth;
     match scan.place {
         Place::Begin => after_begin(depth, byte),
@@ -67,30 +84,42 @@ pub fn after(scan: Scan, byte: u8) -> Scan {
             }
         }
         Place::Double => {
-            let place = match byte {
-                b'\\' => Place::Escape,
-                b'"' => Place::Inside,
-                _ => Place::Double,
-            };
-            Scan { place, depth }
+            if byte == b'\\' {
+                Scan { place: Place::Escape, depth }
+            } else if byte == b'"' {
+                Scan { place: Place::Inside, depth }
+            } else {
+                Scan { place: Place::Double, depth }
+            }
         }
         Place::Escape => Scan { place: Place::Double, depth },
     }
 }
 
 /// The place at the start of the next line.
-pub fn next_line(scan: Scan) -> Scan {
-    let place = match scan.place {
-        Place::SingleEnd => Place::Inside,
-        Place::Escape => Place::Double,
-        place => place,
-    };
-    Scan { place, depth: scan.depth }
+pub fn next_line(scan: Scan) -> Scan
+    ensures { result ≡ spec.next_line scan }
+{
+    let depth = scan.depth;
+    match scan.place {
+        Place::SingleEnd => Scan { place: Place::Inside, depth },
+        Place::Escape => Scan { place: Place::Double, depth },
+        place => Scan { place, depth },
+    }
 }
 
 /// Whether a quote or a flow sequence is open at the end of a line.
-pub fn is_open(scan: Scan) -> bool {
+pub fn is_open(scan: Scan) -> bool
+    ensures { result ≡ spec.is_open scan }
+{
     scan.depth > 0 || matches!(scan.place, Place::Single | Place::Double | Place::Escape)
+}
+
+/// Whether a comment may begin at a place.
+fn is_free(place: Place) -> bool
+    ensures { result ≡ spec.is_free place }
+{
+    matches!(place, Place::Begin | Place::Inside)
 }
 
 /// What is found on a line: the place at its end, how many bytes stand before its comment, and whether it has one.
@@ -102,11 +131,17 @@ pub struct Scanned {
 }
 
 /// Scans a line from a place on. A `#` at the start or after a blank begins a comment, unless it is quoted.
-pub fn scan_line(start: Scan, line: &[u8]) -> Scanned {
+pub fn scan_line(start: Scan, line: &[u8]) -> Scanned
+    requires depth { start.depth < 2 ^ 62 }
+    requires short { length line.now ≤ 2 ^ 62 }
+    ensures scanned { result ≡ spec.scan_line start line.now }
+    ensures within { result.len ≤ length line.now }
+    ensures depth { result.scan.depth ≤ start.depth + length line.now }
+{
     let mut scan = start;
     let mut gap = true;
     for (at, byte) in line.iter().enumerate() {
-        if gap && *byte == b'#' && matches!(scan.place, Place::Begin | Place::Inside) {
+        if gap && *byte == b'#' && is_free(scan.place) {
             return Scanned { scan, len: at, comment: true };
         }
         scan = after(scan, *byte);
