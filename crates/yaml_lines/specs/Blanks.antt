@@ -37,7 +37,11 @@ abbrev pub ends_sign : List ℕ → Bool
 ends_sign [] = true
 ends_sign (b ∷ bs) = is_blank b
 
+-- the byte is the sign, and stands alone before this rest
+abbrev pub is_sign : ℕ → ℕ → List ℕ → Bool
+is_sign sign b rest = b == sign && ends_sign rest
+
 -- what follows the sign, where the text begins with it and it stands alone
 abbrev pub past_sign : ℕ → List ℕ → Option (List ℕ)
 past_sign sign [] = None
-past_sign sign (b ∷ bs) = if b == sign && ends_sign bs then Some bs else None
+past_sign sign (b ∷ bs) = if is_sign sign b bs then Some bs else None

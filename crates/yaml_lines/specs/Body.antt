@@ -50,9 +50,13 @@ plain_len holder (l ∷ ls) =
 abbrev pub blank_len : List (List ℕ) → ℕ
 blank_len lines = prefix_len is_blank_line lines
 
+-- the line is blank or has so many spaces at its start
+abbrev pub is_in_column : ℕ → List ℕ → Bool
+is_in_column column line = is_blank_line line || nat_le column (indentation line)
+
 -- how many lines at the start are blank or have so many spaces at their start
 abbrev pub column_len : ℕ → List (List ℕ) → ℕ
-column_len column lines = prefix_len (λ line. is_blank_line line || nat_le column (indentation line)) lines
+column_len column lines = prefix_len (is_in_column column) lines
 
 -- how many lines belong to a block scalar whose first line that isn't blank comes after so many
 abbrev pub block_from : Option ℕ → ℕ → List (List ℕ) → List (List ℕ) → ℕ

@@ -2,9 +2,9 @@
 use Rattle.std.specs.Prelude.{ℕ, ◌+◌, ◌-◌, List, [], ◌∷◌, ◌==◌, ◌||◌, ◌&&◌, if◌then◌else◌, Bool, true, false, Option, Some, None, codes, length, encode_utf8_all}
 use Rattle.std.specs.Prelude.{take, drop}
 use Rattle.std.specs.List.{list_any}
-use Rattle.std.specs.Str.{chars}
+use Rattle.std.specs.Str.{chars, is_utf8}
 use Rattle.std.specs.Option.{option_map, option_and_then}
-use Rattle.yaml_lines.specs.Blanks.{is_blank, past_blanks, before_blanks, ends_sign, past_sign}
+use Rattle.yaml_lines.specs.Blanks.{is_blank, past_blanks, before_blanks, ends_sign, is_sign, past_sign}
 use Rattle.yaml_lines.specs.Scan.{after, at_place}
 use Rattle.yaml_lines.specs.Escape.{unescaped_at, undoubled_at}
 use Rattle.yaml_lines.specs.declared.escape.Reading.TheVariants.{Plain}
@@ -24,11 +24,15 @@ abbrev pub begins_plain : List ℕ → Bool
 begins_plain [] = false
 begins_plain (b ∷ bs) = if b == 45 || b == 63 || b == 58 then negate (ends_sign bs) else negate (is_indicator b)
 
+-- the byte begins a comment: `gap` says whether a blank stands before it
+abbrev pub is_hash : Bool → ℕ → Bool
+is_hash gap b = gap && b == 35
+
 -- where the first `:` stands that stands alone, unless a comment begins before it
 abbrev pub colon_at : Bool → List ℕ → Option ℕ
 colon_at gap [] = None
 colon_at gap (b ∷ bs) =
-    if b == 58 && ends_sign bs then Some 0 else (if gap && b == 35 then None else option_map (λ n. n + 1) (colon_at (is_blank b) bs))
+    if is_sign 58 b bs then Some 0 else (if is_hash gap b then None else option_map (λ n. n + 1) (colon_at (is_blank b) bs))
 
 -- the scalar has ended before this byte
 abbrev pub has_ended : Place → ℕ → Bool
@@ -61,7 +65,8 @@ keyed content rest = record { content = content; rest = rest }
 -- what stands between such quotes says this, where it can be read
 abbrev pub content_of : ℕ → List ℕ → Option (List ℕ)
 content_of quote inner =
-    if quote == 39 then Some (encode_utf8_all (undoubled_at false (chars inner))) else option_map encode_utf8_all (unescaped_at Plain (chars inner))
+    if is_utf8 inner then (if quote == 39 then Some (encode_utf8_all (undoubled_at false (chars inner))) else option_map encode_utf8_all (unescaped_at Plain (chars inner)))
+    else None
 
 -- what a quoted scalar says
 abbrev pub unquoted : List ℕ → Option (List ℕ)

@@ -8,3 +8,4 @@ pub mod Body
 pub mod Lines
 pub mod Marking
 pub mod Keying
+pub mod Heading

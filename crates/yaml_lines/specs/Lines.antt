@@ -34,7 +34,7 @@ is_some (Some x) = true
 -- a line by itself: its marks, its key, and the value's text
 pub record Head : Type 0 where
   pub marks : Marked
-  pub key : Option Keyed
+  pub key : Option (List ℕ)
   pub scanned : Scanned
   pub value : List ℕ
 
@@ -44,7 +44,7 @@ head_of line =
     let key = key_of marks.content in
     let rest = rest_of marks.content key in
     let scanned = scan_line (at_place Begin 0) rest in
-    record { marks = marks; key = key; scanned = scanned; value = before_blanks (take scanned.len rest) }
+    record { marks = marks; key = option_map (λ k. k.content) key; scanned = scanned; value = before_blanks (take scanned.len rest) }
 
 -- a tab stands in the indentation: before a mark, or before a key, or before the value of a line without marks
 abbrev pub is_tabbed : Head → Bool
@@ -69,7 +69,7 @@ holder_of line h above = if is_some h.key then Some (column_of line h) else last
 
 abbrev pub line_of : ℕ → List ℕ → Head → List (List ℕ) → YLine
 line_of number line h body =
-    record { number = number; column = column_of line h; dashes = h.marks.dashes; key = option_map (λ k. k.content) h.key; value = h.value; body = body }
+    record { number = number; column = column_of line h; dashes = h.marks.dashes; key = h.key; value = h.value; body = body }
 
 -- one more line before the others
 abbrev pub with_line : YLine → Result (List YLine) YFault → Result (List YLine) YFault

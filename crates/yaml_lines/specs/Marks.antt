@@ -1,6 +1,6 @@
 -- The marks `- ` of a line.
 use Rattle.std.specs.Prelude.{ℕ, ◌+◌, List, [], ◌∷◌, ◌==◌, ◌||◌, ◌&&◌, if◌then◌else◌, Bool, true, false}
-use Rattle.yaml_lines.specs.Blanks.{is_blank, ends_sign}
+use Rattle.yaml_lines.specs.Blanks.{is_blank, is_sign}
 
 -- where the marks stand, the content behind them, and whether a tab stands before a mark and before the content
 pub record Marked : Type 0 where
@@ -18,7 +18,7 @@ abbrev pub marks_at : ℕ → Bool → List ℕ → Marked
 marks_at at tab [] = record { dashes = []; content = []; tab_before = false; tab_after = tab }
 marks_at at tab (b ∷ bs) =
     if is_blank b then marks_at (at + 1) (tab || b == 9) bs
-    else (if b == 45 && ends_sign bs then with_mark at tab (marks_at (at + 1) false bs) else record { dashes = []; content = b ∷ bs; tab_before = false; tab_after = tab })
+    else (if is_sign 45 b bs then with_mark at tab (marks_at (at + 1) false bs) else record { dashes = []; content = b ∷ bs; tab_before = false; tab_after = tab })
 
 -- a comment is no content
 abbrev pub without_comment : List ℕ → List ℕ

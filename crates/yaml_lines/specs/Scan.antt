@@ -58,6 +58,10 @@ is_free Begin = true
 is_free Inside = true
 is_free place = false
 
+-- the byte begins a comment: `gap` says whether a blank or nothing stands before it
+abbrev pub begins_comment : Bool → Place → ℕ → Bool
+begins_comment gap place b = (gap && b == 35) && is_free place
+
 abbrev pub one_more : Scanned → Scanned
 one_more r = record { scan = r.scan; len = r.len + 1; comment = r.comment }
 
@@ -65,7 +69,7 @@ one_more r = record { scan = r.scan; len = r.len + 1; comment = r.comment }
 abbrev pub scan_at : Bool → Scan → List ℕ → Scanned
 scan_at gap s [] = record { scan = s; len = 0; comment = false }
 scan_at gap s (b ∷ bs) =
-    if (gap && b == 35) && is_free s.place then record { scan = s; len = 0; comment = true } else one_more (scan_at (is_blank b) (after s b) bs)
+    if begins_comment gap s.place b then record { scan = s; len = 0; comment = true } else one_more (scan_at (is_blank b) (after s b) bs)
 
 abbrev pub scan_line : Scan → List ℕ → Scanned
 scan_line s line = scan_at true s line

@@ -58,7 +58,15 @@ fn plain_len(holder: Option<u32>, lines: &[&str]) -> usize
                 return len;
             }
             len = at + 1;
-            if scan_line(Scan { place: Place::Inside, depth: 0 }, line).comment {
+            if scan_line(
+                Scan {
+                    place: Place::Inside,
+                    depth: 0,
+                },
+                line,
+            )
+            .comment
+            {
                 return len;
             }
         }
@@ -79,14 +87,20 @@ fn blank_len(lines: &[&str]) -> usize
     lines.len()
 }
 
+/// Whether a line is blank or has so many spaces at its start.
+fn is_in_column(column: usize, line: &[u8]) -> bool
+    ensures { result ≡ spec.is_in_column column line.now }
+{
+    is_blank_line(line) || column <= indentation(line)
+}
+
 /// How many lines are blank or have so many spaces at their start.
 fn column_len(column: usize, lines: &[&str]) -> usize
     ensures len { result ≡ spec.column_len column (texts lines.now) }
     ensures within { result ≤ length lines.now }
 {
     for (at, line) in lines.iter().enumerate() {
-        let line = line.as_bytes();
-        if !is_blank_line(line) && indentation(line) < column {
+        if !is_in_column(column, line.as_bytes()) {
             return at;
         }
     }
@@ -103,7 +117,11 @@ fn block_len(holder: Option<u32>, lines: &[&str]) -> usize
         return blank;
     };
     let first = first.as_bytes();
-    if is_deeper(first, holder) { column_len(indentation(first), lines) } else { blank }
+    if is_deeper(first, holder) {
+        column_len(indentation(first), lines)
+    } else {
+        blank
+    }
 }
 
 /// Whether a value is the header of a block scalar.

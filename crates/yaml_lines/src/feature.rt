@@ -51,7 +51,11 @@ fn indicators(rest: &[u8]) -> Option<bool>
         return indicator(*first);
     }
     let both = (is_sign(*first) && is_digit(*second)) || (is_digit(*first) && is_sign(*second));
-    if both && ends_sign(end) { Some(true) } else { None }
+    if both && ends_sign(end) {
+        Some(true)
+    } else {
+        None
+    }
 }
 
 /// Whether the header of a block scalar at the start of a value has a digit, if there is one.

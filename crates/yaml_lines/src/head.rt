@@ -2,7 +2,7 @@
 
 ghost use Rattle.std.specs.Prelude.{◌≡◌, ◌≤◌, ◌^◌, ◌<◌, length, option_map, IfOk, Option};
 ghost use Rattle.std.specs.Option.{option_copied};
-ghost use Rattle.std.specs.Borrow.{Bor};
+ghost use Rattle.std.specs.Str.{IsUtf8};
 ghost use Rattle.yaml_lines.specs.Blanks as spec;
 ghost use Rattle.yaml_lines.specs.Marks.{without_comment as after_comment};
 ghost use Rattle.yaml_lines.specs.Marking.{IsMarked};
@@ -13,7 +13,9 @@ use std::alloc::Global;
 
 /// A text without the blanks at its start.
 pub fn past_blanks(text: &[u8]) -> &[u8]
-    ensures { result.now ≡ spec.past_blanks text.now }
+    ensures rest { result.now ≡ spec.past_blanks text.now }
+    ensures utf8 { IsUtf8 text.now → IsUtf8 result.now }
+    ensures len { length result.now ≤ length text.now }
 {
     let mut rest = text;
     'blanks: while let Some((first, more)) = rest.split_first() {
@@ -27,7 +29,8 @@ pub fn past_blanks(text: &[u8]) -> &[u8]
 
 /// A text without the blanks at its end.
 pub fn before_blanks(text: &[u8]) -> &[u8]
-    ensures { result.now ≡ spec.before_blanks text.now }
+    ensures front { result.now ≡ spec.before_blanks text.now }
+    ensures utf8 { IsUtf8 text.now → IsUtf8 result.now }
 {
     let mut rest = text;
     'blanks: while let Some((last, more)) = rest.split_last() {
@@ -80,12 +83,19 @@ pub fn ends_sign(rest: &[u8]) -> bool
     }
 }
 
+/// Whether a byte is a sign and stands alone before this rest.
+pub fn is_sign(sign: u8, byte: u8, rest: &[u8]) -> bool
+    ensures { result ≡ spec.is_sign sign byte rest.now }
+{
+    byte == sign && ends_sign(rest)
+}
+
 /// What follows a sign that stands alone at the start of a text.
 pub fn past_sign(text: &[u8], sign: u8) -> Option<&[u8]>
     ensures { option_copied result ≡ spec.past_sign sign text.now }
 {
     match text.split_first() {
-        Some((first, rest)) if *first == sign && ends_sign(rest) => Some(rest),
+        Some((first, rest)) if is_sign(sign, *first, rest) => Some(rest),
         _ => None,
     }
 }
@@ -112,7 +122,9 @@ fn without_comment(text: &[u8]) -> &[u8]
 /// The marks of a line. Where a comment follows the last, nothing does.
 pub fn read_marks<'t>(alloc: Global, line: &'t [u8]) -> Result<Marks<'t>, Memory>
     requires { length line.now < 2 ^ 32 }
-    ensures { IfOk result (IsMarked line.now) }
+    ensures marks { IfOk result (IsMarked line.now) }
+    ensures utf8 { IsUtf8 line.now → IfOk result (λ m. IsUtf8 m.content.now) }
+    ensures within { IfOk result (λ m. length m.content.now ≤ length line.now) }
 {
     let mut dashes = List::new(alloc);
     let mut before = false;
@@ -120,13 +132,23 @@ pub fn read_marks<'t>(alloc: Global, line: &'t [u8]) -> Result<Marks<'t>, Memory
     for (at, byte) in line.iter().enumerate() {
         if is_blank(*byte) {
             tab = tab || *byte == b'\t';
-        } else if *byte == b'-' && ends_sign(&line[at + 1..]) {
+        } else if is_sign(b'-', *byte, &line[at + 1..]) {
             dashes.push(at as u32)?;
             before = before || tab;
             tab = false;
         } else {
-            return Ok(Marks { dashes, content: without_comment(&line[at..]), tab_before: before, tab_after: tab });
+            return Ok(Marks {
+                dashes,
+                content: without_comment(&line[at..]),
+                tab_before: before,
+                tab_after: tab,
+            });
         }
     }
-    Ok(Marks { dashes, content: &[], tab_before: before, tab_after: tab })
+    Ok(Marks {
+        dashes,
+        content: &[],
+        tab_before: before,
+        tab_after: tab,
+    })
 }

@@ -1,14 +1,14 @@
 //! Keys.
 
-ghost use Rattle.std.specs.Prelude.{◌≡◌, ◌≤◌, ◌^◌, IfOk, IfSome, length};
+ghost use Rattle.std.specs.Prelude.{◌≡◌, ◌-◌, ◌<◌, false, take, slice_index, ◌≤◌, ◌^◌, IfOk, IfSome, length};
 ghost use Rattle.std.specs.Option.{option_map};
 ghost use Rattle.std.specs.Str.{IsUtf8};
 ghost use Rattle.yaml_lines.specs.Key as spec;
 ghost use Rattle.yaml_lines.specs.Keying.{IsKey, keyed_of};
 
 use crate::escape::{undoubled, unescaped};
-use crate::head::{before_blanks, ends_sign, past_blanks, past_sign};
-use crate::scan::{after, is_blank, Place, Scan};
+use crate::head::{before_blanks, ends_sign, is_sign, past_blanks, past_sign};
+use crate::scan::{Place, Scan, after, is_blank};
 use node_tree::{Memory, Text};
 use std::alloc::Global;
 use std::str::from_utf8;
@@ -17,7 +17,9 @@ use std::str::from_utf8;
 fn is_indicator(byte: u8) -> bool
     ensures { result ≡ spec.is_indicator byte }
 {
-    b",[]{}#&*!|>'\"%@`".iter().any(|indicator| *indicator == byte)
+    b",[]{}#&*!|>'\"%@`"
+        .iter()
+        .any(|indicator| *indicator == byte)
 }
 
 /// Whether a plain scalar begins so: with no indicator, or with `-`, `?` or `:` that doesn't stand alone.
@@ -34,16 +36,24 @@ pub fn begins_plain(text: &[u8]) -> bool
     }
 }
 
+/// Whether a byte begins a comment.
+fn is_hash(gap: bool, byte: u8) -> bool
+    ensures { result ≡ spec.is_hash gap byte }
+{
+    gap && byte == b'#'
+}
+
 /// Where the `:` after a plain key stands: the first one that stands alone, unless a comment begins before it.
 fn colon(text: &[u8]) -> Option<usize>
     ensures at { result ≡ spec.colon_at false text.now }
+    ensures colon { IfSome result (λ n. (n < length text.now) × (slice_index text.now n ≡ 58)) }
 {
     let mut gap = false;
     for (at, byte) in text.iter().enumerate() {
-        if *byte == b':' && ends_sign(&text[at + 1..]) {
+        if is_sign(b':', *byte, &text[at + 1..]) {
             return Some(at);
         }
-        if gap && *byte == b'#' {
+        if is_hash(gap, *byte) {
             return None;
         }
         gap = is_blank(*byte);
@@ -72,16 +82,24 @@ fn may_end(place: Place) -> bool
 /// How many bytes a quoted scalar takes, its quotes with it.
 fn quoted_len(text: &[u8]) -> Option<usize>
     requires { length text.now ≤ 2 ^ 62 }
-    ensures { result ≡ spec.quoted_len text.now }
+    ensures len { result ≡ spec.quoted_len text.now }
+    ensures within { IfSome result (λ n. n ≤ length text.now) }
 {
-    let mut scan = Scan { place: Place::Begin, depth: 0 };
+    let mut scan = Scan {
+        place: Place::Begin,
+        depth: 0,
+    };
     for (at, byte) in text.iter().enumerate() {
         if has_ended(scan.place, *byte) {
             return Some(at);
         }
         scan = after(scan, *byte);
     }
-    if may_end(scan.place) { Some(text.len()) } else { None }
+    if may_end(scan.place) {
+        Some(text.len())
+    } else {
+        None
+    }
 }
 
 /// A key and what follows its `:`.
@@ -102,9 +120,8 @@ pub fn text_of(alloc: Global, bytes: &[u8]) -> Result<Text, Memory>
     }
 }
 
-/// What a quoted scalar says.
-fn unquoted(alloc: Global, quote: u8, inner: &[u8]) -> Result<Option<Text>, Memory>
-    requires { IsUtf8 inner.now }
+/// What stands between such quotes, where it can be read.
+fn content_of(alloc: Global, quote: u8, inner: &[u8]) -> Result<Option<Text>, Memory>
     ensures { IfOk result (λ t. t ≡ spec.content_of quote inner.now) }
 {
     let Ok(text) = from_utf8(inner) else {
@@ -117,19 +134,50 @@ fn unquoted(alloc: Global, quote: u8, inner: &[u8]) -> Result<Option<Text>, Memo
     }
 }
 
+/// Bytes without the last one.
+fn without_last(bytes: &[u8]) -> &[u8]
+    ensures { result.now ≡ take (length bytes.now - 1) bytes.now }
+{
+    match bytes.split_last() {
+        Some((_, front)) => front,
+        None => bytes,
+    }
+}
+
+/// What a quoted scalar says.
+fn unquoted(alloc: Global, quoted: &[u8]) -> Result<Option<Text>, Memory>
+    ensures { IfOk result (λ t. t ≡ spec.unquoted quoted.now) }
+{
+    match quoted.split_first() {
+        Some((quote, more)) => content_of(alloc, *quote, without_last(more)),
+        None => Ok(None),
+    }
+}
+
 /// The key whose quoted scalar has so many bytes.
 fn quoted_key<'t>(alloc: Global, text: &'t [u8], len: usize) -> Result<Option<Key<'t>>, Memory>
-    requires utf8 { IsUtf8 text.now }
-    requires quoted { spec.quoted_len text.now ≡ Some len }
-    ensures { IfOk result (λ k. option_map keyed_of k ≡ spec.quoted_key text.now len) }
+    requires { len ≤ length text.now }
+    ensures key { IfOk result (λ k. option_map keyed_of k ≡ spec.quoted_key text.now len) }
 {
     let Some(rest) = past_sign(past_blanks(&text[len..]), b':') else {
         return Ok(None);
     };
-    match unquoted(alloc, text[0], &text[1..len - 1])? {
+    match unquoted(alloc, &text[..len])? {
         Some(content) => Ok(Some(Key { content, rest })),
         None => Ok(None),
     }
+}
+
+/// The key of a plain scalar at the start of a text.
+fn plain_key<'t>(alloc: Global, text: &'t [u8]) -> Result<Option<Key<'t>>, Memory>
+    requires { IsUtf8 text.now }
+    ensures key { IfOk result (λ k. option_map keyed_of k ≡ spec.plain_key text.now) }
+{
+    let Some(at) = colon(text) else {
+        return Ok(None);
+    };
+    let content = text_of(alloc, before_blanks(&text[..at]))?;
+    Ok(Some(Key { content, rest: &text[at + 1..] }))
 }
 
 /// The key at the start of the content of a line.
@@ -147,14 +195,5 @@ pub fn read_key<'t>(alloc: Global, text: &'t [u8]) -> Result<Option<Key<'t>>, Me
             None => Ok(None),
         };
     }
-    if !begins_plain(text) {
-        return Ok(None);
-    }
-    match colon(text) {
-        Some(at) => {
-            let content = text_of(alloc, before_blanks(&text[..at]))?;
-            Ok(Some(Key { content, rest: &text[at + 1..] }))
-        }
-        None => Ok(None),
-    }
+    if begins_plain(text) { plain_key(alloc, text) } else { Ok(None) }
 }

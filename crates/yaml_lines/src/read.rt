@@ -1,6 +1,9 @@
 //! The lines of a text.
 
-ghost use Rattle.std.specs.Prelude.{◌≡◌, ◌≤◌, ◌^◌, length, IfOk, Option};
+ghost use Rattle.std.specs.Prelude.{◌≡◌, ◌≤◌, ◌^◌, length, IfOk, Option, true, None};
+ghost use Rattle.std.specs.Str.{IsUtf8};
+ghost use Rattle.yaml_lines.specs.Body.{texts, AreShort};
+ghost use Rattle.yaml_lines.specs.Heading.{headed, IsHead, Within};
 ghost use Rattle.yaml_lines.specs.Lines as spec;
 
 use crate::body::body_len;
@@ -16,6 +19,7 @@ use std::str::from_utf8;
 
 /// Copies of some lines.
 fn copies(alloc: Global, lines: &[&str]) -> Result<List<Text>, Memory>
+    ensures { IfOk result (λ all. all ≡ texts lines.now) }
 {
     let mut all = List::new(alloc);
     for line in lines {
@@ -26,31 +30,51 @@ fn copies(alloc: Global, lines: &[&str]) -> Result<List<Text>, Memory>
 
 /// What a line says by itself.
 #[derive(Drop)]
-struct Head<'t> {
-    marks: Marks<'t>,
-    key: Option<Text>,
-    scanned: Scanned,
-    value: &'t [u8],
+pub struct Head<'t> {
+    pub marks: Marks<'t>,
+    pub key: Option<Text>,
+    pub scanned: Scanned,
+    pub value: &'t [u8],
 }
 
 /// What a line says by itself.
-fn read_head<'t>(alloc: Global, line: &'t [u8]) -> Result<Head<'t>, Memory> {
+fn read_head<'t>(alloc: Global, line: &'t [u8]) -> Result<Head<'t>, Memory>
+    requires utf8 { IsUtf8 line.now }
+    requires short { length line.now ≤ 2 ^ 20 }
+    ensures head { IfOk result (IsHead line.now) }
+    ensures within { IfOk result (Within line.now) }
+{
     let marks = read_marks(alloc, line)?;
     let (key, rest) = match read_key(alloc, marks.content)? {
         Some(Key { content, rest }) => (Some(content), past_blanks(rest)),
         None => (None, marks.content),
     };
-    let scanned = scan_line(Scan { place: Place::Begin, depth: 0 }, rest);
+    let scanned = scan_line(
+        Scan {
+            place: Place::Begin,
+            depth: 0,
+        },
+        rest,
+    );
     let value = before_blanks(&rest[..scanned.len]);
-    Ok(Head { marks, key, scanned, value })
+    Ok(Head {
+        marks,
+        key,
+        scanned,
+        value,
+    })
 }
 
 /// The first feature of a line that is outside the profile.
-fn feature(line: &[u8], head: &Head<'_>) -> Option<Feature> {
+fn feature(line: &[u8], head: &Head<'_>) -> Option<Feature>
+    ensures { result ≡ spec.feature_of line.now (headed head.now) }
+{
     if let Some(feature) = line_feature(line) {
         return Some(feature);
     }
-    if head.marks.tab_before || (head.marks.tab_after && (head.marks.dashes.is_empty() || head.key.is_some())) {
+    if head.marks.tab_before
+        || (head.marks.tab_after && (head.marks.dashes.is_empty() || head.key.is_some()))
+    {
         return Some(Feature::Tab);
     }
     if let Some(feature) = content_feature(head.marks.content) {
@@ -59,25 +83,52 @@ fn feature(line: &[u8], head: &Head<'_>) -> Option<Feature> {
     value_feature(head.value)
 }
 
+/// The column of what follows the marks of a line.
+fn column_of(line: &[u8], head: &Head<'_>) -> u32
+    requires { Within line.now head.now }
+    ensures { result ≡ spec.column_of line.now (headed head.now) }
+{
+    (line.len() - head.marks.content.len()) as u32
+}
+
 /// The column of the last key or mark of a line, also of those above.
-fn holder_of(line: &[u8], head: &Head<'_>, above: Option<u32>) -> Option<u32> {
+fn holder_of(line: &[u8], head: &Head<'_>, above: Option<u32>) -> Option<u32>
+    requires { Within line.now head.now }
+    ensures { result ≡ spec.holder_of line.now (headed head.now) above }
+{
     if head.key.is_some() {
-        Some((line.len() - head.marks.content.len()) as u32)
+        Some(column_of(line, head))
     } else {
         head.marks.dashes.as_slice().last().copied().or(above)
     }
 }
 
 /// A line that says this, with the lines that go on with its value.
-fn line_of(alloc: Global, number: u32, line: &[u8], head: Head<'_>, body: &[&str]) -> Result<YLine, Memory> {
+fn line_of(
+    alloc: Global,
+    number: u32,
+    line: &[u8],
+    head: Head<'_>,
+    body: &[&str],
+) -> Result<YLine, Memory> {
     let column = (line.len() - head.marks.content.len()) as u32;
     let value = text_of(alloc, head.value)?;
     let body = copies(alloc, body)?;
-    Ok(YLine { number, column, dashes: head.marks.dashes, key: head.key, value, body })
+    Ok(YLine {
+        number,
+        column,
+        dashes: head.marks.dashes,
+        key: head.key,
+        value,
+        body,
+    })
 }
 
 /// The lines of a text that begin a value.
-fn read_all(alloc: Global, all: &[&str]) -> Result<List<YLine>, YFault> {
+fn read_all(alloc: Global, all: &[&str]) -> Result<List<YLine>, YFault>
+    requires { AreShort (texts all.now) }
+    ensures { spec.Gives (spec.lines_at (length all.now) 0 true None (texts all.now)) result }
+{
     let mut lines = List::new(alloc);
     let mut above = None;
     let mut fresh = true;
@@ -113,6 +164,7 @@ fn past_order_mark(text: &str) -> &str {
 /// The lines of a YAML text that begin a value, in order.
 pub fn lines(alloc: Global, bytes: &[u8]) -> Result<List<YLine>, YFault>
     requires { length bytes.now ≤ 1000000 }
+    ensures { spec.Gives (spec.lines_of bytes.now) result }
 {
     let Ok(text) = from_utf8(bytes) else {
         return Err(YFault::NotUtf8);

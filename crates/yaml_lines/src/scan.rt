@@ -1,6 +1,6 @@
 //! How far a value has come: whether a quote or a flow sequence is open.
 
-ghost use Rattle.std.specs.Prelude.{◌≡◌, ◌^◌, ◌<◌, ◌≤◌, ◌+◌, ◌*◌, length};
+ghost use Rattle.std.specs.Prelude.{◌≡◌, ◌^◌, ◌<◌, ◌≤◌, ◌+◌, slice_index, length};
 ghost use Rattle.yaml_lines.specs.Blanks.{is_blank as blank};
 ghost use Rattle.yaml_lines.specs.Scan as spec;
 
@@ -40,12 +40,24 @@ fn after_inside(depth: u64, byte: u8) -> Scan
     ensures { result ≡ spec.after_inside depth byte }
 {
     if depth == 0 {
-        return Scan { place: Place::Inside, depth };
+        return Scan {
+            place: Place::Inside,
+            depth,
+        };
     }
     match byte {
-        b',' => Scan { place: Place::Begin, depth },
-        b']' => Scan { place: Place::Inside, depth: depth - 1 },
-        _ => Scan { place: Place::Inside, depth },
+        b',' => Scan {
+            place: Place::Begin,
+            depth,
+        },
+        b']' => Scan {
+            place: Place::Inside,
+            depth: depth - 1,
+        },
+        _ => Scan {
+            place: Place::Inside,
+            depth,
+        },
     }
 }
 
@@ -55,12 +67,24 @@ fn after_begin(depth: u64, byte: u8) -> Scan
     ensures { result ≡ spec.after_begin depth byte }
 {
     if is_blank(byte) {
-        return Scan { place: Place::Begin, depth };
+        return Scan {
+            place: Place::Begin,
+            depth,
+        };
     }
     match byte {
-        b'[' => Scan { place: Place::Begin, depth: depth + 1 },
-        b'\'' => Scan { place: Place::Single, depth },
-        b'"' => Scan { place: Place::Double, depth },
+        b'[' => Scan {
+            place: Place::Begin,
+            depth: depth + 1,
+        },
+        b'\'' => Scan {
+            place: Place::Single,
+            depth,
+        },
+        b'"' => Scan {
+            place: Place::Double,
+            depth,
+        },
         _ => after_inside(depth, byte),
     }
 }
@@ -75,24 +99,46 @@ pub fn after(scan: Scan, byte: u8) -> Scan
     match scan.place {
         Place::Begin => after_begin(depth, byte),
         Place::Inside => after_inside(depth, byte),
-        Place::Single => Scan { place: if byte == b'\'' { Place::SingleEnd } else { Place::Single }, depth },
+        Place::Single => Scan {
+            place: if byte == b'\'' {
+                Place::SingleEnd
+            } else {
+                Place::Single
+            },
+            depth,
+        },
         Place::SingleEnd => {
             if byte == b'\'' {
-                Scan { place: Place::Single, depth }
+                Scan {
+                    place: Place::Single,
+                    depth,
+                }
             } else {
                 after_inside(depth, byte)
             }
         }
         Place::Double => {
             if byte == b'\\' {
-                Scan { place: Place::Escape, depth }
+                Scan {
+                    place: Place::Escape,
+                    depth,
+                }
             } else if byte == b'"' {
-                Scan { place: Place::Inside, depth }
+                Scan {
+                    place: Place::Inside,
+                    depth,
+                }
             } else {
-                Scan { place: Place::Double, depth }
+                Scan {
+                    place: Place::Double,
+                    depth,
+                }
             }
         }
-        Place::Escape => Scan { place: Place::Double, depth },
+        Place::Escape => Scan {
+            place: Place::Double,
+            depth,
+        },
     }
 }
 
@@ -102,8 +148,14 @@ pub fn next_line(scan: Scan) -> Scan
 {
     let depth = scan.depth;
     match scan.place {
-        Place::SingleEnd => Scan { place: Place::Inside, depth },
-        Place::Escape => Scan { place: Place::Double, depth },
+        Place::SingleEnd => Scan {
+            place: Place::Inside,
+            depth,
+        },
+        Place::Escape => Scan {
+            place: Place::Double,
+            depth,
+        },
         place => Scan { place, depth },
     }
 }
@@ -115,11 +167,11 @@ pub fn is_open(scan: Scan) -> bool
     scan.depth > 0 || matches!(scan.place, Place::Single | Place::Double | Place::Escape)
 }
 
-/// Whether a comment may begin at a place.
-fn is_free(place: Place) -> bool
-    ensures { result ≡ spec.is_free place }
+/// Whether a byte begins a comment, where `gap` says whether a blank or nothing stands before it.
+fn begins_comment(gap: bool, place: Place, byte: u8) -> bool
+    ensures { result ≡ spec.begins_comment gap place byte }
 {
-    matches!(place, Place::Begin | Place::Inside)
+    gap && byte == b'#' && matches!(place, Place::Begin | Place::Inside)
 }
 
 /// What is found on a line: the place at its end, how many bytes stand before its comment, and whether it has one.
@@ -136,16 +188,25 @@ pub fn scan_line(start: Scan, line: &[u8]) -> Scanned
     requires short { length line.now ≤ 2 ^ 62 }
     ensures scanned { result ≡ spec.scan_line start line.now }
     ensures within { result.len ≤ length line.now }
+    ensures comment { result.len < length line.now → slice_index line.now result.len ≡ 35 }
     ensures depth { result.scan.depth ≤ start.depth + length line.now }
 {
     let mut scan = start;
     let mut gap = true;
     for (at, byte) in line.iter().enumerate() {
-        if gap && *byte == b'#' && is_free(scan.place) {
-            return Scanned { scan, len: at, comment: true };
+        if begins_comment(gap, scan.place, *byte) {
+            return Scanned {
+                scan,
+                len: at,
+                comment: true,
+            };
         }
         scan = after(scan, *byte);
         gap = is_blank(*byte);
     }
-    Scanned { scan, len: line.len(), comment: false }
+    Scanned {
+        scan,
+        len: line.len(),
+        comment: false,
+    }
 }

@@ -20,7 +20,8 @@ fn shows(line: &YLine, column: u32, key: &str, value: &str, body: usize) -> bool
 
 #[test]
 fn reads_a_rule_file(rt: HostRuntime) {
-    let text = "# rules\n---\nrules:\n- id: \"a\\u0041\"   # the name\n  languages: [python,\n    c]  # two\n  message: >-\n    Tainted # data\n\n    reaches\n  patterns:\n    - pattern: f($X)\n        more\n    - 'pattern-regex': '[\"#] # x''y'\n    - - x\n";
+    let text =
+        "# rules\n---\nrules:\n- id: \"a\\u0041\"   # the name\n  languages: [python,\n    c]  # two\n  message: >-\n    Tainted # data\n\n    reaches\n  patterns:\n    - pattern: f($X)\n        more\n    - 'pattern-regex': '[\"#] # x''y'\n    - - x\n";
     let all = read(&rt, text);
     let lines = all.as_slice();
     assert!(rt; lines.len() == 8);
@@ -39,7 +40,10 @@ fn reads_a_rule_file(rt: HostRuntime) {
 
 #[test]
 fn reads_keys(rt: HostRuntime) {
-    let all = read(&rt, "\"a\\n\\x41\\u00e9\" : 1\n'b''c': 2\nd e: f: g\n\"\\q\": 1\n[a]: 1\n");
+    let all = read(
+        &rt,
+        "\"a\\n\\x41\\u00e9\" : 1\n'b''c': 2\nd e: f: g\n\"\\q\": 1\n[a]: 1\n",
+    );
     let lines = all.as_slice();
     assert!(rt; lines.len() == 5);
     assert!(rt; shows(&lines[0], 0, "a\nAé", "1", 0));
@@ -56,17 +60,29 @@ fn names_the_first_feature(rt: HostRuntime) {
     assert!(rt; fault(&rt, "a:\n\tb\n") == Some(YFault::OutsideProfile(Feature::Tab, 2)));
     assert!(rt; fault(&rt, "-\ta: 1\n") == Some(YFault::OutsideProfile(Feature::Tab, 1)));
     assert!(rt; fault(&rt, "-\ta\n").is_none());
-    assert!(rt; fault(&rt, "---\na: 1\n--- b\n") == Some(YFault::OutsideProfile(Feature::Document, 3)));
-    assert!(rt; fault(&rt, "a: |2\n   b\n") == Some(YFault::OutsideProfile(Feature::IndentDigit, 1)));
+    assert!(rt;
+        fault(&rt, "---\na: 1\n--- b\n") == Some(YFault::OutsideProfile(Feature::Document, 3))
+    );
+    assert!(rt;
+        fault(&rt, "a: |2\n   b\n") == Some(YFault::OutsideProfile(Feature::IndentDigit, 1))
+    );
     assert!(rt; fault(&rt, "? a\n") == Some(YFault::OutsideProfile(Feature::ComplexKey, 1)));
-    assert!(rt; fault(&rt, "a: 'x\n  &d\n  y'\nb: {c: 1}\n") == Some(YFault::OutsideProfile(Feature::FlowMap, 4)));
-    assert!(rt; fault(&rt, "a: |\n  &x\n%b\n") == Some(YFault::OutsideProfile(Feature::Directive, 3)));
+    assert!(rt;
+        fault(&rt, "a: 'x\n  &d\n  y'\nb: {c: 1}\n")
+            == Some(YFault::OutsideProfile(Feature::FlowMap, 4))
+    );
+    assert!(rt;
+        fault(&rt, "a: |\n  &x\n%b\n") == Some(YFault::OutsideProfile(Feature::Directive, 3))
+    );
     assert!(rt; lines(rt.alloc(), &[255]).err() == Some(YFault::NotUtf8));
 }
 
 #[test]
 fn tells_where_a_value_ends(rt: HostRuntime) {
-    let all = read(&rt, "a: b\n\n  c # d\n  e\nf: |\n\n  g\n h\n  \ni: |+\n  j\n\n");
+    let all = read(
+        &rt,
+        "a: b\n\n  c # d\n  e\nf: |\n\n  g\n h\n  \ni: |+\n  j\n\n",
+    );
     let lines = all.as_slice();
     assert!(rt; lines.len() == 5);
     assert!(rt; shows(&lines[0], 0, "a", "b", 2));
