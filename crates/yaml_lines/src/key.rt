@@ -127,8 +127,11 @@ fn content_of(alloc: Global, quote: u8, inner: &[u8]) -> Result<Option<Text>, Me
     let Ok(text) = from_utf8(inner) else {
         return Ok(None);
     };
-    let content = if quote == b'\'' { Some(undoubled(alloc, text)?) } else { unescaped(alloc, text)? };
-    match content {
+    if quote == b'\'' {
+        let content = undoubled(alloc, text)?;
+        return Ok(Some(Text::from_str(alloc, content.as_str())?));
+    }
+    match unescaped(alloc, text)? {
         Some(content) => Ok(Some(Text::from_str(alloc, content.as_str())?)),
         None => Ok(None),
     }
