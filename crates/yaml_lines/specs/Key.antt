@@ -76,7 +76,8 @@ unquoted (quote ∷ bs) = content_of quote (take (length bs - 1) bs)
 -- the key whose quoted scalar has so many bytes
 abbrev pub quoted_key : List ℕ → ℕ → Option Keyed
 quoted_key text len =
-    option_and_then (λ rest. option_map (λ content. keyed content rest) (unquoted (take len text))) (past_sign 58 (past_blanks (drop len text)))
+    if is_utf8 (drop len text) then option_and_then (λ rest. option_map (λ content. keyed content rest) (unquoted (take len text))) (past_sign 58 (past_blanks (drop len text)))
+    else None
 
 abbrev pub plain_key : List ℕ → Option Keyed
 plain_key text = option_map (λ at. keyed (before_blanks (take at text)) (drop (at + 1) text)) (colon_at false text)

@@ -13,6 +13,7 @@ use Rattle.yaml_lines.specs.Body.{body_len}
 use Rattle.yaml_lines.specs.declared.scan.Place.TheVariants.{Begin}
 use Rattle.yaml_lines.specs.declared.scan.Scanned.{Scanned}
 use Rattle.yaml_lines.specs.declared.line.YLine.{YLine}
+use Rattle.yaml_lines.specs.declared.read.Value.{Value}
 use Rattle.yaml_lines.specs.declared.fault.YFault.{YFault}
 use Rattle.yaml_lines.specs.declared.fault.YFault.TheVariants.{Memory, NotUtf8, OutsideProfile}
 use Rattle.yaml_lines.specs.declared.fault.Feature.{Feature}
@@ -76,13 +77,24 @@ abbrev pub with_line : YLine → Result (List YLine) YFault → Result (List YLi
 with_line l (Ok ls) = Ok (l ∷ ls)
 with_line l (Err e) = Err e
 
--- a line that begins a value, and the rest of the text by a reader of what is left
-abbrev pub value_at : (ℕ → Option ℕ → List (List ℕ) → Result (List YLine) YFault) → ℕ → Option ℕ → List ℕ → Head → Option Feature → List (List ℕ) → Result (List YLine) YFault
-value_at read number above l h (Some feature) ls = Err (OutsideProfile feature number)
-value_at read number above l h None ls =
+abbrev pub value_with : ℕ → Option ℕ → List ℕ → Head → List (List ℕ) → Value
+value_with number above l h ls =
     let holder = holder_of l h above in
     let len = body_len h.value h.scanned holder ls in
-    with_line (line_of number l h (take len ls)) (read (number + len) holder (drop len ls))
+    record { line = line_of number l h (take len ls); holder = holder; len = len }
+
+abbrev pub value_unless : Option Feature → ℕ → Option ℕ → List ℕ → Head → List (List ℕ) → Result Value YFault
+value_unless (Some feature) number above l h ls = Err (OutsideProfile feature number)
+value_unless None number above l h ls = Ok (value_with number above l h ls)
+
+-- the value that a line begins, or its first feature outside the profile
+abbrev pub value_of : ℕ → Option ℕ → List ℕ → List (List ℕ) → Result Value YFault
+value_of number above l ls = value_unless (feature_of l (head_of l)) number above l (head_of l) ls
+
+-- the value's line before those that are read from what is left
+abbrev pub go_on : (ℕ → Option ℕ → List (List ℕ) → Result (List YLine) YFault) → ℕ → List (List ℕ) → Result Value YFault → Result (List YLine) YFault
+go_on read number ls (Err e) = Err e
+go_on read number ls (Ok v) = with_line v.line (read (number + v.len) v.holder (drop v.len ls))
 
 -- the lines that begin a value, where `number` lines stand above, and `fresh` says that none of those has content; the first number is at least how many lines there are
 abbrev pub lines_at : ℕ → ℕ → Bool → Option ℕ → List (List ℕ) → Result (List YLine) YFault
@@ -91,7 +103,7 @@ lines_at zero number fresh above (l ∷ ls) = Ok []
 lines_at (suc fuel) number fresh above (l ∷ ls) =
     if is_skipped l then lines_at fuel (number + 1) fresh above ls
     else (if fresh && is_start l then lines_at fuel (number + 1) false above ls
-    else value_at (λ n holder rest. lines_at fuel n false holder rest) (number + 1) above l (head_of l) (feature_of l (head_of l)) ls)
+    else go_on (λ n holder rest. lines_at fuel n false holder rest) (number + 1) ls (value_of (number + 1) above l ls))
 
 -- a text without a byte order mark
 abbrev pub past_order_mark : List ℕ → List ℕ

@@ -1,6 +1,6 @@
 //! What stands on a line: indentation, marks, and where the content begins.
 
-ghost use Rattle.std.specs.Prelude.{◌≡◌, ◌≤◌, ◌^◌, ◌<◌, length, option_map, IfOk, Option};
+ghost use Rattle.std.specs.Prelude.{◌≡◌, ◌≤◌, ◌^◌, ◌<◌, ◌∷◌, length, IfOk, IfSome};
 ghost use Rattle.std.specs.Option.{option_copied};
 ghost use Rattle.std.specs.Str.{IsUtf8};
 ghost use Rattle.yaml_lines.specs.Blanks as spec;
@@ -92,7 +92,8 @@ pub fn is_sign(sign: u8, byte: u8, rest: &[u8]) -> bool
 
 /// What follows a sign that stands alone at the start of a text.
 pub fn past_sign(text: &[u8], sign: u8) -> Option<&[u8]>
-    ensures { option_copied result ≡ spec.past_sign sign text.now }
+    ensures past { option_copied result ≡ spec.past_sign sign text.now }
+    ensures rest { IfSome result (λ r. text.now ≡ sign ∷ r.now) }
 {
     match text.split_first() {
         Some((first, rest)) if is_sign(sign, *first, rest) => Some(rest),
@@ -123,7 +124,6 @@ fn without_comment(text: &[u8]) -> &[u8]
 pub fn read_marks<'t>(alloc: Global, line: &'t [u8]) -> Result<Marks<'t>, Memory>
     requires { length line.now < 2 ^ 32 }
     ensures marks { IfOk result (IsMarked line.now) }
-    ensures utf8 { IsUtf8 line.now → IfOk result (λ m. IsUtf8 m.content.now) }
     ensures within { IfOk result (λ m. length m.content.now ≤ length line.now) }
 {
     let mut dashes = List::new(alloc);

@@ -4,7 +4,7 @@ ghost use Rattle.std.specs.Prelude.{◌≡◌, ◌-◌, ◌<◌, false, take, sl
 ghost use Rattle.std.specs.Option.{option_map};
 ghost use Rattle.std.specs.Str.{IsUtf8};
 ghost use Rattle.yaml_lines.specs.Key as spec;
-ghost use Rattle.yaml_lines.specs.Keying.{IsKey, keyed_of};
+ghost use Rattle.yaml_lines.specs.Keying.{IsKey, IsRest, keyed_of};
 
 use crate::escape::{undoubled, unescaped};
 use crate::head::{before_blanks, ends_sign, is_sign, past_blanks, past_sign};
@@ -161,7 +161,11 @@ fn unquoted(alloc: Global, quoted: &[u8]) -> Result<Option<Text>, Memory>
 fn quoted_key<'t>(alloc: Global, text: &'t [u8], len: usize) -> Result<Option<Key<'t>>, Memory>
     requires { len ≤ length text.now }
     ensures key { IfOk result (λ k. option_map keyed_of k ≡ spec.quoted_key text.now len) }
+    ensures rest { IfOk result (λ k. IfSome k (λ x. IsRest text.now x.rest.now)) }
 {
+    let Ok(_) = from_utf8(&text[len..]) else {
+        return Ok(None);
+    };
     let Some(rest) = past_sign(past_blanks(&text[len..]), b':') else {
         return Ok(None);
     };
@@ -175,6 +179,7 @@ fn quoted_key<'t>(alloc: Global, text: &'t [u8], len: usize) -> Result<Option<Ke
 fn plain_key<'t>(alloc: Global, text: &'t [u8]) -> Result<Option<Key<'t>>, Memory>
     requires { IsUtf8 text.now }
     ensures key { IfOk result (λ k. option_map keyed_of k ≡ spec.plain_key text.now) }
+    ensures rest { IfOk result (λ k. IfSome k (λ x. IsRest text.now x.rest.now)) }
 {
     let Some(at) = colon(text) else {
         return Ok(None);
@@ -187,7 +192,8 @@ fn plain_key<'t>(alloc: Global, text: &'t [u8]) -> Result<Option<Key<'t>>, Memor
 pub fn read_key<'t>(alloc: Global, text: &'t [u8]) -> Result<Option<Key<'t>>, Memory>
     requires utf8 { IsUtf8 text.now }
     requires short { length text.now ≤ 2 ^ 62 }
-    ensures { IfOk result (IsKey text.now) }
+    ensures key { IfOk result (IsKey text.now) }
+    ensures rest { IfOk result (λ k. IfSome k (λ x. IsRest text.now x.rest.now)) }
 {
     let Some(first) = text.first() else {
         return Ok(None);

@@ -3,6 +3,7 @@
 ghost use Rattle.std.specs.Prelude.{◌≡◌, ◌≤◌, ◌^◌, length, IfOk, Option, true, None};
 ghost use Rattle.std.specs.Str.{IsUtf8};
 ghost use Rattle.yaml_lines.specs.Body.{texts, AreShort};
+ghost use Rattle.yaml_lines.specs.Lines.{Gives};
 ghost use Rattle.yaml_lines.specs.Heading.{headed, IsHead, Within};
 ghost use Rattle.yaml_lines.specs.Lines as spec;
 
@@ -91,6 +92,17 @@ fn column_of(line: &[u8], head: &Head<'_>) -> u32
     (line.len() - head.marks.content.len()) as u32
 }
 
+/// The last mark, or what stands above.
+fn last_or(above: Option<u32>, dashes: &[u32]) -> Option<u32>
+    ensures { result ≡ spec.last_or above dashes.now }
+{
+    let mut last = above;
+    for dash in dashes {
+        last = Some(*dash);
+    }
+    last
+}
+
 /// The column of the last key or mark of a line, also of those above.
 fn holder_of(line: &[u8], head: &Head<'_>, above: Option<u32>) -> Option<u32>
     requires { Within line.now head.now }
@@ -99,59 +111,74 @@ fn holder_of(line: &[u8], head: &Head<'_>, above: Option<u32>) -> Option<u32>
     if head.key.is_some() {
         Some(column_of(line, head))
     } else {
-        head.marks.dashes.as_slice().last().copied().or(above)
+        last_or(above, head.marks.dashes.as_slice())
     }
 }
 
 /// A line that says this, with the lines that go on with its value.
-fn line_of(
-    alloc: Global,
-    number: u32,
-    line: &[u8],
-    head: Head<'_>,
-    body: &[&str],
-) -> Result<YLine, Memory> {
-    let column = (line.len() - head.marks.content.len()) as u32;
+fn line_of(alloc: Global, number: u32, line: &[u8], head: Head<'_>, body: &[&str]) -> Result<YLine, Memory>
+    requires { Within line.now head }
+    ensures { IfOk result (λ l. l ≡ spec.line_of number line.now (headed head) (texts body.now)) }
+{
+    let column = column_of(line, &head);
     let value = text_of(alloc, head.value)?;
     let body = copies(alloc, body)?;
-    Ok(YLine {
-        number,
-        column,
-        dashes: head.marks.dashes,
-        key: head.key,
-        value,
-        body,
-    })
+    Ok(YLine { number, column, dashes: head.marks.dashes, key: head.key, value, body })
+}
+
+/// A line that begins a value, the column that later lines see as that of the last key or mark, and how many lines go on
+/// with the value.
+#[derive(Drop)]
+pub struct Value {
+    pub line: YLine,
+    pub holder: Option<u32>,
+    pub len: usize,
+}
+
+/// The value that a line begins, with the column of the last key or mark above it, and the lines below it.
+fn read_value(alloc: Global, number: u32, above: Option<u32>, line: &[u8], below: &[&str]) -> Result<Value, YFault>
+    requires utf8 { IsUtf8 line.now }
+    requires short { length line.now ≤ 2 ^ 20 }
+    requires lines { AreShort (texts below.now) }
+    ensures value { Gives (spec.value_of number above line.now (texts below.now)) result }
+    ensures within { IfOk result (λ v. v.len ≤ length below.now) }
+{
+    let head = read_head(alloc, line)?;
+    if let Some(feature) = feature(line, &head) {
+        return Err(YFault::OutsideProfile(feature, number));
+    }
+    let holder = holder_of(line, &head, above);
+    let len = body_len(head.value, head.scanned, holder, below);
+    let line = line_of(alloc, number, line, head, &below[..len])?;
+    Ok(Value { line, holder, len })
 }
 
 /// The lines of a text that begin a value.
 fn read_all(alloc: Global, all: &[&str]) -> Result<List<YLine>, YFault>
     requires { AreShort (texts all.now) }
-    ensures { spec.Gives (spec.lines_at (length all.now) 0 true None (texts all.now)) result }
+    ensures { Gives (spec.lines_at (length all.now) 0 true None (texts all.now)) result }
 {
     let mut lines = List::new(alloc);
     let mut above = None;
     let mut fresh = true;
     let mut at = 0;
-    'lines: while at < all.len() {
+    for turn in 0..all.len() {
+        if at == all.len() {
+            return Ok(lines);
+        }
         let line = all[at].as_bytes();
         at += 1;
-        if is_skipped(line) {
-            continue;
+        if !is_skipped(line) {
+            if fresh && is_start(line) {
+                fresh = false;
+            } else {
+                let value = read_value(alloc, at as u32, above, line, &all[at..])?;
+                fresh = false;
+                above = value.holder;
+                at += value.len;
+                lines.push(value.line)?;
+            }
         }
-        if fresh && is_start(line) {
-            fresh = false;
-            continue;
-        }
-        fresh = false;
-        let head = read_head(alloc, line)?;
-        if let Some(feature) = feature(line, &head) {
-            return Err(YFault::OutsideProfile(feature, at as u32));
-        }
-        above = holder_of(line, &head, above);
-        let len = body_len(head.value, head.scanned, above, &all[at..]);
-        lines.push(line_of(alloc, at as u32, line, head, &all[at..at + len])?)?;
-        at += len;
     }
     Ok(lines)
 }
@@ -164,7 +191,7 @@ fn past_order_mark(text: &str) -> &str {
 /// The lines of a YAML text that begin a value, in order.
 pub fn lines(alloc: Global, bytes: &[u8]) -> Result<List<YLine>, YFault>
     requires { length bytes.now ≤ 1000000 }
-    ensures { spec.Gives (spec.lines_of bytes.now) result }
+    ensures { Gives (spec.lines_of bytes.now) result }
 {
     let Ok(text) = from_utf8(bytes) else {
         return Err(YFault::NotUtf8);

@@ -1,6 +1,5 @@
 use Rattle.std.proofs.Common.{ℕ, List, [], ap, ◌∙◌, sym, arith}
-use Rattle.yaml_lines.specs.Scan.{scan_line}
-use Rattle.yaml_lines.specs.Body.{open_len, texts}
+use Rattle.yaml_lines.specs.declared.scan.Scan.{Scan}
 use Rattle.yaml_lines.proofs.Steps.{open_goes, open_stops, short_at}
 use Rattle.yaml_lines.proofs.body.open_len.Goals as goal
 
@@ -16,6 +15,6 @@ loop-at-preserved c =
     let h = short_at c.args.lines.now c.loop-at.at _ c.as_bytes.result.now c.loop-at-test.true c.as_bytes.ensures.value c.requires.short in
     let goes = open_goes c.args.lines.now c.loop-at.at c.loop-at.scan _ c.as_bytes.result.now c.loop-at-test.true c.as_bytes.ensures.value (sym c.if-not-is_open.ensures) in
     record {
-      rest = c.loop-at.invariant.rest ∙ goes ∙ ?;
-      depth = ?;
+      rest = c.loop-at.invariant.rest ∙ goes ∙ cc;
+      depth = omega (arith, c.scan_line.ensures.depth, c.loop-at.invariant.depth, ap (λ (s : Scan). s.depth) c.next_line.ensures, h);
     }

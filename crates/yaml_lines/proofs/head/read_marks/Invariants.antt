@@ -1,10 +1,7 @@
 use Rattle.std.proofs.Common.{◌≡◌, false, drop}
-use Rattle.std.specs.Str.{IsUtf8}
 use Rattle.yaml_lines.specs.Marks.{marks_at}
 use Rattle.yaml_lines.proofs.Steps.{behind}
 use Rattle.yaml_lines.proofs.head.read_marks.Given as goal
 
 abbrev pub invariant-loop-at : goal.invariant-loop-at
-invariant-loop-at l = record {
-  same : marks_at 0 false l.line ≡ behind l.dashes l.before (marks_at l.at l.tab (drop l.at l.line));
-  utf8 : IsUtf8 l.line → IsUtf8 (drop l.at l.line) }
+invariant-loop-at l = marks_at 0 false l.line ≡ behind l.dashes l.before (marks_at l.at l.tab (drop l.at l.line))
