@@ -171,3 +171,6 @@ quoted_some text rest content len u r c =
     let t = rw (slice_rest text len) at (is_utf8-from_IsUtf8 (take (length text - len) (drop len text)) u) in
     let q = rw (slice_rest text len) at r in
     rw (t, ← q, ← c) refl
+
+pub rest_from : {A : Type 0} (content : List ℕ) (k : A × Bor (List ℕ)) (a : A) (r : Bor (List ℕ)) → k ≡ (a, r) → IsRest content r.now → IsRest content k.1.now
+rest_from {A = A} content k a r e is = let P : A × Bor (List ℕ) → Type 0 = λ x. IsRest content x.1.now in subst P (sym e) is

@@ -96,13 +96,17 @@ abbrev pub go_on : (ℕ → Option ℕ → List (List ℕ) → Result (List YLin
 go_on read number ls (Err e) = Err e
 go_on read number ls (Ok v) = with_line v.line (read (number + v.len) v.holder (drop v.len ls))
 
+-- the line is the mark `---`, where `fresh` says that nothing stands above it
+abbrev pub is_first_mark : Bool → List ℕ → Bool
+is_first_mark fresh l = fresh && is_start l
+
 -- the lines that begin a value, where `number` lines stand above, and `fresh` says that none of those has content; the first number is at least how many lines there are
 abbrev pub lines_at : ℕ → ℕ → Bool → Option ℕ → List (List ℕ) → Result (List YLine) YFault
 lines_at fuel number fresh above [] = Ok []
 lines_at zero number fresh above (l ∷ ls) = Ok []
 lines_at (suc fuel) number fresh above (l ∷ ls) =
     if is_skipped l then lines_at fuel (number + 1) fresh above ls
-    else (if fresh && is_start l then lines_at fuel (number + 1) false above ls
+    else (if is_first_mark fresh l then lines_at fuel (number + 1) false above ls
     else go_on (λ n holder rest. lines_at fuel n false holder rest) (number + 1) ls (value_of (number + 1) above l ls))
 
 -- a text without a byte order mark
@@ -110,9 +114,12 @@ abbrev pub past_order_mark : List ℕ → List ℕ
 past_order_mark (a ∷ b ∷ c ∷ bs) = if a == 239 && b == 187 && c == 191 then bs else a ∷ b ∷ c ∷ bs
 past_order_mark bs = bs
 
+abbrev pub all_lines : List (List ℕ) → Result (List YLine) YFault
+all_lines all = lines_at (length all) 0 true None all
+
 -- the lines of a text that begin a value, or its first fault
 abbrev pub lines_of : List ℕ → Result (List YLine) YFault
-lines_of bytes = if is_utf8 bytes then (let all = lines (past_order_mark bytes) in lines_at (length all) 0 true None all) else Err NotUtf8
+lines_of bytes = if is_utf8 (past_order_mark bytes) then all_lines (lines (past_order_mark bytes)) else Err NotUtf8
 
 -- the result is this one, but for want of memory
 abbrev pub Gives : {X : Type 0} → Result X YFault → Result X YFault → Type 0

@@ -118,7 +118,7 @@ fn holder_of(line: &[u8], head: &Head<'_>, above: Option<u32>) -> Option<u32>
 /// A line that says this, with the lines that go on with its value.
 fn line_of(alloc: Global, number: u32, line: &[u8], head: Head<'_>, body: &[&str]) -> Result<YLine, Memory>
     requires { Within line.now head }
-    ensures { IfOk result (λ l. l ≡ spec.line_of number line.now (headed head) (texts body.now)) }
+    ensures { IfOk result (λ l. l ≡ spec.line_of number line.now (headed head.entry) (texts body.now)) }
 {
     let column = column_of(line, &head);
     let value = text_of(alloc, head.value)?;
@@ -153,6 +153,13 @@ fn read_value(alloc: Global, number: u32, above: Option<u32>, line: &[u8], below
     Ok(Value { line, holder, len })
 }
 
+/// Whether a line is the mark `---` above all content.
+fn is_first_mark(fresh: bool, line: &[u8]) -> bool
+    ensures { result ≡ spec.is_first_mark fresh line.now }
+{
+    fresh && is_start(line)
+}
+
 /// The lines of a text that begin a value.
 fn read_all(alloc: Global, all: &[&str]) -> Result<List<YLine>, YFault>
     requires { AreShort (texts all.now) }
@@ -168,34 +175,43 @@ fn read_all(alloc: Global, all: &[&str]) -> Result<List<YLine>, YFault>
         }
         let line = all[at].as_bytes();
         at += 1;
-        if !is_skipped(line) {
-            if fresh && is_start(line) {
-                fresh = false;
-            } else {
-                let value = read_value(alloc, at as u32, above, line, &all[at..])?;
-                fresh = false;
-                above = value.holder;
-                at += value.len;
-                lines.push(value.line)?;
-            }
+        if is_skipped(line) {
+            continue;
         }
+        if is_first_mark(fresh, line) {
+            fresh = false;
+            continue;
+        }
+        let value = read_value(alloc, at as u32, above, line, &all[at..])?;
+        fresh = false;
+        above = value.holder;
+        at += value.len;
+        lines.push(value.line)?;
     }
     Ok(lines)
 }
 
-/// A text without a byte order mark.
-fn past_order_mark(text: &str) -> &str {
-    text.strip_prefix('\u{feff}').unwrap_or(text)
+/// Bytes without the byte order mark at their start.
+fn past_order_mark(bytes: &[u8]) -> &[u8]
+    ensures rest { result.now ≡ spec.past_order_mark bytes.now }
+    ensures len { length result.now ≤ length bytes.now }
+{
+    match bytes {
+        [239, 187, 191, rest @ ..] => rest,
+        _ => bytes,
+    }
 }
 
-/// The lines of a YAML text that begin a value, in order.
+/// The lines of a YAML text that begin a value, in order, or why there are none: the bytes, without a byte order mark at
+/// their start, are no UTF-8, or a line that begins a value has a feature outside the profile, of which the first is named.
+/// `NoValue` is no answer of this call.
 pub fn lines(alloc: Global, bytes: &[u8]) -> Result<List<YLine>, YFault>
     requires { length bytes.now ≤ 1000000 }
     ensures { Gives (spec.lines_of bytes.now) result }
 {
-    let Ok(text) = from_utf8(bytes) else {
+    let Ok(text) = from_utf8(past_order_mark(bytes)) else {
         return Err(YFault::NotUtf8);
     };
-    let all: Vec<&str> = past_order_mark(text).lines().collect(alloc)?;
+    let all: Vec<&str> = text.lines().collect(alloc)?;
     read_all(alloc, all.as_slice())
 }
