@@ -8,14 +8,15 @@ use Rattle.std.proofs.lemmas.Str.{is_utf8-from_IsUtf8}
 use Rattle.std.specs.Borrow.{Bor}
 use Rattle.yaml_lines.specs.Blanks.{is_skipped}
 use Rattle.yaml_lines.specs.Body.{texts}
-use Rattle.yaml_lines.specs.Lines.{Gives, lines_of, past_order_mark, is_first_mark, lines_at, with_line, value_of, go_on}
+use Rattle.yaml_lines.specs.Lines.{Head, head_of, feature_of, holder_of, line_of, value_with, value_unless, Gives, lines_of, past_order_mark, is_first_mark, lines_at, with_line, value_of, go_on}
 use Rattle.yaml_lines.specs.declared.line.YLine.{YLine}
 use Rattle.yaml_lines.specs.declared.read.Value.{Value}
 use Rattle.yaml_lines.specs.declared.fault.YFault.{YFault}
 use Rattle.yaml_lines.specs.declared.fault.YFault.TheVariants.{Memory, NotUtf8, OutsideProfile, NoValue}
-use Rattle.std.proofs.lemmas.List.{length-map, append-nil, drop-drop, take_all}
+use Rattle.std.proofs.lemmas.List.{take-map, append-nil, drop-drop, take_all}
 use Rattle.std.proofs.lemmas.List.Elements.{All-drop, All-nil, All-cons}
-use Rattle.yaml_lines.specs.Body.{AreShort}
+use Rattle.yaml_lines.specs.Body.{AreShort, body_len}
+use Rattle.yaml_lines.specs.declared.fault.Feature.{Feature}
 use Rattle.yaml_lines.proofs.Steps.{texts_more, texts_drop, not_text}
 
 -- lines before those that are still to come
@@ -73,9 +74,13 @@ gives_err ls read number rest wanted NoValue g = ap (λ (x : Result Value YFault
 pub gives_same : {X : Type 0} (wanted other r : Result X YFault) → wanted ≡ other → Gives other r → Gives wanted r
 gives_same {X = X} wanted other r e g = let P : Result X YFault → Type 0 = λ x. Gives x r in subst P (sym e) g
 
+length-texts : (all : List (Bor (List ℕ))) → length (texts all) ≡ length all
+length-texts [] = refl
+length-texts (l ∷ ls) = ap suc (length-texts ls)
+
 pub lines_given : (bytes text : List ℕ) (all : List (Bor (List ℕ))) (r : Result (List YLine) YFault) → text ≡ past_order_mark bytes → IsUtf8 text → texts all ≡ lines text → Gives (lines_at (length all) 0 true None (texts all)) r → Gives (lines_of bytes) r
 lines_given bytes text all r t u e g =
-    let n : length (texts all) ≡ length all = length-map (λ (l : Bor (List ℕ)). l.now) all in
+    let n = length-texts all in
     let w : lines_of bytes ≡ lines_at (length all) 0 true None (texts all) = rw (← t, is_utf8-from_IsUtf8 text u, ← e, n) refl in
     gives_same (lines_of bytes) (lines_at (length all) 0 true None (texts all)) r w g
 
@@ -99,10 +104,11 @@ onto_short : (b n : ℕ) (ls : List (List ℕ)) → Short n ls → Short (suc n)
 onto_short b n [] s = ((omega arith, tt), omega arith)
 onto_short b n (l ∷ ls) (a, s) = ((omega arith, longer n (suc n) ls (omega arith) s), omega arith)
 
-split_short : (p : ℕ → Bool) (bs : List ℕ) → Short (length bs) (slice_split p bs) × (length (slice_split p bs) ≤ suc (length bs))
 split_step : (p : ℕ → Bool) (b : ℕ) (bs : List ℕ) (v : Bool) → p b ≡ v → Short (length bs) (slice_split p bs) → length (slice_split p bs) ≤ suc (length bs) → Short (suc (length bs)) (slice_split p (b ∷ bs)) × (length (slice_split p (b ∷ bs)) ≤ suc (suc (length bs)))
 split_step p b bs true e s n = rw e ((omega arith, longer (length bs) (suc (length bs)) (slice_split p bs) (omega arith) s), omega arith)
 split_step p b bs false e s n = let o = onto_short b (length bs) (slice_split p bs) s in rw e (o.0, omega (arith, o.1))
+
+split_short : (p : ℕ → Bool) (bs : List ℕ) → Short (length bs) (slice_split p bs) × (length (slice_split p bs) ≤ suc (length bs))
 split_short p [] = ((omega arith, tt), omega arith)
 split_short p (b ∷ bs) = let r = split_short p bs in split_step p b bs (p b) refl r.0 r.1
 
@@ -127,3 +133,18 @@ short_lines text h =
     let s = split_short (λ b. eqb b 10) text in
     let r = parts_short (length text) (slice_split (λ b. eqb b 10) text) s.0 in
     record { few = omega (arith, r.1, s.1); each = all_short (2 ^ 20) (lines text) (longer (length text) (2 ^ 20) (lines text) (omega arith) r.0) }
+
+value_parts : (number : ℕ) (above : Option ℕ) (line : List ℕ) (h : Head) (below : List (List ℕ)) (holder : Option ℕ) → holder ≡ holder_of line h above → (len : ℕ) → len ≡ body_len h.value h.scanned holder below → (l : YLine) → l ≡ line_of number line h (take len below) → ◌≡◌ {A = Value} (record { line = l; holder = holder; len = len }) (value_with number above line h below)
+value_parts number above line h below holder e len f l g =
+    let A : YLine → Type 0 = λ y. ◌≡◌ {A = Value} (record { line = y; holder = holder; len = len }) (value_with number above line h below) in
+    let B : ℕ → Type 0 = λ n. ◌≡◌ {A = Value} (record { line = line_of number line h (take n below); holder = holder; len = n }) (value_with number above line h below) in
+    let C : Option ℕ → Type 0 = λ o. ◌≡◌ {A = Value} (record { line = line_of number line h (take (body_len h.value h.scanned o below) below); holder = o; len = body_len h.value h.scanned o below }) (value_with number above line h below) in
+    subst A (sym g) (subst B (sym f) (subst C (sym e) refl))
+
+pub value_is : (number : ℕ) (above : Option ℕ) (line : List ℕ) (h : Head) (below : List (Bor (List ℕ))) (holder : Option ℕ) (len : ℕ) (l : YLine) → h ≡ head_of line → None ≡ feature_of line h → holder ≡ holder_of line h above → len ≡ body_len h.value h.scanned holder (texts below) → l ≡ line_of number line h (texts (take len below)) → Ok (record { line = l; holder = holder; len = len }) ≡ value_of number above line (texts below)
+value_is number above line h below holder len l e f o n g =
+    let v : Value = record { line = l; holder = holder; len = len } in
+    let cut = g ∙ ap (line_of number line h) (sym (take-map (λ (x : Bor (List ℕ)). x.now) len below)) in
+    let Q : Option Feature → Type 0 = λ x. ◌≡◌ {A = Result Value YFault} (Ok v) (value_unless x number above line h (texts below)) in
+    let P : Head → Type 0 = λ x. ◌≡◌ {A = Result Value YFault} (Ok v) (value_unless (feature_of line x) number above line x (texts below)) in
+    subst P e (subst Q f (ap Ok (value_parts number above line h (texts below) holder o len n l cut)))

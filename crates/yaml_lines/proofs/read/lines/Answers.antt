@@ -1,5 +1,5 @@
 use Rattle.std.proofs.Common.{◌≡◌, ℕ, List, ◌≤◌, ap, sym, ◌∙◌, subst, arith, length}
-use Rattle.std.specs.Borrow.{Bor}
+use Rattle.std.specs.Str.{IsUtf8}
 use Rattle.std.proofs.lemmas.Iterator.Consumers.{map_from_collect}
 use Rattle.std.proofs.lemmas.Iterator.Splits.{YieldsList-from_lines}
 use Rattle.yaml_lines.specs.Body.{texts, AreShort}
@@ -22,4 +22,5 @@ returns c =
     let made = map_from_collect c.collect.result c.collect.ensures.ran (YieldsList-from_lines c.in-Ok.text.now c.lines.ensures.rest) in
     let all = rw c.in_ok-all.was at made in
     let e = ap texts c.as_slice.ensures.value ∙ all in
-    lines_given c.args.bytes.now c.in-Ok.text.now c.as_slice.result.now c.read_all.result (c.in-Ok.ensures.cases.0 ∙ c.past_order_mark.ensures.rest) ? e c.read_all.ensures
+    let U : List ℕ → Type 0 = λ x. IsUtf8 x in
+    lines_given c.args.bytes.now c.in-Ok.text.now c.as_slice.result.now c.read_all.result (c.in-Ok.ensures.cases.0 ∙ c.past_order_mark.ensures.rest) (subst U (sym c.in-Ok.ensures.cases.0) c.in-Ok.ensures.cases.1) e c.read_all.ensures
