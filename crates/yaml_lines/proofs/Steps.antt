@@ -1,23 +1,22 @@
 -- One step of each loop over bytes or lines.
 use Rattle.std.proofs.lemmas.Grind.{common_steps}
-use Rattle.std.proofs.Common.{◌-◌, ◌≡◌, ◌≢◌, ℕ, zero, suc, ◌+◌, ◌<◌, ◌≤◌, Bool, true, false, cond, eqb, List, [], ◌∷◌, ◌++◌, length, get_or, drop, Option, Some, None, refl, sym, ap, ◌∙◌, subst, arith, append_assoc, take, length-append, length-drop, ◌⊎◌, inl, inr}
-use Rattle.std.specs.Prelude.{encode_utf8_all, All, ◌^◌, ◌||◌, ◌==◌, if◌then◌else◌, reverse, map}
+use Rattle.std.proofs.Common.{◌-◌, ◌≡◌, ◌≢◌, ℕ, ◌+◌, ◌<◌, ◌≤◌, Bool, true, false, eqb, List, [], ◌∷◌, ◌++◌, length, get_or, drop, Option, Some, None, refl, sym, ap, ◌∙◌, subst, arith, take, length-append, length-drop, ◌⊎◌, inl, inr}
+use Rattle.std.specs.Prelude.{encode_utf8_all, All, ◌^◌, ◌||◌, ◌==◌, if◌then◌else◌}
 use Rattle.std.specs.Borrow.{Bor}
 use Rattle.std.specs.Option.{option_map}
-use Rattle.std.specs.List.{prefix_len}
 use Rattle.std.proofs.lemmas.List.Elements.{All-drop, All-head}
-use Rattle.std.proofs.lemmas.List.{drop-map, drop_more, reverse-append, append-nil}
+use Rattle.std.proofs.lemmas.List.{drop-map, drop_more, reverse-append}
 use Rattle.std.specs.Str.{IsUtf8, IsCharBoundary, is_utf8, chars}
 use Rattle.std.proofs.lemmas.Bool.{cases_lt}
 use Rattle.std.proofs.lemmas.Str.{IsUtf8-nil, IsUtf8-drop, IsUtf8-take, IsCharBoundary-after_ascii, IsCharBoundary-before_ascii, IsCharBoundary-end, IsUtf8-from_is_utf8, is_utf8-from_IsUtf8}
-use Rattle.yaml_lines.specs.Blanks.{past_sign, indentation, is_blank, past_blanks, before_blanks, is_sign, is_blank_line}
+use Rattle.yaml_lines.specs.Blanks.{past_sign, indentation, is_blank, past_blanks, before_blanks, is_sign}
 use Rattle.yaml_lines.specs.Keying.{IsRest}
 use Rattle.yaml_lines.specs.Escape.{undoubled_at, unescaped_at}
 use Rattle.yaml_lines.specs.declared.escape.Reading.TheVariants.{Plain}
-use Rattle.yaml_lines.specs.Marks.{marks_of, without_comment, Marked, marks_at, with_mark}
-use Rattle.yaml_lines.specs.Scan.{is_open, next_line, scan_line, scan_at, begins_comment, after, one_more}
-use Rattle.yaml_lines.specs.Key.{keyed, unquoted, quoted_key, content_of, colon_at, quoted_at, has_ended, is_hash}
-use Rattle.yaml_lines.specs.Body.{texts, AreShort, is_deeper, plain_len, past_gap, open_len, block_len, blank_len, column_len}
+use Rattle.yaml_lines.specs.Marks.{marks_of, without_comment, Marked, marks_at}
+use Rattle.yaml_lines.specs.Scan.{is_open, next_line, scan_line}
+use Rattle.yaml_lines.specs.Key.{keyed, unquoted, quoted_key, content_of, colon_at, is_hash}
+use Rattle.yaml_lines.specs.Body.{texts, AreShort, is_deeper, open_len, block_len, blank_len, column_len}
 use Rattle.yaml_lines.specs.declared.scan.Scan.{Scan}
 use Rattle.yaml_lines.specs.declared.scan.Scanned.{Scanned}
 
@@ -58,6 +57,7 @@ utf8_front bs xs ys b small e u =
     get_or-seam : (xs : List ℕ) (b : ℕ) (ys : List ℕ) → get_or (xs ++ (b ∷ ys)) (length xs) 0 ≡ b
     get_or-seam [] b ys = refl
     get_or-seam (x ∷ xs) b ys = get_or-seam xs b ys
+
     take-seam : (xs ys : List ℕ) → take (length xs) (xs ++ ys) ≡ xs
     take-seam [] ys = refl
     take-seam (x ∷ xs) ys = ap (λ (z : List ℕ). x ∷ z) (take-seam xs ys)

@@ -1,5 +1,5 @@
 -- Blanks, and what stands between them.
-use Rattle.std.specs.Prelude.{ℕ, List, [], ◌∷◌, ◌==◌, ◌||◌, ◌&&◌, if◌then◌else◌, Bool, true, false, Option, Some, None, reverse}
+use Rattle.std.specs.Prelude.{ℕ, List, [], ◌∷◌, ◌==◌, ◌||◌, ◌&&◌, if◌then◌else◌, Bool, true, Option, Some, None, reverse}
 use Rattle.std.specs.List.{prefix_len, list_all}
 
 -- a space or a tab

@@ -1,5 +1,5 @@
 -- The marks `- ` of a line.
-use Rattle.std.specs.Prelude.{ℕ, ◌+◌, List, [], ◌∷◌, ◌==◌, ◌||◌, ◌&&◌, if◌then◌else◌, Bool, true, false}
+use Rattle.std.specs.Prelude.{ℕ, ◌+◌, List, [], ◌∷◌, ◌==◌, ◌||◌, if◌then◌else◌, Bool, false}
 use Rattle.yaml_lines.specs.Blanks.{is_blank, is_sign}
 
 -- where the marks stand, the content behind them, and whether a tab stands before a mark and before the content

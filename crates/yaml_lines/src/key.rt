@@ -185,7 +185,10 @@ fn plain_key<'t>(alloc: Global, text: &'t [u8]) -> Result<Option<Key<'t>>, Memor
         return Ok(None);
     };
     let content = text_of(alloc, before_blanks(&text[..at]))?;
-    Ok(Some(Key { content, rest: &text[at + 1..] }))
+    Ok(Some(Key {
+        content,
+        rest: &text[at + 1..],
+    }))
 }
 
 /// The key at the start of the content of a line.
@@ -204,5 +207,9 @@ pub fn read_key<'t>(alloc: Global, text: &'t [u8]) -> Result<Option<Key<'t>>, Me
             None => Ok(None),
         };
     }
-    if begins_plain(text) { plain_key(alloc, text) } else { Ok(None) }
+    if begins_plain(text) {
+        plain_key(alloc, text)
+    } else {
+        Ok(None)
+    }
 }

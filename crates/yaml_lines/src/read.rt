@@ -116,14 +116,27 @@ fn holder_of(line: &[u8], head: &Head<'_>, above: Option<u32>) -> Option<u32>
 }
 
 /// A line that says this, with the lines that go on with its value.
-fn line_of(alloc: Global, number: u32, line: &[u8], head: Head<'_>, body: &[&str]) -> Result<YLine, Memory>
+fn line_of(
+    alloc: Global,
+    number: u32,
+    line: &[u8],
+    head: Head<'_>,
+    body: &[&str],
+) -> Result<YLine, Memory>
     requires { Within line.now head }
     ensures { IfOk result (λ l. l ≡ spec.line_of number line.now (headed head.entry) (texts body.now)) }
 {
     let column = column_of(line, &head);
     let value = text_of(alloc, head.value)?;
     let body = copies(alloc, body)?;
-    Ok(YLine { number, column, dashes: head.marks.dashes, key: head.key, value, body })
+    Ok(YLine {
+        number,
+        column,
+        dashes: head.marks.dashes,
+        key: head.key,
+        value,
+        body,
+    })
 }
 
 /// A line that begins a value, the column that later lines see as that of the last key or mark, and how many lines go on
@@ -136,7 +149,13 @@ pub struct Value {
 }
 
 /// The value that a line begins, with the column of the last key or mark above it, and the lines below it.
-fn read_value(alloc: Global, number: u32, above: Option<u32>, line: &[u8], below: &[&str]) -> Result<Value, YFault>
+fn read_value(
+    alloc: Global,
+    number: u32,
+    above: Option<u32>,
+    line: &[u8],
+    below: &[&str],
+) -> Result<Value, YFault>
     requires utf8 { IsUtf8 line.now }
     requires short { length line.now ≤ 2 ^ 20 }
     requires lines { AreShort (texts below.now) }

@@ -1,12 +1,18 @@
+ghost use Rattle.std.specs.Prelude.{◌≤◌, length};
+
 use super::*;
 use node_tree::{List, Text};
 use std::test::*;
 
-fn read(rt: &HostRuntime, text: &str) -> List<YLine> {
+fn read(rt: &HostRuntime, text: &str) -> List<YLine>
+    requires { length text.now ≤ 1000000 }
+{
     lines(rt.alloc(), text.as_bytes()).unwrap_or(List::new(rt.alloc()))
 }
 
-fn fault(rt: &HostRuntime, text: &str) -> Option<YFault> {
+fn fault(rt: &HostRuntime, text: &str) -> Option<YFault>
+    requires { length text.now ≤ 1000000 }
+{
     lines(rt.alloc(), text.as_bytes()).err()
 }
 

@@ -1,4 +1,4 @@
-use Rattle.std.proofs.Common.{ℕ, List, [], ap, ◌∙◌, sym, arith}
+use Rattle.std.proofs.Common.{[], ap, ◌∙◌, sym, arith}
 use Rattle.yaml_lines.specs.declared.scan.Scan.{Scan}
 use Rattle.yaml_lines.proofs.Steps.{open_goes, open_stops, short_at}
 use Rattle.yaml_lines.proofs.body.open_len.Goals as goal

@@ -5,4 +5,5 @@ use Rattle.yaml_lines.proofs.body.open_len.Given as goal
 abbrev pub invariant-loop-at : goal.invariant-loop-at
 invariant-loop-at l = record {
   rest : open_len l.fn.start (texts l.lines) ≡ l.at + open_len l.scan (texts (drop l.at l.lines));
-  depth : l.scan.depth ≤ (l.at + 1) * 2 ^ 20 }
+  depth : l.scan.depth ≤ (l.at + 1) * 2 ^ 20;
+}

@@ -7,7 +7,8 @@ use Rattle.yaml_lines.proofs.escape.undoubled.Given as goal
 abbrev pub invariant-chars : goal.invariant-chars
 invariant-chars l = record {
   utf8 : IsUtf8 l.rest;
-  content : encode_utf8_all (undoubled_at false (chars l.initial.rest)) ≡ string_bytes l.content ++ encode_utf8_all (undoubled_at l.second (chars l.rest)) }
+  content : encode_utf8_all (undoubled_at false (chars l.initial.rest)) ≡ string_bytes l.content ++ encode_utf8_all (undoubled_at l.second (chars l.rest));
+}
 
 abbrev pub decreases-chars : goal.decreases-chars
 decreases-chars l = length (chars l.rest)

@@ -10,7 +10,8 @@ abbrev pub invariant-chars : goal.invariant-chars
 invariant-chars l = record {
   utf8 : IsUtf8 l.rest;
   content : option_map encode_utf8_all (unescaped_at Plain (chars l.initial.rest))
-      ≡ option_map (λ bs. string_bytes l.content ++ bs) (option_map encode_utf8_all (unescaped_at l.reading (chars l.rest))) }
+      ≡ option_map (λ bs. string_bytes l.content ++ bs) (option_map encode_utf8_all (unescaped_at l.reading (chars l.rest)));
+}
 
 abbrev pub decreases-chars : goal.decreases-chars
 decreases-chars l = length (chars l.rest)

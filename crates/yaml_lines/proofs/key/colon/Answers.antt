@@ -1,4 +1,4 @@
-use Rattle.std.proofs.Common.{ℕ, Bool, ◌+◌, drop, ap, ◌∙◌, sym, refl}
+use Rattle.std.proofs.Common.{Bool, ◌+◌, drop, ap, ◌∙◌, sym, refl}
 use Rattle.std.specs.Option.{option_map}
 use Rattle.yaml_lines.specs.Key.{colon_at}
 use Rattle.yaml_lines.proofs.Steps.{colon_more, slice_rest}

@@ -1,4 +1,4 @@
-use Rattle.std.proofs.Common.{◌∙◌, Some, sym, refl, ap}
+use Rattle.std.proofs.Common.{◌∙◌, Some, refl, ap}
 use Rattle.yaml_lines.proofs.Steps.{not_text, content_single, content_double}
 use Rattle.yaml_lines.proofs.key.content_of.Goals as goal
 

@@ -6,4 +6,5 @@ use Rattle.yaml_lines.proofs.key.quoted_len.Given as goal
 abbrev pub invariant-loop-at : goal.invariant-loop-at
 invariant-loop-at l = record {
   rest : quoted_len l.text ≡ option_map (λ n. n + l.at) (quoted_at l.scan (drop l.at l.text));
-  depth : l.scan.depth ≤ l.at }
+  depth : l.scan.depth ≤ l.at;
+}

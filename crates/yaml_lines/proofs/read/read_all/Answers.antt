@@ -1,10 +1,9 @@
-use Rattle.std.proofs.Common.{◌≡◌, ℕ, ◌+◌, ◌-◌, ◌<◌, Bool, false, List, [], ◌∷◌, ◌++◌, length, drop, true, Option, None, Result, Ok, Err, refl, sym, ap, subst, ◌∙◌, arith, length-drop}
+use Rattle.std.proofs.Common.{ℕ, ◌+◌, ◌-◌, ◌<◌, false, List, [], ◌∷◌, ◌++◌, length, drop, true, Option, None, Ok, Err, refl, sym, ap, subst, ◌∙◌, arith, length-drop}
 use Rattle.std.specs.Borrow.{Bor}
 use Rattle.std.proofs.lemmas.Result.{err_from_is_err_and}
 use Rattle.yaml_lines.specs.Body.{texts}
 use Rattle.yaml_lines.specs.Lines.{Gives, lines_at, value_of, go_on}
 use Rattle.yaml_lines.specs.declared.line.YLine.{YLine}
-use Rattle.yaml_lines.specs.declared.fault.YFault.{YFault}
 use Rattle.yaml_lines.proofs.Reading.{with_lines, lines_skip, lines_start, lines_value, goes_on, drop_texts, short_below, slice_lines, gives_err, gives_same}
 use Rattle.yaml_lines.proofs.Steps.{short_at}
 use Rattle.yaml_lines.proofs.read.read_all.Goals as goal

@@ -8,4 +8,5 @@ abbrev pub invariant-loop-turn : goal.invariant-loop-turn
 invariant-loop-turn l = record {
   lines : lines_at (length l.all) 0 true None (texts l.all) ≡ with_lines l.lines (lines_at (length l.all - l.turn) l.at l.fresh l.above (texts (drop l.at l.all)));
   within : l.at ≤ length l.all;
-  goes : l.turn ≤ l.at }
+  goes : l.turn ≤ l.at;
+}

@@ -13,8 +13,9 @@ returns-clause-within c =
     let content : _ = c.in_ok-marks.marks.content.now in
     let utf8 = marks_utf8 c.args.line.now content (ap (λ (m : Marked). m.content) c.in_ok-marks.ensures.marks) c.requires.utf8 in
     let rest : IsRest content c.match-branch-3.key.1.now = elim c.match-branch-3.branch [
-      in-Some w ↦ let r = rw w.in-Some.is at c.in_ok-content.ensures.rest in rest_from content _ _ _ w.key-is (record { utf8 = w.past_blanks.ensures.utf8 r.utf8; len = omega (arith, w.past_blanks.ensures.len, r.len) })
-      | in-None w ↦ rest_from content _ _ _ w.key-is (record { utf8 = utf8; len = omega arith }) ] in
+      | in-Some w ↦ let r = rw w.in-Some.is at c.in_ok-content.ensures.rest in rest_from content _ _ _ w.key-is (record { utf8 = w.past_blanks.ensures.utf8 r.utf8; len = omega (arith, w.past_blanks.ensures.len, r.len) })
+      | in-None w ↦ rest_from content _ _ _ w.key-is (record { utf8 = utf8; len = omega arith })
+    ] in
     record {
       short = c.requires.short;
       content = c.in_ok-marks.ensures.within;
