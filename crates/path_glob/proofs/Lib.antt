@@ -1,0 +1,4 @@
+pub mod Fitting
+pub mod Cuts
+pub mod Signs
+pub mod Some

@@ -1,0 +1,5 @@
+pub mod Segments
+pub mod Fitting
+pub mod Fronts
+pub mod Glob
+pub mod Path

@@ -1,0 +1,11 @@
+pub mod Blanks
+pub mod Marks
+pub mod Scan
+pub mod Key
+pub mod Escape
+pub mod Feature
+pub mod Body
+pub mod Lines
+pub mod Marking
+pub mod Keying
+pub mod Heading
