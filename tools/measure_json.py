@@ -32,7 +32,7 @@ def fill(start, item, end):
 def texts():
     rng = random.Random(7)
     words = ['alpha', 'beta', 'gamma', 'delta']
-    yield 'numbers', fill('[', lambda k: str(k % 10), ']')
+    yield 'numbers', fill('[', lambda k: str(k % 97), ']')
     yield 'strings', fill('[', lambda k: '"%s %d"' % (rng.choice(words) * 4, k), ']')
     yield 'records', fill('[', lambda k: '{"id": %d, "name": "%s", "tags": ["a", "b"], "on": true, "price": %d.%02d}' % (
         k, rng.choice(words), k % 1000, k % 100), ']')
