@@ -6,11 +6,11 @@ use Rattle.std.specs.Io.KnownBytes.{Consumes, IsAtEnd, Appends}
 use Rattle.std.proofs.lemmas.List.{append-nil}
 use Rattle.node_tree.specs.declared.node.Node.{Node}
 use Rattle.node_tree.specs.declared.view.Pattern.{Pattern}
-use Rattle.node_tree.specs.declared.view.Lang.{Lang}
-use Rattle.node_tree.specs.declared.view.Shape.{Shape}
+use Rattle.node_tree.specs.declared.view.Lang.TheVariants.{Json}
 use Rattle.node_tree.specs.declared.view.Mode.TheVariants.{Text}
-use Rattle.node_tree.specs.Tree.{kids_of}
 use Rattle.json_tree.proofs.Trees.{one_tree}
+use Rattle.pattern_read.specs.Patterns.{IsPatternOf}
+use Rattle.pattern_read.proofs.Laws.{one_pattern}
 use Rattle.scan_world.specs.Streams.{AppendsFront}
 use Rattle.tree_match.specs.declared.leaf.Leaf.{Leaf}
 use Rattle.tree_match.specs.declared.leaf.Leaf.TheVariants.{Full, Crowded}
@@ -21,10 +21,10 @@ use Rattle.semscan.specs.declared.status.Status.{Status}
 use Rattle.semscan.specs.declared.status.Status.TheVariants.{OverLimit, BadTarget, TooMany, Done}
 use Rattle.semscan.specs.declared.status.LimitKind.TheVariants.{Target}
 use Rattle.semscan.specs.Words.{AreMatchWords}
-use Rattle.semscan.specs.Reading.{IsPatternOf, HasNoPattern, IsFileOf, HasNoFile}
+use Rattle.semscan.specs.Reading.{IsFileOf, HasNoFile}
 use Rattle.semscan.specs.Lines.{line_of}
 use Rattle.semscan.specs.Streams.{Tells, AppendsSome}
-use Rattle.semscan.specs.Run.{AskFor, Ends, usage, bad_pattern, over_limit, bad_target, too_many, done, Printed, PrintedFront, PrintedSome}
+use Rattle.semscan.specs.Run.{AskFor, HasNoPattern, Ends, usage, bad_pattern, over_limit, bad_target, too_many, done, Printed, PrintedFront, PrintedSome}
 use Rattle.semscan.proofs.Streaming.{nothing_written}
 
 same_words : (words : List (List ℕ)) (a b : List ℕ) → AreMatchWords words a → AreMatchWords words b → a ≡ b
@@ -33,28 +33,21 @@ same_words words a b p q = cc
 -- words whose pattern is refused ask for none
 refused : (words : List (List ℕ)) (text : List ℕ) (pattern : Pattern) → AreMatchWords words text → HasNoPattern text → AskFor words pattern → ⊥
 refused words text pattern are none ask =
-    let P : List ℕ → Type 0 = λ t. IsPatternOf t pattern in
+    let P : List ℕ → Type 0 = λ t. IsPatternOf Json t pattern in
     none pattern (subst P (same_words words ask.text text ask.are_words are) ask.is_pattern)
 
 -- words ask for one pattern
-one_pattern : (words : List (List ℕ)) (p q : Pattern) → AskFor words p → AskFor words q → p ≡ q
-one_pattern words p q a b =
-    let P : List ℕ → Type 0 = λ t. IsPatternOf t q in
-    let c : IsPatternOf a.text q = subst P (same_words words b.text a.text b.are_words a.are_words) b.is_pattern in
-    let d = a.is_pattern in
-    let roots : d.root ≡ c.root = one_tree Text a.text d.root c.root d.tree c.tree in
-    let kids : p.tree ∷ [] ≡ q.tree ∷ [] = sym d.kids ∙ ap kids_of roots ∙ c.kids in
-    let make : Lang → Shape → Node → Bool → Pattern = λ l s t k. record { lang = l; shape = s; tree = t; constants = k } in
-    let trees : p.tree ≡ q.tree = cc in
-    ap (λ (l : Lang). make l p.shape p.tree p.constants) (d.lang ∙ sym c.lang) ∙ ap (λ (s : Shape). make q.lang s p.tree p.constants) (d.shape ∙ sym c.shape)
-    ∙ ap (λ (t : Node). make q.lang q.shape t p.constants) trees ∙ ap (λ (k : Bool). make q.lang q.shape q.tree k) (d.constants ∙ sym c.constants)
+same_pattern : (words : List (List ℕ)) (p q : Pattern) → AskFor words p → AskFor words q → p ≡ q
+same_pattern words p q a b =
+    let P : List ℕ → Type 0 = λ t. IsPatternOf Json t q in
+    one_pattern Json a.text p q a.is_pattern (subst P (same_words words b.text a.text b.are_words a.are_words) b.is_pattern)
 
 -- what is said of one pattern and file holds of the others that the words and the input give
 same_leaf : (words : List (List ℕ)) (input : List ℕ) (p q : Pattern) (t u : Node) (leaf : Leaf) → AskFor words p → AskFor words q → IsFileOf input t → IsFileOf input u → IsLeaf (IsMember q u) leaf → IsLeaf (IsMember p t) leaf
 same_leaf words input p q t u leaf a b f g h =
     let P : Pattern → Type 0 = λ x. IsLeaf (IsMember x u) leaf in
     let Q : Node → Type 0 = λ x. IsLeaf (IsMember p x) leaf in
-    subst Q (one_tree Text input u t g.is_tree f.is_tree) (subst P (one_pattern words q p b a) h)
+    subst Q (one_tree Text input u t g.is_tree f.is_tree) (subst P (same_pattern words q p b a) h)
 
 -- the status and the lines of a run
 abbrev Same : Status → Status → List (List ℕ) → List (List ℕ) → Type 0
@@ -141,7 +134,7 @@ unread words (Some xs) written s ends = record { input = xs; told = refl; lines 
 
 -- ---- how a run with a pattern ends
 
-module _ (words : List (List ℕ)) (text : List ℕ) (pattern : Pattern) (are : AreMatchWords words text) (is : IsPatternOf text pattern) where
+module _ (words : List (List ℕ)) (text : List ℕ) (pattern : Pattern) (are : AreMatchWords words text) (is : IsPatternOf Json text pattern) where
   ask : AskFor words pattern
   ask = record { text = text; are_words = are; is_pattern = is }
 

@@ -1,26 +1,9 @@
--- Which pattern a text writes, and which file bytes are.
-use Rattle.std.specs.Prelude.{◌≡◌, ℕ, ◌≤◌, List, [], ◌∷◌, length, true}
+-- Which file bytes are.
+use Rattle.std.specs.Prelude.{ℕ, ◌≤◌, List, length}
 use Rattle.std.specs.Str.{IsUtf8}
 use Rattle.node_tree.specs.declared.node.Node.{Node}
-use Rattle.node_tree.specs.declared.view.Pattern.{Pattern}
 use Rattle.node_tree.specs.declared.view.Mode.TheVariants.{Text}
-use Rattle.node_tree.specs.declared.view.Lang.TheVariants.{Json}
-use Rattle.node_tree.specs.declared.view.Shape.TheVariants.{Expr}
-use Rattle.node_tree.specs.Tree.{kids_of}
 use Rattle.json_tree.specs.Spells.{IsTreeOf}
-
--- the text, of at most 1,000,000 bytes, writes the pattern: the one value under the root of its tree
-pub record IsPatternOf (text : List ℕ) (pattern : Pattern) : Type 0 where
-  pub small : length text ≤ 1000000
-  pub root : Node
-  pub tree : IsTreeOf Text text root
-  pub kids : kids_of root ≡ pattern.tree ∷ []
-  pub lang : pattern.lang ≡ Json
-  pub shape : pattern.shape ≡ Expr
-  pub constants : pattern.constants ≡ true
-
-abbrev pub HasNoPattern : List ℕ → Type 0
-HasNoPattern text = (pattern : Pattern) → IsPatternOf text pattern → ⊥
 
 -- the bytes, at most 1,000,000, are a text with this tree
 pub record IsFileOf (bytes : List ℕ) (tree : Node) : Type 0 where

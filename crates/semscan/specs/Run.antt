@@ -4,6 +4,8 @@ use Rattle.std.specs.List.{concat}
 use Rattle.std.specs.Io.KnownBytes.{Appends}
 use Rattle.node_tree.specs.declared.node.Node.{Node}
 use Rattle.node_tree.specs.declared.view.Pattern.{Pattern}
+use Rattle.node_tree.specs.declared.view.Lang.TheVariants.{Json}
+use Rattle.pattern_read.specs.Patterns.{IsPatternOf}
 use Rattle.scan_world.specs.Streams.{AppendsFront}
 use Rattle.tree_match.specs.declared.leaf.Leaf.TheVariants.{Full, Crowded}
 use Rattle.tree_match.specs.Members.{Member, IsMember}
@@ -12,7 +14,7 @@ use Rattle.semscan.specs.declared.status.Status.{Status}
 use Rattle.semscan.specs.declared.status.Status.TheVariants as statuses
 use Rattle.semscan.specs.declared.status.LimitKind.TheVariants.{Target}
 use Rattle.semscan.specs.Words.{AreMatchWords, AreOtherWords}
-use Rattle.semscan.specs.Reading.{IsPatternOf, HasNoPattern, IsFileOf, HasNoFile}
+use Rattle.semscan.specs.Reading.{IsFileOf, HasNoFile}
 use Rattle.semscan.specs.Lines.{line_of}
 use Rattle.semscan.specs.Streams.{Tells, AppendsSome}
 
@@ -20,7 +22,11 @@ use Rattle.semscan.specs.Streams.{Tells, AppendsSome}
 pub record AskFor (words : List (List ℕ)) (pattern : Pattern) : Type 0 where
   pub text : List ℕ
   pub are_words : AreMatchWords words text
-  pub is_pattern : IsPatternOf text pattern
+  pub is_pattern : IsPatternOf Json text pattern
+
+-- the text writes no pattern of JSON
+abbrev pub HasNoPattern : List ℕ → Type 0
+HasNoPattern text = (pattern : Pattern) → IsPatternOf Json text pattern → ⊥
 
 -- How a run ends, and the lines that it prints, by its words and its whole input, where no fault is met and memory is not
 -- wanting. The first cause decides.

@@ -10,10 +10,11 @@ ghost use Rattle.semscan.specs.Steps.{TakesSteps};
 
 use crate::input::{InputError, MOST, read_input};
 use crate::output::{OutputError, print_all};
-use crate::reading::{read_file, read_pattern};
+use crate::reading::read_file;
 use crate::status::{LimitKind, Status};
 use crate::words::pattern_word;
-use node_tree::{ReadFault, Steps};
+use node_tree::{Lang, ReadFault, Steps};
+use pattern_read::{PatternFault, read_pattern};
 use scan_world::{Sink, Source};
 use std::alloc::Global;
 use std::sync::ledger::Ledger;
@@ -49,10 +50,12 @@ pub fn run<S: Source, K: Sink, L: Ledger>(
     let Some(word) = pattern_word(words) else {
         return Status::Usage;
     };
-    let pattern = match read_pattern(alloc, word) {
+    let pattern = match read_pattern(alloc, Lang::Json, word) {
         Ok(pattern) => pattern,
-        Err(ReadFault::Memory) => return Status::Memory,
-        Err(ReadFault::NoTree) => return Status::BadPattern,
+        Err(fault) => match fault {
+            PatternFault::Memory => return Status::Memory,
+            _ => return Status::BadPattern,
+        },
     };
     let bytes = match read_input(alloc, input) {
         Ok(bytes) => bytes,

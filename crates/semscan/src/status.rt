@@ -26,7 +26,7 @@ pub enum Status {
     TooMany(u64),
     /// The input is not UTF-8, or it has no tree.
     BadTarget,
-    /// The pattern has no tree, or it is too long.
+    /// The text is no pattern: it has no tree, is too long, is only dots, or has dots where no list of items is.
     BadPattern,
 }
 

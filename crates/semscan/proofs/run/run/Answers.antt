@@ -1,4 +1,6 @@
 use Rattle.std.proofs.Common.{◌≡◌, ◌≤◌, ℕ, List, arith, Err, length, sym, ap, ◌∙◌, subst, map, string_bytes, inr}
+use Rattle.node_tree.specs.declared.view.Lang.TheVariants.{Json}
+use Rattle.pattern_read.proofs.Laws.{refused}
 use Rattle.tree_match.specs.declared.leaf.Leaf.{Leaf}
 use Rattle.tree_match.specs.Members.{IsMember}
 use Rattle.tree_match.specs.Leaf.{IsLeaf}
@@ -11,14 +13,14 @@ pub returns-in_default-clause-ends : goal.returns-in_default-clause-ends
 returns-in_default-clause-ends g c h =
     unread _ _ _ _ (λ input. usage (subst (λ (l : List (List ℕ)). AreOtherWords l) (ap (map string_bytes) c.deref.ensures.value) c.in_default.ensures.other))
 
-pub returns-in-Err-NoTree-clause-ends : goal.returns-in-Err-NoTree-clause-ends
-returns-in-Err-NoTree-clause-ends g c h =
+pub returns-in_default-fault-clause-ends : goal.returns-in_default-fault-clause-ends
+returns-in_default-fault-clause-ends g c h =
     unread _ _ _ _
-    (λ input. bad_pattern c.in-Some.word.now (sym (ap (map string_bytes) c.deref.ensures.value) ∙ c.in-Some.ensures.asked) (c.in-Err-NoTree.ensures.none (ap Err c.in-Err-NoTree.field-0-is)))
+    (λ input. bad_pattern c.in-Some.word.now (sym (ap (map string_bytes) c.deref.ensures.value) ∙ c.in-Some.ensures.asked) (refused Json c.in-Some.word.now _ c.in_default-fault.not-Memory c.in-Err.ensures.fault))
 
-pub returns-in-Err-NoTree-clause-only : goal.returns-in-Err-NoTree-clause-only
-returns-in-Err-NoTree-clause-only g c h bytes s lines e ends =
-    only_end _ _ _ _ _ (returns-in-Err-NoTree-clause-ends g c h) bytes s lines e ends
+pub returns-in_default-fault-clause-only : goal.returns-in_default-fault-clause-only
+returns-in_default-fault-clause-only g c h bytes s lines e ends =
+    only_end _ _ _ _ _ (returns-in_default-fault-clause-ends g c h) bytes s lines e ends
 
 pub returns-then-len-eq-MOST-clause-ends : goal.returns-then-len-eq-MOST-clause-ends
 returns-then-len-eq-MOST-clause-ends g c h =
@@ -30,17 +32,17 @@ pub returns-then-len-eq-MOST-clause-only : goal.returns-then-len-eq-MOST-clause-
 returns-then-len-eq-MOST-clause-only g c h bytes s lines e ends =
     only_end _ _ _ _ _ (returns-then-len-eq-MOST-clause-ends g c h) bytes s lines e ends
 
-pub returns-in-Err-NoTree-read_file-clause-ends : goal.returns-in-Err-NoTree-read_file-clause-ends
-returns-in-Err-NoTree-read_file-clause-ends g c h =
+pub returns-in-Err-NoTree-clause-ends : goal.returns-in-Err-NoTree-clause-ends
+returns-in-Err-NoTree-clause-ends g c h =
     let are = sym (ap (map string_bytes) c.deref.ensures.value) ∙ c.in-Some.ensures.asked in
     ends_bad_target _ c.in-Some.word.now c.in-Ok.pattern are c.in-Ok.ensures.pattern _ _ _ c.in-Ok-read_input.bytes.items c.in-Ok-read_input.ensures.bytes
     (c.in-Ok-read_input.ensures.end (omega (arith, c.in-Ok-read_input.ensures.limit, c.if-len-eq-MOST.false, c.len.ensures)))
     (omega (arith, c.in-Ok-read_input.ensures.limit, c.if-len-eq-MOST.false, c.len.ensures, c.in-Ok-read_input.bytes.ok.0))
-    (c.in-Err-NoTree-read_file.ensures.none (ap Err c.in-Err-NoTree-read_file.field-0-is))
+    (c.in-Err-NoTree.ensures.none (ap Err c.in-Err-NoTree.field-0-is))
 
-pub returns-in-Err-NoTree-read_file-clause-only : goal.returns-in-Err-NoTree-read_file-clause-only
-returns-in-Err-NoTree-read_file-clause-only g c h bytes s lines e ends =
-    only_end _ _ _ _ _ (returns-in-Err-NoTree-read_file-clause-ends g c h) bytes s lines e ends
+pub returns-in-Err-NoTree-clause-only : goal.returns-in-Err-NoTree-clause-only
+returns-in-Err-NoTree-clause-only g c h bytes s lines e ends =
+    only_end _ _ _ _ _ (returns-in-Err-NoTree-clause-ends g c h) bytes s lines e ends
 
 pub returns-in-Ok-Crowded-clause-ends : goal.returns-in-Ok-Crowded-clause-ends
 returns-in-Ok-Crowded-clause-ends g c h =

@@ -1,0 +1,54 @@
+-- Which pattern a text writes, and why it writes none.
+use Rattle.std.specs.Prelude.{◌≡◌, ℕ, ◌≤◌, true, false, List, [], ◌∷◌, length, ⊤}
+use Rattle.node_tree.specs.declared.node.Node.{Node}
+use Rattle.node_tree.specs.declared.view.Pattern.{Pattern}
+use Rattle.node_tree.specs.declared.view.Lang.{Lang}
+use Rattle.node_tree.specs.declared.view.Lang.TheVariants.{Json}
+use Rattle.node_tree.specs.declared.view.Shape.TheVariants.{Expr}
+use Rattle.node_tree.specs.declared.view.Mode.TheVariants as modes
+use Rattle.node_tree.specs.declared.fault.ReadFault.{ReadFault}
+use Rattle.node_tree.specs.declared.fault.ReadFault.TheVariants as unread
+use Rattle.node_tree.specs.Tree.{kind_of, kids_of}
+use Rattle.json_tree.specs.Spells.{IsTreeOf}
+use Rattle.pattern_read.specs.declared.fault.PatternFault.{PatternFault}
+use Rattle.pattern_read.specs.declared.fault.PatternFault.TheVariants as faults
+use Rattle.pattern_read.specs.Dots.{is_dots, DotsArePlaced}
+
+-- the text, of at most 1,000,000 bytes, is a JSON pattern over this value
+pub record IsJsonValue (text : List ℕ) (value : Node) : Type 0 where
+  pub small : length text ≤ 1000000
+  pub root : Node
+  pub tree : IsTreeOf modes.Pattern text root
+  pub kids : kids_of root ≡ value ∷ []
+
+-- the text writes a pattern of the language with this tree, be its dots well placed or not
+pub record IsTextOf (lang : Lang) (text : List ℕ) (tree : Node) : Type 0 where
+  pub language : lang ≡ Json
+  pub value : IsJsonValue text tree
+
+-- the text writes the pattern
+pub record IsPatternOf (lang : Lang) (text : List ℕ) (pattern : Pattern) : Type 0 where
+  pub is_text : IsTextOf lang text pattern.tree
+  pub more_than_dots : is_dots (kind_of pattern.tree) ≡ false
+  pub placed : DotsArePlaced pattern.tree
+  pub same_lang : pattern.lang ≡ lang
+  pub shape : pattern.shape ≡ Expr
+  pub constants : pattern.constants ≡ true
+
+-- when each fault is given
+abbrev pub IsFault : Lang → List ℕ → PatternFault → Type 0
+IsFault lang text faults.Memory = ⊤
+IsFault lang text faults.NoPattern = (tree : Node) → IsTextOf lang text tree → ⊥
+IsFault lang text faults.OnlyDots = (tree : Node) × IsTextOf lang text tree × (is_dots (kind_of tree) ≡ true)
+IsFault lang text faults.DotsPlace = (tree : Node) × IsTextOf lang text tree × (is_dots (kind_of tree) ≡ false) × (DotsArePlaced tree → ⊥)
+
+-- what a reader's fault says of a pattern
+abbrev pub fault_of : ReadFault → PatternFault
+fault_of unread.Memory = faults.Memory
+fault_of unread.NoTree = faults.NoPattern
+
+-- reading the value gives these faults alone
+abbrev pub IsReadFault : PatternFault → Type 0
+IsReadFault faults.Memory = ⊤
+IsReadFault faults.NoPattern = ⊤
+IsReadFault _ = ⊥
