@@ -11,13 +11,13 @@ use Rattle.node_tree.specs.Span.{LiesIn}
 use Rattle.node_tree.specs.Spans.{SpansLieIn}
 use Rattle.node_tree.proofs.Nodes.{made, made_kids, made_span}
 use Rattle.node_tree.proofs.SpanLaws.{AllLieIn, none_lie, more_lie, node_lies}
-use Rattle.grammar.specs.Rule.{done, mark, word, ref, deep, again, seq, around, alt, look, choose, opt, must, rep, make, Loop, outside, within, Derives, d_done, d_mark, d_word, d_ref, d_deep, d_again, d_rep, d_seq, d_around, d_left, d_right, d_seen, d_unseen, d_chosen, d_unchosen, d_without, d_with, d_barred, d_taken, d_make}
+use Rattle.grammar.specs.Rule.{mark, word, ref, deep, seq, around, alt, look, choose, opt, must, rep, make, Loop, outside, within, Derives, d_done, d_mark, d_word, d_ref, d_deep, d_again, d_rep, d_seq, d_around, d_left, d_right, d_seen, d_unseen, d_chosen, d_unchosen, d_without, d_with, d_barred, d_taken, d_make}
 use Rattle.grammar.proofs.Facts.{and_both, or_either}
 use Rattle.grammar.proofs.Bounded.{forward}
 use Rattle.grammar.proofs.Checked.{is_grammar}
 use Rattle.json_tree.specs.declared.token.Token.{Token}
 use Rattle.json_tree.specs.Table.{Level, Value, Array, Values, ValuesTail, Object, Entries, EntriesTail, Entry, Member, Deep, Leaf, Builder, Row, table, grammar}
-use Rattle.json_tree.specs.Build.{token_at, end_of, leaf, node, source}
+use Rattle.json_tree.specs.Build.{token_at, end_of, node, source}
 use Rattle.json_tree.specs.Lexing.{ArePlaced}
 use Rattle.json_tree.specs.Words.{kind_of, shown}
 use Rattle.json_tree.specs.Sets.{sets, ranks}

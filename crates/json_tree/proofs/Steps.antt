@@ -1,6 +1,5 @@
 -- The reader of a level, one step.
 use Rattle.std.proofs.Common.{◌≡◌, ℕ, zero, suc, ◌-◌, ◌<◌, List, [], ◌∷◌, ◌++◌, length, refl, ap, ◌∙◌, ◌+◌, add-one, eqb, true, Option, Some, None, cond}
-use Rattle.std.specs.Prelude.{Bool}
 use Rattle.std.proofs.lemmas.List.{append-nil}
 use Rattle.node_tree.specs.declared.node.Node.{Node}
 use Rattle.grammar.specs.Rule.{has}

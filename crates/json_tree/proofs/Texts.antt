@@ -1,6 +1,6 @@
 -- The text of a string, without its closing quote.
 use Rattle.std.proofs.Common.{◌≡◌, ℕ, suc, ◌-◌, ◌==◌, List, [], ◌∷◌, ◌++◌, length, refl, ap, arith, eqb-true, Bool, true, false}
-use Rattle.std.specs.Prelude.{slice_index, nat_lt, if◌then◌else◌}
+use Rattle.std.specs.Prelude.{slice_index, nat_lt}
 use Rattle.grammar.proofs.Facts.{and_both}
 use Rattle.std.specs.Io.BufRead.{strip_last, ends_with_byte}
 

@@ -1,6 +1,6 @@
 -- What is read of all the tokens is the value that they spell, and the value that they spell is what is read.
-use Rattle.std.proofs.Common.{◌≡◌, ℕ, suc, ◌+◌, ◌<◌, ◌≤◌, List, [], ◌∷◌, length, refl, arith, sym, subst, ap, ◌∙◌, Option, Some, None, Err, true}
-use Rattle.std.specs.Prelude.{Result, leb}
+use Rattle.std.proofs.Common.{◌≡◌, ℕ, suc, ◌<◌, ◌≤◌, List, [], ◌∷◌, length, refl, arith, sym, subst, ap, ◌∙◌, Some, Err, true}
+use Rattle.std.specs.Prelude.{leb}
 use Rattle.node_tree.specs.declared.node.Node.{Node}
 use Rattle.node_tree.specs.declared.fault.ReadFault.{ReadFault}
 use Rattle.node_tree.specs.declared.fault.ReadFault.TheVariants as faults

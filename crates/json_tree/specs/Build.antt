@@ -2,7 +2,6 @@
 use Rattle.std.specs.Prelude.{ℕ, ◌-◌, List, [], ◌∷◌, get_or, map}
 use Rattle.node_tree.specs.declared.node.Node.{Node, roll-Node}
 use Rattle.node_tree.specs.declared.kind.Kind.{Kind}
-use Rattle.node_tree.specs.declared.span.Span.{Span}
 use Rattle.node_tree.specs.Tree.{depth_of, largest}
 use Rattle.grammar.specs.Rule.{Source}
 use Rattle.json_tree.specs.declared.token.Word.TheVariants.{End}

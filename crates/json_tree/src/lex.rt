@@ -1,6 +1,6 @@
 //! From a text to its tokens.
 
-ghost use Rattle.std.specs.Prelude.{◌≡◌, ◌≤◌, ◌+◌, List, length, Some, IfOk};
+ghost use Rattle.std.specs.Prelude.{◌≤◌, ◌+◌, List, length, Some, IfOk};
 ghost use Rattle.lexing.specs.Automaton.{Accepts};
 ghost use Rattle.json_tree.specs.declared.token.Token.{Token as token};
 ghost use Rattle.json_tree.specs.Gives.{Gives};

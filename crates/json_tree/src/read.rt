@@ -1,6 +1,6 @@
 //! The public call: from a text to its tree.
 
-ghost use Rattle.std.specs.Prelude.{◌≡◌, ◌≤◌, length, IfOk, Some};
+ghost use Rattle.std.specs.Prelude.{◌≤◌, length, IfOk, Some};
 ghost use Rattle.node_tree.specs.Spans.{SpansLieIn};
 ghost use Rattle.node_tree.specs.declared.node.Node.{Node as node};
 ghost use Rattle.json_tree.specs.Gives.{Gives};

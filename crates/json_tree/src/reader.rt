@@ -1,6 +1,6 @@
 //! From tokens to the value that they spell: a function for each level of the grammar, by the token in hand.
 
-ghost use Rattle.std.specs.Prelude.{◌≡◌, ◌≢◌, ◌<◌, ◌≤◌, true, List, [], ◌∷◌, length, IfOk, eqb};
+ghost use Rattle.std.specs.Prelude.{◌≡◌, ◌≢◌, ◌<◌, ◌≤◌, true, List, length, IfOk, eqb};
 ghost use Rattle.grammar.specs.Rule.{has};
 ghost use Rattle.json_tree.specs.declared.token.Word.TheVariants.{End};
 ghost use Rattle.json_tree.specs.Gives.{Gives};
@@ -113,25 +113,15 @@ fn starts_part(container: Container, tokens: &[Token<'_>], at: usize) -> bool
     ensures test { result ≡ has (sets.first (reading.part container)) (class (token_at tokens.now at).word) }
     ensures within { result ≡ true → at < length tokens.now }
 {
-    let word = word_at(tokens, at);
     match container {
-        Container::Array => matches!(
-            word,
-            Word::Str
-                | Word::Number
-                | Word::Const
-                | Word::StrAny
-                | Word::Meta
-                | Word::MetaDots
-                | Word::Dots
-                | Word::LeftBracket
-                | Word::LeftBrace
-                | Word::DeepOpen
-        ),
-        Container::Object => matches!(
-            word,
-            Word::Str | Word::StrAny | Word::Meta | Word::MetaDots | Word::Dots
-        ),
+        Container::Array => {
+            is_scalar(tokens, at)
+                || matches!(
+                    word_at(tokens, at),
+                    Word::LeftBracket | Word::LeftBrace | Word::DeepOpen
+                )
+        }
+        Container::Object => is_name(tokens, at) || is_dots(tokens, at),
     }
 }
 

@@ -1,4 +1,4 @@
-use Rattle.std.proofs.Common.{rules, ◌≤◌, length, arith, sym, refl, ap, Some}
+use Rattle.std.proofs.Common.{rules, ◌≤◌, arith, sym, refl, ap, Some}
 use Rattle.node_tree.specs.declared.node.Node.{Node}
 use Rattle.node_tree.specs.Tree.{depth_of}
 use Rattle.json_tree.proofs.Whole.{read_is_value, one_value, value_is_shallow, value_is_bracketed, fails_still, leb_true}
