@@ -1,7 +1,9 @@
 pub mod Gives
-pub mod Grammar
+pub mod Words
 pub mod Tokens
-pub mod Brackets
-pub mod Spells
 pub mod Lexing
+pub mod Table
+pub mod Sets
+pub mod Build
 pub mod Reading
+pub mod Spells

@@ -1,14 +1,15 @@
 //! JSON texts, read into trees.
 //!
-//! [`read_json`] is proved against a relation of text and tree in the terms of RFC 8259: its tokens, each of them the longest
-//! at its place, and one case for each kind of value.
+//! [`read_json`] is proved against the tokens and the grammar of RFC 8259. The tokens are data for the crate `lexing`
+//! (`specs/Tokens.antt`), each the longest at its place. The grammar is a table for the crate `grammar` (`specs/Table.antt`),
+//! a row for each line of the standard. Patterns are read by the same grammar over some more tokens.
 #![tactic(auto)]
 
-mod cursor;
 mod lex;
-mod number;
+mod limits;
 mod read;
-mod string;
+mod reader;
+mod table;
 mod token;
 
 pub use read::read_json;
