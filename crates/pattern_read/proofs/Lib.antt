@@ -1,2 +1,4 @@
 pub mod Walked
+pub mod Trees
+pub mod Faults
 pub mod Laws
