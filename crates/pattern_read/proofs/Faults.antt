@@ -15,6 +15,6 @@ unread_is unread.NoTree h = cc
 -- a value that is not read makes a pattern that is not there
 pub no_value : (lang : Lang) (text : List ℕ) (f : PatternFault) → IsReadFault f → (f ≡ faults.NoPattern → (value : Node) → IsJsonValue text value → ⊥) → IsFault lang text f
 no_value lang text faults.Memory is none = tt
-no_value lang text faults.NoPattern is none = λ tree a. none cc tree a.value
+no_value lang text faults.NoPattern is none = λ tree a. none (cc) tree a.value
 no_value lang text faults.OnlyDots is none = absurd is
 no_value lang text faults.DotsPlace is none = absurd is

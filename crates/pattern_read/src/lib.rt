@@ -7,3 +7,6 @@ mod read;
 
 pub use fault::PatternFault;
 pub use read::read_pattern;
+
+#[cfg(test)]
+mod tests;

@@ -7,6 +7,9 @@ use std::marker::Brand;
 use std::sync::ledger::Blank;
 use std::test::Fail;
 
+// Room for the lines of 10,000 members.
+const ROOM: u64 = 200_000;
+
 // The number of a call that fails, if there is one.
 fn calls(alloc: Global, failing: Option<u32>) -> Result<List<u32>, Fail> {
     let mut calls = List::new(alloc);
@@ -33,7 +36,7 @@ fn run_case(alloc: Global, case: &Case<'_>) -> Result<(Status, MemorySink), Fail
     ]?;
     let bytes = Bytes::from_slice(alloc, case.input)?;
     let mut input = MemorySource::new(bytes, 3, calls(alloc, case.failing_read)?);
-    let mut out = MemorySink::new(alloc, 100, calls(alloc, case.failing_write)?)?;
+    let mut out = MemorySink::new(alloc, ROOM, calls(alloc, case.failing_write)?)?;
     let status = counted::<_, _, Brand>(alloc, &words, &mut input, &mut out, Blank::new(1));
     Ok((status, out))
 }
@@ -82,11 +85,78 @@ fn prints_where_a_pattern_matches(rt: HostRuntime) -> Result<(), Fail> {
 }
 
 #[test]
+fn prints_what_names_stand_for(rt: HostRuntime) -> Result<(), Fail> {
+    let rows: [(&str, &[u8], &[u8]); 8] = [
+        (
+            "[..., $X, ...]",
+            b"[1,[2],1]",
+            b"0..9 $X=1..2\n0..9 $X=3..6\n0..9 $X=7..8\n3..6 $X=4..5\n",
+        ),
+        ("[$X, $X]", b"[1,1]", b"0..5 $X=1..2\n"),
+        ("[$X, $X]", b"[1,2]", b""),
+        ("{\"k\": <... 1 ...>}", b"{\"k\":[1,1]}", b"0..11\n"),
+        ("[$...A, 2]", b"[2]", b"0..3 $...A=0..0\n"),
+        (
+            "$X",
+            b"{\"a\":1}",
+            b"0..7 $X=0..7\n1..4 $X=1..4\n5..6 $X=5..6\n",
+        ),
+        ("{$K: \"...\"}", b"{\"a\":\"b\"}", b"0..9 $K=1..4\n"),
+        ("[$_, $_]", b"[1,2]", b"0..5\n"),
+    ];
+    for (pattern, input, printed) in rows {
+        assert!(rt;
+            gives(rt.alloc(), pattern, input, Status::Done, printed)?,
+            "{pattern}"
+        );
+    }
+    Ok(())
+}
+
+// An array of so many zeros.
+fn zeros(alloc: Global, count: usize) -> Result<Vec<u8>, Fail> {
+    let mut text = Vec::new(alloc);
+    text.push(b'[')?;
+    for at in 0..count {
+        if at > 0 {
+            text.push(b',')?;
+        }
+        text.push(b'0')?;
+    }
+    text.push(b']')?;
+    Ok(text)
+}
+
+#[test]
+fn counts_ten_thousand_members(rt: HostRuntime) -> Result<(), Fail> {
+    let mut case = Case {
+        pattern: "0",
+        input: b"",
+        failing_read: None,
+        failing_write: None,
+    };
+    let full = zeros(rt.alloc(), 10_000)?;
+    case.input = &full;
+    let (status, out) = run_case(rt.alloc(), &case)?;
+    assert_eq!(rt; status, Status::Done);
+    assert_eq!(rt;
+        out.as_slice().iter().filter(|b| **b == b'\n').count(),
+        10_000
+    );
+    let crowded = zeros(rt.alloc(), 10_001)?;
+    assert!(rt; gives(rt.alloc(), "0", &crowded, Status::TooMany(10_000), b"")?);
+    Ok(())
+}
+
+#[test]
 fn refuses_what_has_no_tree(rt: HostRuntime) -> Result<(), Fail> {
     assert!(rt; gives(rt.alloc(), "1", b"", Status::BadTarget, b"")?);
     assert!(rt; gives(rt.alloc(), "1", b"[\"\xff\"]", Status::BadTarget, b"")?);
     assert!(rt; gives(rt.alloc(), "1", b"[1,]", Status::BadTarget, b"")?);
-    assert!(rt; gives(rt.alloc(), "$X", b"1", Status::BadPattern, b"")?);
+    assert!(rt; gives(rt.alloc(), "...", b"1", Status::BadPattern, b"")?);
+    assert!(rt; gives(rt.alloc(), "$...A", b"1", Status::BadPattern, b"")?);
+    assert!(rt; gives(rt.alloc(), "{\"a\": $...B}", b"1", Status::BadPattern, b"")?);
+    assert!(rt; gives(rt.alloc(), "[1", b"1", Status::BadPattern, b"")?);
     assert!(rt; gives(rt.alloc(), "", b"", Status::BadPattern, b"")?);
     Ok(())
 }

@@ -4,7 +4,7 @@ use Rattle.std.proofs.lemmas.Result.{err_from_is_err_and}
 use Rattle.node_tree.specs.declared.view.Mode.TheVariants.{Text}
 use Rattle.node_tree.specs.Spans.{SpansLieIn}
 use Rattle.json_tree.specs.Spells.{IsTreeOf}
-use Rattle.semscan.proofs.Texts.{no_tree}
+use Rattle.pattern_read.proofs.Trees.{no_tree}
 use Rattle.semscan.proofs.reading.read_file.Goals as goal
 
 pub returns-in_err-tree-clause-none : goal.returns-in_err-tree-clause-none
