@@ -13,7 +13,7 @@ use Rattle.yaml_lines.specs.declared.line.YLine.{YLine}
 use Rattle.yaml_lines.specs.declared.read.Value.{Value}
 use Rattle.yaml_lines.specs.declared.fault.YFault.{YFault}
 use Rattle.yaml_lines.specs.declared.fault.YFault.TheVariants.{Memory, NotUtf8, OutsideProfile, NoValue}
-use Rattle.std.proofs.lemmas.List.{take-map, append-nil, drop-drop, take_all}
+use Rattle.std.proofs.lemmas.List.{take-map, drop-drop, take_all}
 use Rattle.std.proofs.lemmas.List.Elements.{All-drop, All-nil, All-cons}
 use Rattle.yaml_lines.specs.Body.{AreShort, body_len}
 use Rattle.yaml_lines.specs.declared.fault.Feature.{Feature}
@@ -40,13 +40,6 @@ lines_start all turn at fresh above d line t h e content start = rw (texts_more 
 
 pub lines_value : (all : List (Bor (List ℕ))) (turn at : ℕ) (fresh : Bool) (above : Option ℕ) (d : Bor (List ℕ)) (line : List ℕ) (r : Result Value YFault) → turn < length all → at < length all → line ≡ (get_or all at d).now → is_skipped line ≡ false → is_first_mark fresh line ≡ false → r ≡ value_of (at + 1) above line (texts (drop (at + 1) all)) → lines_at (length all - turn) at fresh above (texts (drop at all)) ≡ go_on (λ n holder rest. lines_at (length all - (turn + 1)) n false holder rest) (at + 1) (texts (drop (at + 1) all)) r
 lines_value all turn at fresh above d line r t h e content no_start v = rw (texts_more all at d line h e, less (length all) turn t, content, no_start, v) refl
-
-pub lines_over : (all : List (Bor (List ℕ))) (fuel at : ℕ) (fresh : Bool) (above : Option ℕ) (ls : List YLine) → at ≡ length all → with_lines ls (lines_at fuel at fresh above (texts (drop at all))) ≡ Ok ls
-lines_over all fuel at fresh above ls e = rw (e, nothing all) (ap Ok (append-nil ls))
-  where
-    nothing : (xs : List (Bor (List ℕ))) → drop (length xs) xs ≡ []
-    nothing [] = refl
-    nothing (x ∷ xs) = nothing xs
 
 -- after a value the lines that are left are read
 pub goes_on : (ls : List YLine) (read : ℕ → Option ℕ → List (List ℕ) → Result (List YLine) YFault) (number : ℕ) (rest : List (List ℕ)) (v : Value) → with_lines ls (go_on read number rest (Ok v)) ≡ with_lines (ls ++ (v.line ∷ [])) (read (number + v.len) v.holder (drop v.len rest))

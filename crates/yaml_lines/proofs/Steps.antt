@@ -43,9 +43,6 @@ texts_more lines at d line h e = ap texts (drop_more lines at d h) ∙ ap (λ (x
 pub utf8_tail : (b : ℕ) (bs : List ℕ) → b < 128 → IsUtf8 (b ∷ bs) → IsUtf8 bs
 utf8_tail b bs small u = IsUtf8-drop (b ∷ bs) 1 u (IsCharBoundary-after_ascii (b ∷ bs) 0 u (omega arith) small)
 
-pub utf8_more : (text : List ℕ) (at : ℕ) (b : ℕ) → at < length text → b ≡ get_or text at 0 → b < 128 → IsUtf8 (drop at text) → IsUtf8 (drop (at + 1) text)
-utf8_more text at b h e small u = let P : List ℕ → Type 0 = λ x. IsUtf8 x in utf8_tail (get_or text at 0) (drop (at + 1) text) (omega (arith, e)) (subst P (drop_more text at 0 h) u)
-
 -- a text before an ASCII byte, or before its end
 pub utf8_front : (bs xs ys : List ℕ) (b : ℕ) → b < 128 → bs ≡ xs ++ (b ∷ ys) → IsUtf8 bs → IsUtf8 xs
 utf8_front bs xs ys b small e u =

@@ -67,6 +67,7 @@ block_from holder blank lines (l ∷ ls) = if is_deeper holder l then column_len
 abbrev pub block_len : Option ℕ → List (List ℕ) → ℕ
 block_len holder lines = block_from holder (blank_len lines) lines (drop (blank_len lines) lines)
 
+-- a header without a digit
 abbrev pub is_plain_header : Option Bool → Bool
 is_plain_header (Some digit) = negate digit
 is_plain_header None = false

@@ -13,6 +13,7 @@ escapes =
     (48, 0) ∷ (97, 7) ∷ (98, 8) ∷ (116, 9) ∷ (9, 9) ∷ (110, 10) ∷ (118, 11) ∷ (102, 12) ∷ (114, 13) ∷ (101, 27) ∷ (32, 32) ∷ (34, 34) ∷ (47, 47) ∷ (92, 92)
     ∷ (78, 133) ∷ (95, 160) ∷ (76, 8232) ∷ (80, 8233) ∷ []
 
+-- what the list has for a character
 abbrev pub named_in : List (ℕ × ℕ) → ℕ → Option ℕ
 named_in [] c = None
 named_in (e ∷ es) c = if e.0 == c then Some e.1 else named_in es c
@@ -32,10 +33,12 @@ digit_step left value c =
     if nat_le 16 (digit_value c) || nat_lt 1114111 more then Fails
     else (if nat_lt 1 left then Reads (Code (left - 1) more) else (if is_scalar more then Gives more else Fails))
 
+-- a character that an escape names ends the escape
 abbrev pub named_step : Option ℕ → Step
 named_step None = Fails
 named_step (Some c) = Gives c
 
+-- what follows an escape of so many digits, or of one character
 abbrev pub code_step : ℕ → Option ℕ → Step
 code_step c None = named_step (named_in escapes c)
 code_step c (Some left) = Reads (Code left 0)
@@ -50,6 +53,7 @@ step_of Plain c = if c == 92 then Reads Escape else Gives c
 step_of Escape c = escape_step c
 step_of (Code left value) c = digit_step left value c
 
+-- a character before the others
 abbrev pub onto : ℕ → Option (List ℕ) → Option (List ℕ)
 onto c rest = option_map (λ cs. c ∷ cs) rest
 

@@ -4,9 +4,11 @@ use Rattle.yaml_lines.specs.Blanks.{is_blank, ends_sign, is_skipped}
 use Rattle.yaml_lines.specs.declared.fault.Feature.{Feature}
 use Rattle.yaml_lines.specs.declared.fault.Feature.TheVariants.{Directive, Document, ComplexKey, Anchor, Alias, Tag, FlowMap, IndentDigit}
 
+-- an ASCII digit
 abbrev pub is_digit : ℕ → Bool
 is_digit b = nat_le 48 b && nat_le b 57
 
+-- what becomes of the last line ends: `-` strips them, `+` keeps them
 abbrev pub is_sign : ℕ → Bool
 is_sign b = b == 45 || b == 43
 
@@ -37,6 +39,7 @@ abbrev pub is_start : List ℕ → Bool
 is_start (a ∷ b ∷ c ∷ rest) = is_mark 45 (a ∷ b ∷ c ∷ rest) && is_skipped rest
 is_start bs = false
 
+-- the text begins with the byte
 abbrev pub begins_with : ℕ → List ℕ → Bool
 begins_with c [] = false
 begins_with c (b ∷ bs) = b == c
@@ -57,11 +60,13 @@ abbrev pub content_feature : List ℕ → Option Feature
 content_feature [] = None
 content_feature (b ∷ bs) = if b == 63 && ends_sign bs then Some ComplexKey else text_feature (b ∷ bs)
 
+-- a header with a digit
 abbrev pub digit_feature : Option Bool → Option Feature
 digit_feature (Some true) = Some IndentDigit
 digit_feature (Some false) = None
 digit_feature None = None
 
+-- the first of two features
 abbrev pub or_else : Option Feature → Option Feature → Option Feature
 or_else (Some f) second = Some f
 or_else None second = second

@@ -6,9 +6,11 @@ use Rattle.yaml_lines.specs.Lines.{head_of}
 use Rattle.yaml_lines.specs.Lines as lines
 use Rattle.yaml_lines.specs.declared.read.Head.{Head}
 
+-- what the code has of a line
 abbrev pub headed : Head → lines.Head
 headed h = record { marks = marked h.marks; key = h.key; scanned = h.scanned; value = h.value.now }
 
+-- it is what the line says
 abbrev pub IsHead : List ℕ → Head → Type 0
 IsHead line h = headed h ≡ head_of line
 

@@ -12,6 +12,7 @@ use Rattle.yaml_lines.specs.declared.scan.Place.{Place}
 use Rattle.yaml_lines.specs.declared.scan.Place.TheVariants.{Begin, Inside, SingleEnd}
 use Rattle.yaml_lines.specs.declared.scan.Scan.{Scan}
 
+-- the opposite
 abbrev pub negate : Bool → Bool
 negate b = if b then false else true
 
@@ -51,6 +52,7 @@ abbrev pub quoted_at : Scan → List ℕ → Option ℕ
 quoted_at s [] = if may_end s.place then Some 0 else None
 quoted_at s (b ∷ bs) = if has_ended s.place b then Some 0 else option_map (λ n. n + 1) (quoted_at (after s b) bs)
 
+-- how many bytes a quoted scalar at the start of a text takes
 abbrev pub quoted_len : List ℕ → Option ℕ
 quoted_len text = quoted_at (at_place Begin 0) text
 
@@ -59,10 +61,11 @@ pub record Keyed : Type 0 where
   pub content : List ℕ
   pub rest : List ℕ
 
+-- such a key
 abbrev pub keyed : List ℕ → List ℕ → Keyed
 keyed content rest = record { content = content; rest = rest }
 
--- what stands between such quotes says this, where it can be read
+-- what stands between such quotes says this, where it can be read. In a text, which is UTF-8, it is UTF-8
 abbrev pub content_of : ℕ → List ℕ → Option (List ℕ)
 content_of quote inner =
     if is_utf8 inner then (if quote == 39 then Some (encode_utf8_all (undoubled_at false (chars inner))) else option_map encode_utf8_all (unescaped_at Plain (chars inner)))
@@ -73,12 +76,13 @@ abbrev pub unquoted : List ℕ → Option (List ℕ)
 unquoted [] = None
 unquoted (quote ∷ bs) = content_of quote (take (length bs - 1) bs)
 
--- the key whose quoted scalar has so many bytes
+-- the key whose quoted scalar has so many bytes. In a text, which is UTF-8, what follows the scalar is UTF-8
 abbrev pub quoted_key : List ℕ → ℕ → Option Keyed
 quoted_key text len =
     if is_utf8 (drop len text) then option_and_then (λ rest. option_map (λ content. keyed content rest) (unquoted (take len text))) (past_sign 58 (past_blanks (drop len text)))
     else None
 
+-- the key of a plain scalar
 abbrev pub plain_key : List ℕ → Option Keyed
 plain_key text = option_map (λ at. keyed (before_blanks (take at text)) (drop (at + 1) text)) (colon_at false text)
 

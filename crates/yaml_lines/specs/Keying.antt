@@ -5,9 +5,11 @@ use Rattle.std.specs.Option.{option_map}
 use Rattle.yaml_lines.specs.Key.{Keyed, key_of}
 use Rattle.yaml_lines.specs.declared.key.Key.{Key}
 
+-- the key that the code has
 abbrev pub keyed_of : Key → Keyed
 keyed_of k = record { content = k.content; rest = k.rest.now }
 
+-- it is the key of the text, if that has one
 abbrev pub IsKey : List ℕ → Option Key → Type 0
 IsKey text k = option_map keyed_of k ≡ key_of text
 

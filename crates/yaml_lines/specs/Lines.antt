@@ -24,10 +24,12 @@ abbrev pub rest_of : List ℕ → Option Keyed → List ℕ
 rest_of content None = content
 rest_of content (Some k) = past_blanks k.rest
 
+-- the list has no item
 abbrev pub is_empty : {X : Type 0} → List X → Bool
 is_empty [] = true
 is_empty (x ∷ xs) = false
 
+-- there is a value
 abbrev pub is_some : {X : Type 0} → Option X → Bool
 is_some None = false
 is_some (Some x) = true
@@ -39,6 +41,7 @@ pub record Head : Type 0 where
   pub scanned : Scanned
   pub value : List ℕ
 
+-- what a line says by itself
 abbrev pub head_of : List ℕ → Head
 head_of line =
     let marks = marks_of line in
@@ -56,6 +59,7 @@ abbrev pub feature_of : List ℕ → Head → Option Feature
 feature_of line h =
     or_else (line_feature line) (or_else (if is_tabbed h then Some Tab else None) (or_else (content_feature h.marks.content) (value_feature h.value)))
 
+-- the last of some columns, or the one above
 abbrev pub last_or : Option ℕ → List ℕ → Option ℕ
 last_or above [] = above
 last_or above (x ∷ xs) = last_or (Some x) xs
@@ -68,6 +72,7 @@ column_of line h = length line - length h.marks.content
 abbrev pub holder_of : List ℕ → Head → Option ℕ → Option ℕ
 holder_of line h above = if is_some h.key then Some (column_of line h) else last_or above h.marks.dashes
 
+-- the line with its number and the lines that go on with its value
 abbrev pub line_of : ℕ → List ℕ → Head → List (List ℕ) → YLine
 line_of number line h body =
     record { number = number; column = column_of line h; dashes = h.marks.dashes; key = h.key; value = h.value; body = body }
@@ -77,12 +82,14 @@ abbrev pub with_line : YLine → Result (List YLine) YFault → Result (List YLi
 with_line l (Ok ls) = Ok (l ∷ ls)
 with_line l (Err e) = Err e
 
+-- the value of a line without such a feature
 abbrev pub value_with : ℕ → Option ℕ → List ℕ → Head → List (List ℕ) → Value
 value_with number above l h ls =
     let holder = holder_of l h above in
     let len = body_len h.value h.scanned holder ls in
     record { line = line_of number l h (take len ls); holder = holder; len = len }
 
+-- the value, unless there is a feature
 abbrev pub value_unless : Option Feature → ℕ → Option ℕ → List ℕ → Head → List (List ℕ) → Result Value YFault
 value_unless (Some feature) number above l h ls = Err (OutsideProfile feature number)
 value_unless None number above l h ls = Ok (value_with number above l h ls)
@@ -114,6 +121,7 @@ abbrev pub past_order_mark : List ℕ → List ℕ
 past_order_mark (a ∷ b ∷ c ∷ bs) = if a == 239 && b == 187 && c == 191 then bs else a ∷ b ∷ c ∷ bs
 past_order_mark bs = bs
 
+-- those of all lines
 abbrev pub all_lines : List (List ℕ) → Result (List YLine) YFault
 all_lines all = lines_at (length all) 0 true None all
 

@@ -25,5 +25,6 @@ abbrev pub without_comment : List ℕ → List ℕ
 without_comment [] = []
 without_comment (b ∷ bs) = if b == 35 then [] else b ∷ bs
 
+-- the marks of a line
 abbrev pub marks_of : List ℕ → Marked
 marks_of line = let m = marks_at 0 false line in record { dashes = m.dashes; content = without_comment m.content; tab_before = m.tab_before; tab_after = m.tab_after }

@@ -6,6 +6,7 @@ use Rattle.yaml_lines.specs.declared.scan.Place.TheVariants.{Begin, Inside, Sing
 use Rattle.yaml_lines.specs.declared.scan.Scan.{Scan}
 use Rattle.yaml_lines.specs.declared.scan.Scanned.{Scanned}
 
+-- a place with so many sequences open
 abbrev pub at_place : Place → ℕ → Scan
 at_place place depth = record { place = place; depth = depth }
 
@@ -22,6 +23,7 @@ after_begin depth b =
     else (if b == 91 then at_place Begin (depth + 1)
     else (if b == 39 then at_place Single depth else (if b == 34 then at_place Double depth else after_inside depth b)))
 
+-- the place after a byte at each place
 abbrev pub after_at : Place → ℕ → ℕ → Scan
 after_at Begin depth b = after_begin depth b
 after_at Inside depth b = after_inside depth b
@@ -40,15 +42,18 @@ next_place SingleEnd = Inside
 next_place Escape = Double
 next_place place = place
 
+-- the place at the start of the next line
 abbrev pub next_line : Scan → Scan
 next_line s = at_place (next_place s.place) s.depth
 
+-- a quote is open
 abbrev pub is_quoted : Place → Bool
 is_quoted Single = true
 is_quoted Double = true
 is_quoted Escape = true
 is_quoted place = false
 
+-- a quote or a flow sequence is open
 abbrev pub is_open : Scan → Bool
 is_open s = nat_lt 0 s.depth || is_quoted s.place
 
@@ -62,6 +67,7 @@ is_free place = false
 abbrev pub begins_comment : Bool → Place → ℕ → Bool
 begins_comment gap place b = (gap && b == 35) && is_free place
 
+-- the same behind one more byte
 abbrev pub one_more : Scanned → Scanned
 one_more r = record { scan = r.scan; len = r.len + 1; comment = r.comment }
 
@@ -71,5 +77,6 @@ scan_at gap s [] = record { scan = s; len = 0; comment = false }
 scan_at gap s (b ∷ bs) =
     if begins_comment gap s.place b then record { scan = s; len = 0; comment = true } else one_more (scan_at (is_blank b) (after s b) bs)
 
+-- a whole line from a place on
 abbrev pub scan_line : Scan → List ℕ → Scanned
 scan_line s line = scan_at true s line
