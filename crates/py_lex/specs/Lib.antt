@@ -1,0 +1,5 @@
+pub mod Keywords
+pub mod Classes
+pub mod Columns
+pub mod Tokens
+pub mod Layout
