@@ -15,7 +15,7 @@ from functools import lru_cache
 from glob import glob
 
 SYMBOLS = 131  # ASCII, and three classes of other characters
-ROWS_A_LIST = 26  # so many rows are checked within the steps that one declaration may take
+CHECKED_TOGETHER = 1500  # rows times states, within the steps and the memory that one declaration may take
 
 # ---- expressions, as tuples that begin with the constructor's name
 
@@ -315,11 +315,15 @@ def imports(rules_file, starts, own, entries):
 
 def certificate(crate, entries, width, starts, lines):
     """The made proof: what is left in each state, that the rows agree with it, and what each start therefore accepts."""
-    chunks = [entries[i:i + ROWS_A_LIST] for i in range(0, len(entries), ROWS_A_LIST)]
+    size = max(1, CHECKED_TOGETHER // len(entries))
+    chunks = [entries[i:i + size] for i in range(0, len(entries), size)]
     parts = [f'entries_{number}' for number in range(1, len(chunks) + 1)]
     opened = ' '.join(['entries', *parts])
+    words = ' '.join(start for start, _ in starts).split()
+    common = ['◌≡◌', 'ℕ', 'true', *(['false'] if 'false' in words else []), 'List', '[]', '◌∷◌', *(['◌++◌'] if parts[1:] else []), 'refl', 'leb-true']
+    common = ', '.join(common)
     text = f"""-- What is left to read in each state of the automaton; so it accepts what the rules spell.
-use Rattle.std.proofs.Common.{{◌≡◌, ℕ, Bool, true, false, List, [], ◌∷◌, ◌++◌, refl, leb-true}}
+use Rattle.std.proofs.Common.{{{common}}}
 use Rattle.lexing.specs.Automaton.{{Table, IsWhole, IsSound, Accepts}}
 use Rattle.lexing.proofs.Certificate.{{Entry, rows_right, row_right, rows_append, certified}}
 use Rattle.lexing.proofs.Whole.{{is_whole, whole}}
