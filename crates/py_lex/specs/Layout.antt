@@ -11,7 +11,8 @@ use Rattle.py_lex.specs.Classes.{class_of}
 use Rattle.py_lex.specs.Tokens.{rules}
 use Rattle.py_lex.specs.Columns.{top}
 use Rattle.py_lex.specs.declared.class.Class.{Class}
-use Rattle.py_lex.specs.declared.class.Class.TheVariants.{Name, Number, Str, Mark, Opening, Closing, Meta, MetaDots, Blank, LineEnd, Splice, Comment}
+use Rattle.py_lex.specs.declared.class.Class.TheVariants.{Name, Number, Str, Mark, Opening, Closing, Meta, MetaDots, Blank, LineEnd, Splice}
+use Rattle.py_lex.specs.declared.class.Forms.TheVariants.{Neither}
 use Rattle.py_lex.specs.declared.token.PyWord.{PyWord}
 use Rattle.py_lex.specs.declared.token.PyWord.TheVariants as words
 use Rattle.py_lex.specs.declared.token.PyToken.{PyToken, roll-PyToken}
@@ -35,10 +36,7 @@ word_of Opening text = Some words.Op
 word_of Closing text = Some words.Op
 word_of Meta text = Some words.Meta
 word_of MetaDots text = Some words.MetaDots
-word_of Blank text = None
-word_of LineEnd text = None
-word_of Splice text = None
-word_of Comment text = None
+word_of _ text = None
 
 -- a token at a place
 abbrev pub token : PyWord → List ℕ → ℕ → ℕ → PyToken
@@ -144,7 +142,7 @@ finish s = option_map (ending s) (close s.at s.columns 0)
 -- ---- the tokens of a text
 
 abbrev pub py_language : Mode → Language Layout PyToken
-py_language mode = record { rules = λ s. rules mode; step = step; finish = finish }
+py_language mode = record { rules = λ s. rules mode Neither; step = step; finish = finish }
 
 -- reading begins behind a byte order mark, at the start of the first line
 abbrev pub first_line : List ℕ → Layout

@@ -1,8 +1,10 @@
--- The tokens of Python, f-strings left out, and the parts between them, as regular expressions.
+-- The tokens of Python and the parts between them, as regular expressions.
 use Rattle.std.specs.Prelude.{ℕ, List, [], ◌∷◌, ◌++◌, codes, map}
 use Rattle.node_tree.specs.declared.view.Mode.{Mode}
 use Rattle.node_tree.specs.declared.view.Mode.TheVariants.{Text, Pattern}
 use Rattle.lexing.specs.Rules.{To, digits, capitals, underscore, small_letters, other_starts, other_continues, Expression, Empty, OneOf, Then, Or, Many, the, but, exactly, maybe, some, any_of, in_order, Rule}
+use Rattle.py_lex.specs.declared.class.Forms.{Forms}
+use Rattle.py_lex.specs.declared.class.Forms.TheVariants.{Both, Short, Long, Neither}
 use Rattle.py_lex.specs.declared.class.Class.{Class}
 use Rattle.py_lex.specs.declared.class.Class.TheVariants as classes
 use Rattle.py_lex.specs.Classes.{number_of}
@@ -99,17 +101,46 @@ long q x = in_order (exactly (q ∷ q ∷ q ∷ []) ∷ Many x ∷ exactly (q �
 abbrev pub string : Expression
 string = Then prefix (any_of (short 39 short_quote ∷ short 34 short_double ∷ long 39 long_quote ∷ long 34 long_double ∷ []))
 
+-- ---- f-strings, which end at their first closing quotes as other strings do
+
+abbrev pub letter_f : Expression
+letter_f = letter (codes "F") (codes "f")
+
+abbrev pub f_prefix : Expression
+f_prefix = any_of (letter_f ∷ Then letter_f letter_r ∷ Then letter_r letter_f ∷ [])
+
+abbrev pub f_short : Expression
+f_short = Then f_prefix (Or (short 39 short_quote) (short 34 short_double))
+
+abbrev pub f_long : Expression
+f_long = Then f_prefix (Or (long 39 long_quote) (long 34 long_double))
+
+-- within an f-string: any text without braces, and doubled braces
+abbrev pub f_text : Expression
+f_text = some (any_of (but (123 ∷ 125 ∷ []) ∷ exactly (codes "{{") ∷ exactly (codes "}}") ∷ []))
+
+-- within the format of a field: any text without braces
+abbrev pub format_text : Expression
+format_text = some (but (123 ∷ 125 ∷ []))
+
+abbrev pub conversion : Expression
+conversion = any_of (map exactly (codes "!r" ∷ codes "!s" ∷ codes "!a" ∷ []))
+
 -- ---- marks
 
+-- all but `:`, `:=` and brackets
 abbrev pub mark : Expression
-mark = any_of (map exactly (codes "+" ∷ codes "-" ∷ codes "*" ∷ codes "**" ∷ codes "/" ∷ codes "//" ∷ codes "%" ∷ codes "@" ∷ codes "<<" ∷ codes ">>" ∷ codes "&" ∷ codes "|" ∷ codes "^" ∷ codes "~" ∷ codes ":=" ∷ codes "<" ∷ codes ">" ∷ codes "<=" ∷ codes ">=" ∷ codes "==" ∷ codes "!="
-    ∷ codes "," ∷ codes ":" ∷ codes "." ∷ codes ";" ∷ codes "=" ∷ codes "->" ∷ codes "+=" ∷ codes "-=" ∷ codes "*=" ∷ codes "/=" ∷ codes "//=" ∷ codes "%=" ∷ codes "@=" ∷ codes "&=" ∷ codes "|=" ∷ codes "^=" ∷ codes ">>=" ∷ codes "<<=" ∷ codes "**=" ∷ codes "..." ∷ []))
+mark = any_of (map exactly (codes "+" ∷ codes "-" ∷ codes "*" ∷ codes "**" ∷ codes "/" ∷ codes "//" ∷ codes "%" ∷ codes "@" ∷ codes "<<" ∷ codes ">>" ∷ codes "&" ∷ codes "|" ∷ codes "^" ∷ codes "~" ∷ codes "<" ∷ codes ">" ∷ codes "<=" ∷ codes ">=" ∷ codes "==" ∷ codes "!="
+    ∷ codes "," ∷ codes "." ∷ codes ";" ∷ codes "=" ∷ codes "->" ∷ codes "+=" ∷ codes "-=" ∷ codes "*=" ∷ codes "/=" ∷ codes "//=" ∷ codes "%=" ∷ codes "@=" ∷ codes "&=" ∷ codes "|=" ∷ codes "^=" ∷ codes ">>=" ∷ codes "<<=" ∷ codes "**=" ∷ codes "..." ∷ []))
+
+abbrev pub colon : Expression
+colon = any_of (map exactly (codes ":" ∷ codes ":=" ∷ []))
 
 abbrev pub opening : Expression
 opening = any_of (map exactly (codes "(" ∷ codes "[" ∷ codes "{" ∷ []))
 
 abbrev pub closing : Expression
-closing = any_of (map exactly (codes ")" ∷ codes "]" ∷ codes "}" ∷ []))
+closing = any_of (map exactly (codes ")" ∷ codes "]" ∷ []))
 
 -- a capital letter or `_`, and capital letters, digits and `_`, all ASCII
 abbrev pub meta_name : Expression
@@ -147,6 +178,29 @@ abbrev pub pattern_rules : Mode → List Rule
 pattern_rules Text = []
 pattern_rules Pattern = rule classes.Meta (Then (exactly (codes "$")) meta_name) ∷ rule classes.MetaDots (Then (exactly (codes "$...")) meta_name) ∷ rule classes.Mark deep ∷ []
 
-abbrev pub rules : Mode → List Rule
-rules mode = pattern_rules mode
-    ++ (rule classes.Name name ∷ rule classes.Number number ∷ rule classes.Str string ∷ rule classes.Mark mark ∷ rule classes.Opening opening ∷ rule classes.Closing closing ∷ rule classes.Blank blank ∷ rule classes.LineEnd line_end ∷ rule classes.Splice splice ∷ rule classes.Comment comment ∷ [])
+-- the forms of f-strings that are looked for
+abbrev pub form_rules : Forms → List Rule
+form_rules Both = rule classes.FShort f_short ∷ rule classes.FLong f_long ∷ []
+form_rules Short = rule classes.FShort f_short ∷ []
+form_rules Long = rule classes.FLong f_long ∷ []
+form_rules Neither = []
+
+abbrev pub common_rules : List Rule
+common_rules = rule classes.Name name ∷ rule classes.Number number ∷ rule classes.Str string ∷ rule classes.Mark mark ∷ rule classes.Opening opening ∷ rule classes.Closing closing ∷ rule classes.Blank blank ∷ rule classes.LineEnd line_end ∷ rule classes.Splice splice ∷ rule classes.Comment comment ∷ []
+
+-- the rules of a text, and of a field of an f-string within brackets
+abbrev pub rules : Mode → Forms → List Rule
+rules mode forms = form_rules forms ++ pattern_rules mode ++ (rule classes.Mark colon ∷ rule classes.Closing (exactly (codes "}")) ∷ common_rules)
+
+-- in a field outside brackets `}`, `:` and a conversion end the expression
+abbrev pub field_rules : Mode → Forms → List Rule
+field_rules mode forms = form_rules forms ++ pattern_rules mode ++ (rule classes.Colon (exactly (codes ":")) ∷ rule classes.FieldEnd (exactly (codes "}")) ∷ rule classes.Conversion conversion ∷ common_rules)
+
+abbrev pub converted_rules : List Rule
+converted_rules = rule classes.Colon (exactly (codes ":")) ∷ rule classes.FieldEnd (exactly (codes "}")) ∷ []
+
+abbrev pub text_rules : List Rule
+text_rules = rule classes.Plain f_text ∷ rule classes.FieldStart (exactly (codes "{")) ∷ []
+
+abbrev pub format_rules : List Rule
+format_rules = rule classes.Plain format_text ∷ rule classes.FieldStart (exactly (codes "{")) ∷ rule classes.FieldEnd (exactly (codes "}")) ∷ []

@@ -21,6 +21,27 @@ pub enum Class {
     /// A backslash before a line end.
     Splice,
     Comment,
+    /// An f-string in single quotes.
+    FShort,
+    /// An f-string in three quotes.
+    FLong,
+    /// Text within an f-string or a field's format.
+    Plain,
+    FieldStart,
+    FieldEnd,
+    /// The colon before a field's format.
+    Colon,
+    /// The conversion of a field, as `!r`.
+    Conversion,
+}
+
+/// The forms of f-strings that are looked for.
+#[derive(Clone, Copy, Debug, PartialEq, Eq)]
+pub enum Forms {
+    Both,
+    Short,
+    Long,
+    Neither,
 }
 
 /// The class of a number in the automaton's table.
@@ -39,6 +60,13 @@ pub fn class_at(number: u16) -> Class
         8 => Class::Blank,
         9 => Class::LineEnd,
         10 => Class::Splice,
-        _ => Class::Comment,
+        11 => Class::Comment,
+        12 => Class::FShort,
+        13 => Class::FLong,
+        14 => Class::Plain,
+        15 => Class::FieldStart,
+        16 => Class::FieldEnd,
+        17 => Class::Colon,
+        _ => Class::Conversion,
     }
 }

@@ -5,8 +5,8 @@ ghost use Rattle.node_tree.specs.declared.fault.LexFault.TheVariants.{NoTokens};
 ghost use Rattle.py_lex.specs.Layout as spec;
 ghost use Rattle.py_lex.specs.declared.token.PyToken.{PyToken};
 
-use crate::columns::Columns;
 use crate::class::{Class, class_at};
+use crate::columns::Columns;
 use crate::keyword::is_keyword;
 use crate::token::{PyToken, PyWord};
 use node_tree::{LexFault, List, Span, Text};

@@ -3,6 +3,7 @@
 ghost use Rattle.std.specs.Prelude.{◌≡◌, ◌≤◌, List, length, IfOk};
 ghost use Rattle.lexing.specs.Automaton.{Accepts};
 ghost use Rattle.py_lex.specs.Tokens.{rules};
+ghost use Rattle.py_lex.specs.declared.class.Forms.TheVariants.{Neither};
 ghost use Rattle.py_lex.specs.Layout as spec;
 ghost use Rattle.py_lex.specs.declared.token.PyToken.{PyToken as token};
 
@@ -16,11 +17,11 @@ use std::alloc::Global;
 
 /// The automaton of the rules in a mode.
 fn automaton(mode: Mode) -> Automaton<'static>
-    ensures { Accepts result.table result.start (rules mode) }
+    ensures { Accepts result.table result.start (rules mode Neither) }
 {
     match mode {
-        Mode::Text => Automaton::new(&COLUMNS, &ROWS, WIDTH, STARTS[0]),
-        Mode::Pattern => Automaton::new(&COLUMNS, &ROWS, WIDTH, STARTS[1]),
+        Mode::Text => Automaton::new(&COLUMNS, &ROWS, WIDTH, STARTS[3]),
+        Mode::Pattern => Automaton::new(&COLUMNS, &ROWS, WIDTH, STARTS[7]),
     }
 }
 
