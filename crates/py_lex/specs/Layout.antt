@@ -11,7 +11,7 @@ use Rattle.py_lex.specs.Classes.{class_of}
 use Rattle.py_lex.specs.Tokens.{rules}
 use Rattle.py_lex.specs.Columns.{top}
 use Rattle.py_lex.specs.declared.class.Class.{Class}
-use Rattle.py_lex.specs.declared.class.Class.TheVariants.{Name, Number, Str, Mark, Opening, Closing, Meta, MetaDots, Blank, LineEnd, Splice}
+use Rattle.py_lex.specs.declared.class.Class.TheVariants.{FShort, FLong, Name, Number, Str, Mark, Opening, Closing, Meta, MetaDots, Blank, LineEnd, Splice}
 use Rattle.py_lex.specs.declared.class.Forms.TheVariants.{Neither}
 use Rattle.py_lex.specs.declared.token.PyWord.{PyWord}
 use Rattle.py_lex.specs.declared.token.PyWord.TheVariants as words
@@ -31,6 +31,8 @@ abbrev pub word_of : Class → List ℕ → Option PyWord
 word_of Name text = Some (name_word (is_keyword text))
 word_of Number text = Some words.Number
 word_of Str text = Some words.Str
+word_of FShort text = Some words.FStr
+word_of FLong text = Some words.FStr
 word_of Mark text = Some words.Op
 word_of Opening text = Some words.Op
 word_of Closing text = Some words.Op

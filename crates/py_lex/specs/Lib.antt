@@ -3,3 +3,4 @@ pub mod Classes
 pub mod Columns
 pub mod Tokens
 pub mod Layout
+pub mod Inside

@@ -135,7 +135,7 @@ fn begin(alloc: Global, all: &mut List<PyToken>, layout: &mut Layout) -> Result<
 }
 
 /// The word of a token, or `None` for what stands between tokens.
-fn word_of(class: Class, text: &str) -> Option<PyWord>
+pub fn word_of(class: Class, text: &str) -> Option<PyWord>
     ensures { result ≡ spec.word_of class text.now }
 {
     match class {
@@ -146,6 +146,7 @@ fn word_of(class: Class, text: &str) -> Option<PyWord>
         }),
         Class::Number => Some(PyWord::Number),
         Class::Str => Some(PyWord::Str),
+        Class::FShort | Class::FLong => Some(PyWord::FStr),
         Class::Mark | Class::Opening | Class::Closing => Some(PyWord::Op),
         Class::Meta => Some(PyWord::Meta),
         Class::MetaDots => Some(PyWord::MetaDots),
@@ -154,7 +155,7 @@ fn word_of(class: Class, text: &str) -> Option<PyWord>
 }
 
 /// The brackets that are open after a token.
-fn depth_after(class: Class, depth: usize) -> usize
+pub fn depth_after(class: Class, depth: usize) -> usize
     requires { depth ≤ 1000000 }
     ensures value { result ≡ spec.depth_after class depth }
     ensures bound { result ≤ depth + 1 }

@@ -3,6 +3,7 @@
 
 mod class;
 mod columns;
+mod inside;
 mod keyword;
 mod layout;
 mod lex;

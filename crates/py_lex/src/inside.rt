@@ -1,0 +1,119 @@
+//! Within an f-string: its text and its fields.
+
+ghost use Rattle.std.specs.Prelude.{◌≡◌, ◌≤◌, ◌+◌, ◌<◌, List, [], ◌∷◌, ◌++◌, length, OnOk};
+ghost use Rattle.py_lex.specs.Inside as spec;
+ghost use Rattle.py_lex.specs.declared.token.FPart.{FPart as part};
+
+use crate::class::{Class, class_at};
+use crate::layout::{depth_after, word_of};
+use crate::token::{FPart, PyToken};
+use node_tree::{LexFault, List, Span, Text};
+use std::alloc::Global;
+use std::mem;
+
+/// What of an f-string is being read.
+#[derive(Clone, Copy, Debug, PartialEq, Eq)]
+pub enum Place {
+    /// Its text.
+    Plain,
+    /// The expression of a field.
+    Field,
+    /// A field behind its conversion.
+    Converted,
+    /// The format of a field.
+    Format,
+    /// The expression of a field in a format.
+    FormatField,
+    /// A field in a format, behind its conversion.
+    FormatConverted,
+}
+
+/// A field as far as it was read: where it begins, the tokens of its expression, and its conversion.
+#[derive(Drop)]
+pub struct Field {
+    pub from: usize,
+    pub tokens: List<PyToken>,
+    pub conversion: Text,
+}
+
+/// Where reading stands within an f-string.
+#[derive(Drop)]
+pub struct Inside {
+    pub at: usize,
+    pub place: Place,
+    pub depth: usize,
+    pub field: Field,
+    pub format: List<FPart>,
+    pub inner: Field,
+}
+
+/// Whether a text has a backslash in it.
+fn has_backslash(text: &str) -> bool
+    ensures { result ≡ spec.has_backslash text.now }
+{
+    for b in text.as_bytes() {
+        if *b == b'\\' {
+            return true;
+        }
+    }
+    false
+}
+
+fn span(from: usize, to: usize) -> Span
+    requires { (from ≤ 1000000) × (to ≤ 1000000) }
+    ensures { result ≡ record { from = from; to = to } }
+{
+    Span {
+        from: from as u32,
+        to: to as u32,
+    }
+}
+
+/// A field at its opening brace.
+fn opened(alloc: Global, from: usize) -> Field
+    ensures { result ≡ spec.opened from }
+{
+    Field {
+        from,
+        tokens: List::new(alloc),
+        conversion: Text::new(alloc),
+    }
+}
+
+/// Takes a field that was read, and leaves an empty one.
+fn taken(alloc: Global, field: &mut Field) -> Field
+    ensures value { result ≡ field.old }
+    ensures left { field.new ≡ spec.opened 0 }
+{
+    mem::replace(field, opened(alloc, 0))
+}
+
+/// Keeps a token of a field's expression.
+fn keep(
+    alloc: Global,
+    field: &mut Field,
+    class: Class,
+    text: &str,
+    at: usize,
+    parts: List<FPart>,
+) -> Result<(), LexFault>
+    requires { at + length text.now ≤ 1000000 }
+    ensures { spec.Keeps (spec.kept field.old class text.now at parts) field.new result }
+{
+    let Some(word) = word_of(class, text) else {
+        return match class {
+            Class::Blank | Class::LineEnd => Ok(()),
+            _ => Err(LexFault::NoTokens),
+        };
+    };
+    if has_backslash(text) {
+        return Err(LexFault::NoTokens);
+    }
+    field.tokens.push(PyToken {
+        word,
+        text: Text::from_str(alloc, text)?,
+        span: span(at, at + text.len()),
+        parts,
+    })?;
+    Ok(())
+}
