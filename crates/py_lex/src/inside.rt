@@ -117,3 +117,76 @@ fn keep(
     })?;
     Ok(())
 }
+
+/// Ends a field, which is a part.
+fn end_field(
+    alloc: Global,
+    all: &mut List<FPart>,
+    inside: &mut Inside,
+    text: &str,
+) -> Result<(), LexFault>
+    requires room { inside.old.at + length text.now ≤ 1000000 }
+    requires bounded { spec.IsBounded inside.old }
+    ensures { spec.Turns (spec.field_end inside.old text.now) all.old all.new inside.new result }
+{
+    let field = taken(alloc, &mut inside.field);
+    let format = mem::replace(&mut inside.format, List::new(alloc));
+    inside.at += text.len();
+    inside.place = Place::Plain;
+    all.push(FPart::Field(
+        field.tokens,
+        field.conversion,
+        format,
+        span(field.from, inside.at),
+    ))?;
+    Ok(())
+}
+
+/// Ends a field in a format.
+fn end_inner(alloc: Global, inside: &mut Inside, text: &str) -> Result<(), LexFault>
+    requires room { inside.old.at + length text.now ≤ 1000000 }
+    requires bounded { spec.IsBounded inside.old }
+    ensures { spec.Turns (spec.inner_end inside.old text.now) [] [] inside.new result }
+{
+    let inner = taken(alloc, &mut inside.inner);
+    inside.at += text.len();
+    inside.place = Place::Format;
+    inside.format.push(FPart::Field(
+        inner.tokens,
+        inner.conversion,
+        List::new(alloc),
+        span(inner.from, inside.at),
+    ))?;
+    Ok(())
+}
+
+/// A lexeme in the text of an f-string.
+fn plain_step(
+    alloc: Global,
+    all: &mut List<FPart>,
+    inside: &mut Inside,
+    class: Class,
+    text: &str,
+) -> Result<(), LexFault>
+    requires room { inside.old.at + length text.now ≤ 1000000 }
+    ensures { spec.Turns (spec.plain_step inside.old class text.now) all.old all.new inside.new result }
+{
+    let from = inside.at;
+    inside.at += text.len();
+    match class {
+        Class::Plain => {
+            all.push(FPart::Plain(
+                Text::from_str(alloc, text)?,
+                span(from, inside.at),
+            ))?;
+            Ok(())
+        }
+        Class::FieldStart => {
+            inside.place = Place::Field;
+            inside.depth = 0;
+            inside.field = opened(alloc, from);
+            Ok(())
+        }
+        _ => Err(LexFault::NoTokens),
+    }
+}
