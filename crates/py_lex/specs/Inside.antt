@@ -1,5 +1,5 @@
 -- Within an f-string: its text and its fields.
-use Rattle.std.specs.Prelude.{◌≡◌, ℕ, ◌+◌, ◌≤◌, Bool, true, false, ◌==◌, if◌then◌else◌, List, [], ◌∷◌, ◌++◌, length, Option, Some, None, option_map, Result, Ok, Err}
+use Rattle.std.specs.Prelude.{◌≡◌, ℕ, ◌+◌, ◌≤◌, Bool, true, false, ◌==◌, if◌then◌else◌, List, [], ◌∷◌, ◌++◌, length, Option, Some, None, Result, Ok, Err}
 use Rattle.node_tree.specs.declared.span.Span.{Span}
 use Rattle.node_tree.specs.declared.fault.LexFault.{LexFault}
 use Rattle.node_tree.specs.declared.fault.LexFault.TheVariants.{Memory, NoTokens}
@@ -9,7 +9,7 @@ use Rattle.py_lex.specs.Layout.{word_of, depth_after}
 use Rattle.py_lex.specs.declared.class.Class.{Class}
 use Rattle.py_lex.specs.declared.class.Class.TheVariants as classes
 use Rattle.py_lex.specs.declared.token.PyWord.{PyWord}
-use Rattle.py_lex.specs.declared.token.PyToken.{PyToken, roll-PyToken}
+use Rattle.py_lex.specs.declared.token.PyToken.{roll-PyToken}
 use Rattle.py_lex.specs.declared.token.FPart.{FPart}
 use Rattle.py_lex.specs.declared.token.FPart.TheVariants as parts
 use Rattle.py_lex.specs.declared.inside.Place.{Place}

@@ -2,7 +2,7 @@
 use Rattle.std.specs.Prelude.{ℕ, List, [], ◌∷◌, ◌++◌, codes, map}
 use Rattle.node_tree.specs.declared.view.Mode.{Mode}
 use Rattle.node_tree.specs.declared.view.Mode.TheVariants.{Text, Pattern}
-use Rattle.lexing.specs.Rules.{To, digits, capitals, underscore, small_letters, other_starts, other_continues, Expression, Empty, OneOf, Then, Or, Many, the, but, exactly, maybe, some, any_of, in_order, Rule}
+use Rattle.lexing.specs.Rules.{To, digits, capitals, underscore, small_letters, other_starts, other_continues, Expression, OneOf, Then, Or, Many, the, but, exactly, maybe, some, any_of, in_order, Rule}
 use Rattle.py_lex.specs.declared.class.Forms.{Forms}
 use Rattle.py_lex.specs.declared.class.Forms.TheVariants.{Both, Short, Long, Neither}
 use Rattle.py_lex.specs.declared.class.Class.{Class}

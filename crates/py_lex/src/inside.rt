@@ -175,10 +175,7 @@ fn plain_step(
     inside.at += text.len();
     match class {
         Class::Plain => {
-            all.push(FPart::Plain(
-                Text::from_str(alloc, text)?,
-                span(from, inside.at),
-            ))?;
+            all.push(FPart::Plain(Text::from_str(alloc, text)?, span(from, inside.at)))?;
             Ok(())
         }
         Class::FieldStart => {
@@ -188,5 +185,147 @@ fn plain_step(
             Ok(())
         }
         _ => Err(LexFault::NoTokens),
+    }
+}
+
+/// A lexeme in the expression of a field; an f-string comes with its parts.
+fn field_step(
+    alloc: Global,
+    all: &mut List<FPart>,
+    inside: &mut Inside,
+    class: Class,
+    text: &str,
+    parts: List<FPart>,
+) -> Result<(), LexFault>
+    requires room { inside.old.at + length text.now ≤ 1000000 }
+    requires bounded { spec.IsBounded inside.old }
+    ensures { spec.Turns (spec.field_step inside.old class text.now parts) all.old all.new inside.new result }
+{
+    match class {
+        Class::FieldEnd => return end_field(alloc, all, inside, text),
+        Class::Colon => inside.place = Place::Format,
+        Class::Conversion => {
+            inside.field.conversion = Text::from_str(alloc, text)?;
+            inside.place = Place::Converted;
+        }
+        _ => {
+            keep(alloc, &mut inside.field, class, text, inside.at, parts)?;
+            inside.depth = depth_after(class, inside.depth);
+        }
+    }
+    inside.at += text.len();
+    Ok(())
+}
+
+/// A lexeme behind the conversion of a field.
+fn converted_step(
+    alloc: Global,
+    all: &mut List<FPart>,
+    inside: &mut Inside,
+    class: Class,
+    text: &str,
+) -> Result<(), LexFault>
+    requires room { inside.old.at + length text.now ≤ 1000000 }
+    requires bounded { spec.IsBounded inside.old }
+    ensures { spec.Turns (spec.converted_step inside.old class text.now) all.old all.new inside.new result }
+{
+    match class {
+        Class::FieldEnd => end_field(alloc, all, inside, text),
+        Class::Colon => {
+            inside.place = Place::Format;
+            inside.at += text.len();
+            Ok(())
+        }
+        _ => Err(LexFault::NoTokens),
+    }
+}
+
+/// A lexeme in the format of a field.
+fn format_step(
+    alloc: Global,
+    all: &mut List<FPart>,
+    inside: &mut Inside,
+    class: Class,
+    text: &str,
+) -> Result<(), LexFault>
+    requires room { inside.old.at + length text.now ≤ 1000000 }
+    requires bounded { spec.IsBounded inside.old }
+    ensures { spec.Turns (spec.format_step inside.old class text.now) all.old all.new inside.new result }
+{
+    let from = inside.at;
+    match class {
+        Class::FieldEnd => return end_field(alloc, all, inside, text),
+        Class::Plain => {
+            inside.format.push(FPart::Plain(
+                Text::from_str(alloc, text)?,
+                span(from, from + text.len()),
+            ))?;
+        }
+        Class::FieldStart => {
+            inside.place = Place::FormatField;
+            inside.depth = 0;
+            inside.inner = opened(alloc, from);
+        }
+        _ => return Err(LexFault::NoTokens),
+    }
+    inside.at += text.len();
+    Ok(())
+}
+
+/// A lexeme in the expression of a field in a format.
+fn inner_step(
+    alloc: Global,
+    inside: &mut Inside,
+    class: Class,
+    text: &str,
+    parts: List<FPart>,
+) -> Result<(), LexFault>
+    requires room { inside.old.at + length text.now ≤ 1000000 }
+    requires bounded { spec.IsBounded inside.old }
+    ensures { spec.Turns (spec.inner_step inside.old class text.now parts) [] [] inside.new result }
+{
+    match class {
+        Class::FieldEnd => return end_inner(alloc, inside, text),
+        Class::Colon => return Err(LexFault::NoTokens),
+        Class::Conversion => {
+            inside.inner.conversion = Text::from_str(alloc, text)?;
+            inside.place = Place::FormatConverted;
+        }
+        _ => {
+            keep(alloc, &mut inside.inner, class, text, inside.at, parts)?;
+            inside.depth = depth_after(class, inside.depth);
+        }
+    }
+    inside.at += text.len();
+    Ok(())
+}
+
+/// Reads one lexeme of the class that has the number; an f-string comes with its parts.
+pub fn step(
+    alloc: Global,
+    all: &mut List<FPart>,
+    inside: &mut Inside,
+    number: u16,
+    text: &str,
+    parts: List<FPart>,
+) -> Result<(), LexFault>
+    requires room { inside.old.at + length text.now ≤ 1000000 }
+    requires bounded { spec.IsBounded inside.old }
+    requires some { 0 < length text.now }
+    ensures turns { spec.Turns (spec.step inside.old number text.now parts) all.old all.new inside.new result }
+    ensures moves { OnOk result (inside.new.at ≡ inside.old.at + length text.now) }
+    ensures bounded { OnOk result (spec.IsBounded inside.new) }
+{
+    let class = class_at(number);
+    match inside.place {
+        Place::Plain => plain_step(alloc, all, inside, class, text),
+        Place::Field => field_step(alloc, all, inside, class, text, parts),
+        Place::Converted => converted_step(alloc, all, inside, class, text),
+        Place::Format => format_step(alloc, all, inside, class, text),
+        Place::FormatField => inner_step(alloc, inside, class, text, parts),
+        Place::FormatConverted => match class {
+            Class::FieldEnd => end_inner(alloc, inside, text),
+            _ => Err(LexFault::NoTokens),
+        },
     }
 }

@@ -1,4 +1,4 @@
-use Rattle.std.proofs.Common.{◌≡◌, ℕ, ◌-◌, length, ap, ◌∙◌, sym, subst, arith, length-append, List, [], true}
+use Rattle.std.proofs.Common.{◌≡◌, ℕ, ◌-◌, length, ap, sym, subst, arith, length-append, List, [], true}
 use Rattle.std.specs.Prelude.{Option, None, Err}
 use Rattle.std.specs.Str.{chars}
 use Rattle.std.proofs.lemmas.Result.{err_from_is_err_and}
