@@ -4,3 +4,4 @@ pub mod Columns
 pub mod Tokens
 pub mod Layout
 pub mod Inside
+pub mod Parts
