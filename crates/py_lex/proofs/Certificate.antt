@@ -19,7 +19,7 @@ entry s rules = record { place = s; left = rules }
 abbrev left : ℕ → Expression → Rule
 left w e = record { word = w; spelled = e }
 
-unfoldable entries_1 : List Entry
+unfoldable pub entries_1 : List Entry
 entries_1 =
     entry 0 ([])
     ∷ entry 54 (rules Text Both)
@@ -34,7 +34,7 @@ entries_1 =
     ∷ entry 540 (field_rules Text Short)
     ∷ []
 
-unfoldable entries_2 : List Entry
+unfoldable pub entries_2 : List Entry
 entries_2 =
     entry 594 (field_rules Text Long)
     ∷ entry 648 (field_rules Text Neither)
@@ -49,7 +49,7 @@ entries_2 =
     ∷ entry 1134 (left 9 Empty ∷ [])
     ∷ []
 
-unfoldable entries_3 : List Entry
+unfoldable pub entries_3 : List Entry
 entries_3 =
     entry 1188 (left 9 (the 10) ∷ [])
     ∷ entry 1242 (left 3 (the 61) ∷ [])
@@ -64,7 +64,7 @@ entries_3 =
     ∷ entry 1728 (left 3 Empty ∷ left 3 (the 62) ∷ left 3 (the 61) ∷ [])
     ∷ []
 
-unfoldable entries_4 : List Entry
+unfoldable pub entries_4 : List Entry
 entries_4 =
     entry 1782 (left 1 (Then (Then decimal (Or Empty exponent)) (Or Empty (Or (the 74) (the 106)))) ∷ left 3 Empty ∷ left 3 (Then (the 46) (the 46)) ∷ [])
     ∷ entry 1836 (left 3 Empty ∷ left 3 (the 47) ∷ left 3 (the 61) ∷ left 3 (Then (the 47) (the 61)) ∷ [])
@@ -79,7 +79,7 @@ entries_4 =
     ∷ entry 2322 (left 0 (Many name_more) ∷ left 2 (Or (Then (the 39) (Then (Many short_quote) (the 39))) (Or (Then (the 34) (Then (Many short_double) (the 34))) (Or (Then (Then (the 39) (Then (the 39) (the 39))) (Then (Many long_quote) (Then (the 39) (Then (the 39) (the 39))))) (Then (Then (the 34) (Then (the 34) (the 34))) (Then (Many long_double) (Then (the 34) (Then (the 34) (the 34)))))))) ∷ [])
     ∷ []
 
-unfoldable entries_5 : List Entry
+unfoldable pub entries_5 : List Entry
 entries_5 =
     entry 2376 (left 10 line_end ∷ [])
     ∷ entry 2430 (left 12 (Or (Then (the 39) (Then (Many short_quote) (the 39))) (Then (the 34) (Then (Many short_double) (the 34)))) ∷ left 12 (Then letter_r (Or (Then (the 39) (Then (Many short_quote) (the 39))) (Then (the 34) (Then (Many short_double) (the 34))))) ∷ left 0 (Many name_more) ∷ [])
@@ -94,7 +94,7 @@ entries_5 =
     ∷ entry 2916 (left 17 Empty ∷ [])
     ∷ []
 
-unfoldable entries_6 : List Entry
+unfoldable pub entries_6 : List Entry
 entries_6 =
     entry 2970 (left 16 Empty ∷ [])
     ∷ entry 3024 (left 14 (Many (Or (OneOf (To 0 122 ∷ To 124 124 ∷ To 126 130 ∷ [])) (Or (Then (the 123) (the 123)) (Then (the 125) (the 125))))) ∷ [])
@@ -109,7 +109,7 @@ entries_6 =
     ∷ entry 3510 (left 2 (Then (Many short_quote) (the 39)) ∷ [])
     ∷ []
 
-unfoldable entries_7 : List Entry
+unfoldable pub entries_7 : List Entry
 entries_7 =
     entry 3564 (left 2 Empty ∷ left 2 (Then (the 39) (Then (Many long_quote) (Then (the 39) (Then (the 39) (the 39))))) ∷ [])
     ∷ entry 3618 (left 2 (Then (Then anything (Many short_quote)) (the 39)) ∷ left 2 (Then (Then (Then (the 13) (the 10)) (Many short_quote)) (the 39)) ∷ [])
@@ -124,7 +124,7 @@ entries_7 =
     ∷ entry 4104 (left 1 (Then digits_first (Or Empty (Or (the 74) (the 106)))) ∷ [])
     ∷ []
 
-unfoldable entries_8 : List Entry
+unfoldable pub entries_8 : List Entry
 entries_8 =
     entry 4158 (left 12 (Then (Many short_double) (the 34)) ∷ left 13 (Then (Then (the 34) (the 34)) (Then (Many long_double) (Then (the 34) (Then (the 34) (the 34))))) ∷ [])
     ∷ entry 4212 (left 12 (Then (Many short_quote) (the 39)) ∷ left 13 (Then (Then (the 39) (the 39)) (Then (Many long_quote) (Then (the 39) (Then (the 39) (the 39))))) ∷ [])
@@ -139,7 +139,7 @@ entries_8 =
     ∷ entry 4698 (left 13 (Or (Then (Then (the 39) (Then (the 39) (the 39))) (Then (Many long_quote) (Then (the 39) (Then (the 39) (the 39))))) (Then (Then (the 34) (Then (the 34) (the 34))) (Then (Many long_double) (Then (the 34) (Then (the 34) (the 34)))))) ∷ left 0 (Many name_more) ∷ [])
     ∷ []
 
-unfoldable entries_9 : List Entry
+unfoldable pub entries_9 : List Entry
 entries_9 =
     entry 4752 (left 7 (Then (Then (the 46) (the 46)) meta_name) ∷ [])
     ∷ entry 4806 (left 6 (Many (OneOf (To 48 57 ∷ To 65 90 ∷ To 95 95 ∷ []))) ∷ [])
@@ -154,7 +154,7 @@ entries_9 =
     ∷ entry 5292 (left 2 (Then (Many short_quote) (the 39)) ∷ left 2 (Then (Then (the 10) (Many short_quote)) (the 39)) ∷ [])
     ∷ []
 
-unfoldable entries_10 : List Entry
+unfoldable pub entries_10 : List Entry
 entries_10 =
     entry 5346 (left 1 (Then (Then decimal (Or Empty exponent)) (Or Empty (Or (the 74) (the 106)))) ∷ [])
     ∷ entry 5400 (left 1 (Many (Or (OneOf (To 48 49 ∷ [])) (Then (the 95) (OneOf (To 48 49 ∷ []))))) ∷ [])
@@ -169,7 +169,7 @@ entries_10 =
     ∷ entry 5886 (left 12 Empty ∷ [])
     ∷ []
 
-unfoldable entries_11 : List Entry
+unfoldable pub entries_11 : List Entry
 entries_11 =
     entry 5940 (left 13 (Then (the 34) (Then (Many long_double) (Then (the 34) (Then (the 34) (the 34))))) ∷ [])
     ∷ entry 5994 (left 13 (Then (the 39) (Then (Many long_quote) (Then (the 39) (Then (the 39) (the 39))))) ∷ [])
@@ -184,7 +184,7 @@ entries_11 =
     ∷ entry 6480 (left 13 (Then (Many long_quote) (Then (the 39) (Then (the 39) (the 39)))) ∷ [])
     ∷ []
 
-unfoldable entries_12 : List Entry
+unfoldable pub entries_12 : List Entry
 entries_12 =
     entry 6534 (left 12 (Then (Many short_quote) (the 39)) ∷ left 12 (Then (Then (the 10) (Many short_quote)) (the 39)) ∷ [])
     ∷ entry 6588 (left 7 meta_name ∷ [])
@@ -199,12 +199,12 @@ entries_12 =
     ∷ entry 7074 (left 13 (Then (Then char_quote (Many long_quote)) (Then (the 39) (Then (the 39) (the 39)))) ∷ left 13 (the 39) ∷ [])
     ∷ []
 
-unfoldable entries_13 : List Entry
+unfoldable pub entries_13 : List Entry
 entries_13 =
     entry 7128 (left 13 Empty ∷ [])
     ∷ []
 
-unfoldable entries : List Entry
+unfoldable pub entries : List Entry
 entries = entries_1 ++ (entries_2 ++ (entries_3 ++ (entries_4 ++ (entries_5 ++ (entries_6 ++ (entries_7 ++ (entries_8 ++ (entries_9 ++ (entries_10 ++ (entries_11 ++ (entries_12 ++ (entries_13))))))))))))
 
 rows_of_entries_1 : rows_right the_table entries entries_1 ≡ true
@@ -259,7 +259,7 @@ rows_of_entries_13 : rows_right the_table entries entries_13 ≡ true
 unfolding entries entries_1 entries_2 entries_3 entries_4 entries_5 entries_6 entries_7 entries_8 entries_9 entries_10 entries_11 entries_12 entries_13 row_right
 rows_of_entries_13 = refl
 
-rows : rows_right the_table entries entries ≡ true
+pub rows : rows_right the_table entries entries ≡ true
 unfolding entries
 rows = rows_append the_table entries entries_1 _ rows_of_entries_1 (rows_append the_table entries entries_2 _ rows_of_entries_2 (rows_append the_table entries entries_3 _ rows_of_entries_3 (rows_append the_table entries entries_4 _ rows_of_entries_4 (rows_append the_table entries entries_5 _ rows_of_entries_5 (rows_append the_table entries entries_6 _ rows_of_entries_6 (rows_append the_table entries entries_7 _ rows_of_entries_7 (rows_append the_table entries entries_8 _ rows_of_entries_8 (rows_append the_table entries entries_9 _ rows_of_entries_9 (rows_append the_table entries entries_10 _ rows_of_entries_10 (rows_append the_table entries entries_11 _ rows_of_entries_11 (rows_append the_table entries entries_12 _ rows_of_entries_12 (rows_of_entries_13))))))))))))
 
