@@ -326,7 +326,7 @@ def certificate(crate, entries, width, starts, lines):
 use Rattle.std.proofs.Common.{{{common}}}
 use Rattle.lexing.specs.Automaton.{{Table, IsWhole, IsSound, Accepts}}
 use Rattle.lexing.proofs.Certificate.{{Entry, rows_right, row_right, rows_append, certified}}
-use Rattle.lexing.proofs.Whole.{{is_whole, whole}}
+use Rattle.lexing.proofs.Whole.{{is_whole, whole as whole_by}}
 use Rattle.{crate}.specs.declared.table.TheConstants.{{COLUMNS, ROWS, WIDTH}}
 """
     text += '\n'.join(lines) + """
@@ -350,7 +350,7 @@ left w e = record { word = w; spelled = e }
     for part in reversed(parts[:-1]):
         joined = f'rows_append the_table entries {part} _ rows_of_{part} ({joined})'
     text += f'pub rows : rows_right the_table entries entries ≡ true\nunfolding entries\nrows = {joined}\n\n'
-    text += 'is_whole_table : IsWhole the_table\nunfolding is_whole\nis_whole_table = whole the_table refl\n'
+    text += 'is_whole_table : IsWhole the_table\nunfolding is_whole\nis_whole_table = whole_by the_table refl\n'
     for number, (start, state) in enumerate(starts):
         place = state * width
         text += f"""

@@ -3,7 +3,7 @@
 use Rattle.std.proofs.Common.{◌≡◌, ℕ, true, false, List, [], ◌∷◌, ◌++◌, refl, leb-true}
 use Rattle.lexing.specs.Automaton.{Table, IsWhole, IsSound, Accepts}
 use Rattle.lexing.proofs.Certificate.{Entry, rows_right, row_right, rows_append, certified}
-use Rattle.lexing.proofs.Whole.{is_whole, whole}
+use Rattle.lexing.proofs.Whole.{is_whole, whole as whole_by}
 use Rattle.c_lex.specs.declared.table.TheConstants.{COLUMNS, ROWS, WIDTH}
 use Rattle.c_lex.specs.Tokens.{name_more, digit, sign, number_part, string_char, char_char, meta_name, line_end, splice, in_line, flat, broken, flat_or_broken, comment_end, rules}
 use Rattle.node_tree.specs.declared.view.Mode.TheVariants.{Text, Pattern}
@@ -108,7 +108,7 @@ rows = rows_append the_table entries entries_1 _ rows_of_entries_1 (rows_append 
 
 is_whole_table : IsWhole the_table
 unfolding is_whole
-is_whole_table = whole the_table refl
+is_whole_table = whole_by the_table refl
 
 pub accepts_0 : Accepts the_table 32 (rules Text false)
 unfolding entries entries_1 entries_2 entries_3

@@ -1,5 +1,5 @@
 -- What the other lemmas share.
-use Rattle.std.proofs.Common.{◌≡◌, ℕ, ◌≤◌, Bool, true, false, ◌&&◌, ◌⊎◌, inl, inr, List, ◌++◌, length, drop, refl, ap, ◌∙◌, arith, length-append}
+use Rattle.std.proofs.Common.{◌≡◌, ℕ, Bool, true, false, ◌&&◌, ◌⊎◌, inl, inr, List, [], ◌∷◌, ◌++◌, length, drop, refl, ap, ◌∙◌}
 use Rattle.std.specs.Prelude.{Some}
 use Rattle.std.proofs.lemmas.List.{drop_at}
 
@@ -15,9 +15,6 @@ pub record Front (P : List ℕ → Type 0) (len : ℕ) (bs : List ℕ) : Type 0 
 pub rest_is : {P : List ℕ → Type 0} (len : ℕ) (bs : List ℕ) (f : Front P len bs) → drop len bs ≡ f.rest
 rest_is len bs f = ap (drop len) f.parts ∙ drop_at f.front f.rest len f.len_is
 
-pub front_fits : {P : List ℕ → Type 0} (len : ℕ) (bs : List ℕ) (f : Front P len bs) → len ≤ length bs
-front_fits len bs f = omega (arith, ap length f.parts, length-append f.front f.rest, f.len_is)
-
 -- a test that passed or failed
 pub cases_test : (b : Bool) → (b ≡ true) ⊎ (b ≡ false)
 cases_test true = inl refl
@@ -32,3 +29,6 @@ both_true false b h = absurd cc
 
 pub some_is : {X : Type 0} (x y : X) → Some x ≡ Some y → x ≡ y
 some_is x y e = cc
+
+pub one_is : {X : Type 0} (x y : X) → x ∷ [] ≡ y ∷ [] → x ≡ y
+one_is x y e = cc

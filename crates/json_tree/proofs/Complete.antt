@@ -1,22 +1,20 @@
 -- What spells tokens is read from them, whatever follows.
-use Rattle.std.proofs.Common.{if◌then◌else◌, ◌≡◌, ℕ, zero, suc, ◌+◌, ◌<◌, ◌≤◌, Bool, true, false, ◌&&◌, List, [], ◌∷◌, ◌++◌, length, refl, sym, ap, ◌∙◌, subst, arith, append_assoc, length-append}
-use Rattle.std.specs.Prelude.{Option, Some, None}
+use Rattle.std.proofs.Common.{◌≡◌, ℕ, zero, suc, ◌<◌, ◌≤◌, true, false, List, [], ◌∷◌, ◌++◌, length, refl, sym, ap, ◌∙◌, subst, arith, append_assoc, length-append}
 use denote.Enum.Bare.{false_same}
-use Rattle.node_tree.specs.declared.node.Node.{Node, roll-Node}
+use Rattle.node_tree.specs.declared.node.Node.{Node}
 use Rattle.node_tree.specs.declared.kind.Kind.{Kind}
 use Rattle.node_tree.specs.declared.kind.Kind.TheVariants as kinds
-use Rattle.node_tree.specs.declared.span.Span.{Span}
-use Rattle.node_tree.specs.Tree.{kind_of, text_of, kids_of, span_of}
+use Rattle.node_tree.specs.Tree.{kind_of, kids_of}
 use Rattle.json_tree.specs.contracts.token.Word.{the_type}
 use Rattle.json_tree.specs.declared.token.Word.{Word}
 use Rattle.json_tree.specs.declared.token.Word.TheVariants as words
 use Rattle.json_tree.specs.Tokens.{TokenView}
 use Rattle.json_tree.specs.Brackets.{closes_bracket}
-use Rattle.json_tree.specs.Spells.{IsLeaf, Listed, IsBracketed, IsPair, IsLine, IsValue, IsMember}
-use Rattle.json_tree.specs.Reading.{Reader, Entries, word_is, leaf, bracket, member, cons_entry, after_node, after_entry, entries_at, as_bracket, bracket_at, as_member, member_of, value_by, value_of, value_at, member_at}
+use Rattle.json_tree.specs.Spells.{IsLeaf, AreListed, IsBracketed, IsPair, IsValueOfKind, IsValue, IsMember}
+use Rattle.json_tree.specs.Reading.{Reader, word_is, leaf, bracket, member, cons_entry, after_node, after_entry, entries_at, as_bracket, bracket_at, as_member, member_of, value_by, value_of, value_at, member_at}
 use Rattle.json_tree.proofs.Descent.{found, listed, bracket_empty, bracket_full}
 use Rattle.node_tree.proofs.Nodes.{node_is}
-use Rattle.json_tree.proofs.Basics.{not_both}
+use Rattle.json_tree.proofs.Basics.{not_both, one_is}
 use Rattle.json_tree.proofs.Sound.{word_same}
 
 word_differs : (a b : Word) → (a ≡ b → ⊥) → word_is a b ≡ false
@@ -45,17 +43,17 @@ starts_more [] rest h = absurd h
 starts_more (t ∷ ts) rest h = h
 
 -- as many tokens as nodes at least
-listed_len : (P : Node → List TokenView → Type 0) (V : Reader) → Complete P V → (ns : List Node) (ts : List TokenView) → Listed P ns ts → length ns ≤ length ts
+listed_len : (P : Node → List TokenView → Type 0) (V : Reader) → Complete P V → (ns : List Node) (ts : List TokenView) → AreListed P ns ts → length ns ≤ length ts
 listed_len P V c [] ts h = omega arith
 listed_len P V c (n ∷ []) ts h = omega (arith, started ts (c.starts n ts h))
 listed_len P V c (n ∷ m ∷ ns) ts (first, comma, others, parts, is, p, l) =
     omega (arith, listed_len P V c (m ∷ ns) others l, ap length parts, length-append first (comma ∷ others))
 
-listed_starts : (P : Node → List TokenView → Type 0) (V : Reader) → Complete P V → (n : Node) (ns : List Node) (ts : List TokenView) → Listed P (n ∷ ns) ts → Starts ts
+listed_starts : (P : Node → List TokenView → Type 0) (V : Reader) → Complete P V → (n : Node) (ns : List Node) (ts : List TokenView) → AreListed P (n ∷ ns) ts → Starts ts
 listed_starts P V c n [] ts h = c.starts n ts h
 listed_starts P V c n (m ∷ ns) ts (first, comma, others, parts, is, p, l) = let P' : List TokenView → Type 0 = λ x. Starts x in subst P' (sym parts) (starts_more first (comma ∷ others) (c.starts n first p))
 
-entries_complete : (P : Node → List TokenView → Type 0) (V : Reader) → Complete P V → (close : Word) → closes_bracket close ≡ true → (k : ℕ) (n : Node) (ns : List Node) (inner rest : List TokenView) (c : TokenView) → length (n ∷ ns) ≤ k → c.word ≡ close → Listed P (n ∷ ns) inner
+entries_complete : (P : Node → List TokenView → Type 0) (V : Reader) → Complete P V → (close : Word) → closes_bracket close ≡ true → (k : ℕ) (n : Node) (ns : List Node) (inner rest : List TokenView) (c : TokenView) → length (n ∷ ns) ≤ k → c.word ≡ close → AreListed P (n ∷ ns) inner
     → entries_at close V k (inner ++ c ∷ rest) ≡ listed (n ∷ ns) c.span.to rest
 unfolding entries_at
 entries_complete P V full close closer zero n ns inner rest c le is h = absurd (omega arith)
@@ -81,7 +79,7 @@ bracket_entries k right V from [] closer h = absurd h
 bracket_entries k right V from (t ∷ ts) closer h = bracket_full k right V from (t ∷ ts) t ts refl (closer_differs right t.word closer h)
 
 bracket_gives : (P : Node → List TokenView → Type 0) (V : Reader) → Complete P V → (k : Kind) (right : Word) → closes_bracket right ≡ true
-    → (from : ℕ) (c : TokenView) (ns : List Node) (inner rest : List TokenView) → c.word ≡ right → Listed P ns inner → bracket_at k right V from (inner ++ c ∷ rest) ≡ found (bracket k from c.span.to ns) rest
+    → (from : ℕ) (c : TokenView) (ns : List Node) (inner rest : List TokenView) → c.word ≡ right → AreListed P ns inner → bracket_at k right V from (inner ++ c ∷ rest) ≡ found (bracket k from c.span.to ns) rest
 bracket_gives P V full k right closer from c [] inner rest is h =
     ap (λ (x : List TokenView). bracket_at k right V from (x ++ c ∷ rest)) h ∙ bracket_empty k right V from (c ∷ rest) c rest refl (word_same c.word right is)
 bracket_gives P V full k right closer from c (n ∷ ns) inner rest is h =
@@ -118,7 +116,7 @@ brackets_give d left right P V k n used rest b e full closer line =
     ∙ bracket_gives P V full k right closer b.open_mark.span.from b.close_mark (kids_of n) b.inner rest b.right_word b.kids
     ∙ ap (λ (x : Node). found x rest) (bracket_back left right P k n used b e)
 
-line_gives : (d : ℕ) → Complete (IsValue d) (value_at d) → Complete (IsMember d) (member_at d) → (k : Kind) (n : Node) (used rest : List TokenView) → kind_of n ≡ k → IsLine k (IsValue d) (IsMember d) n used → value_of (value_at d) (member_at d) (used ++ rest) ≡ found n rest
+line_gives : (d : ℕ) → Complete (IsValue d) (value_at d) → Complete (IsMember d) (member_at d) → (k : Kind) (n : Node) (used rest : List TokenView) → kind_of n ≡ k → IsValueOfKind k (IsValue d) (IsMember d) n used → value_of (value_at d) (member_at d) (used ++ rest) ≡ found n rest
 line_gives d v m kinds.Str n used rest e l = leaf_gives d words.Str kinds.Str n used rest l e (λ t ts. refl)
 line_gives d v m kinds.Number n used rest e l = leaf_gives d words.Number kinds.Number n used rest l e (λ t ts. refl)
 line_gives d v m kinds.Const n used rest e l = leaf_gives d words.Const kinds.Const n used rest l e (λ t ts. refl)
@@ -132,7 +130,7 @@ leaf_starts w n used l o = let P : List TokenView → Type 0 = λ x. Starts x in
 bracket_starts : (left right : Word) (P : Node → List TokenView → Type 0) (n : Node) (used : List TokenView) (b : IsBracketed left right P n used) → closes_bracket left ≡ false → Starts used
 bracket_starts left right P n used b o = let Q : List TokenView → Type 0 = λ x. Starts x in subst Q (sym b.parts) (ap closes_bracket b.left_word ∙ o)
 
-line_starts : (V M : Node → List TokenView → Type 0) (k : Kind) (n : Node) (used : List TokenView) → IsLine k V M n used → Starts used
+line_starts : (V M : Node → List TokenView → Type 0) (k : Kind) (n : Node) (used : List TokenView) → IsValueOfKind k V M n used → Starts used
 line_starts V M kinds.Str n used l = leaf_starts words.Str n used l refl
 line_starts V M kinds.Number n used l = leaf_starts words.Number n used l refl
 line_starts V M kinds.Const n used l = leaf_starts words.Const n used l refl
@@ -145,12 +143,9 @@ pair_starts V n used p =
     let Q : List TokenView → Type 0 = λ x. Starts x in
     subst Q (sym p.parts) (leaf_starts words.Str p.key (p.name ∷ []) p.key_leaf refl)
 
-name_is : (p q : TokenView) → p ∷ [] ≡ q ∷ [] → p ≡ q
-name_is p q e = cc
-
 pair_gives : (d : ℕ) (n : Node) (used rest : List TokenView) → Complete (IsValue d) (value_at d) → (p : IsPair (IsValue d) n used) → member_of (value_at d) (used ++ rest) ≡ found n rest
 pair_gives d n used rest v p =
-    let name = name_is p.name p.key_leaf.token p.key_leaf.alone in
+    let name = one_is p.name p.key_leaf.token p.key_leaf.alone in
     let word : p.name.word ≡ words.Str = ap (λ (x : TokenView). x.word) name ∙ p.key_leaf.is_word in
     let key : leaf kinds.Str p.name ≡ p.key = ap (leaf kinds.Str) name ∙ leaf_back words.Str kinds.Str p.key (p.name ∷ []) p.key_leaf p.key_kind in
     let kids : kids_of n ≡ leaf kinds.Str p.name ∷ p.value ∷ [] = p.kids ∙ ap (λ (x : Node). x ∷ p.value ∷ []) (sym key) in

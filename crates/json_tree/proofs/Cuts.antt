@@ -1,15 +1,14 @@
 -- Where a token may be cut out of a text.
-use Rattle.std.proofs.Common.{◌≡◌, ◌≢◌, ℕ, zero, suc, ◌+◌, ◌-◌, ◌<◌, ◌≤◌, Bool, true, false, ◌⊎◌, inl, inr, List, [], ◌∷◌, ◌++◌, length, take, drop, get_or, refl, sym, ap, ◌∙◌, subst, arith, append_assoc, length-append}
-use Rattle.std.specs.Prelude.{Option, Some, None}
+use Rattle.std.proofs.Common.{◌≡◌, ℕ, zero, suc, ◌+◌, ◌-◌, ◌<◌, ◌≤◌, true, ◌⊎◌, inl, inr, List, [], ◌∷◌, ◌++◌, length, drop, get_or, refl, sym, ap, ◌∙◌, subst, arith, length-append}
+use Rattle.std.specs.Prelude.{Some}
 use Rattle.std.specs.Str.{IsUtf8, IsCharBoundary}
 use Rattle.std.specs.Char.{is_ascii_digit}
-use Rattle.std.proofs.lemmas.Grind.{common_steps}
 use Rattle.std.proofs.lemmas.Bool.Decides.{nat_tests}
 use Rattle.std.proofs.lemmas.List.{get_or-drop, get_or_append_left, length-drop}
 use Rattle.std.proofs.lemmas.Str.{IsCharBoundary-before_ascii, IsCharBoundary-after_ascii}
 use Rattle.json_tree.specs.declared.token.Word.{Word}
 use Rattle.json_tree.specs.declared.token.Word.TheVariants.{LeftBrace, RightBrace, LeftBracket, RightBracket, Comma, Colon, Str, Number, Const}
-use Rattle.json_tree.specs.Grammar.{IsDigit, AreDigits, AreSomeDigits, IsMinus, IsInteger, IsFraction, IsSign, IsExponent, IsNumber, IsToken}
+use Rattle.json_tree.specs.Grammar.{AreDigits, AreSomeDigits, IsMinus, IsInteger, IsFraction, IsSign, IsExponent, IsNumber, IsToken}
 use Rattle.json_tree.specs.Lexing.{token_at, shown_len}
 use Rattle.json_tree.proofs.Tokens.{token_front, no_number}
 

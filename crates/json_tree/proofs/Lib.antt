@@ -9,6 +9,7 @@ pub mod Loops
 pub mod Descent
 pub mod Sound
 pub mod Complete
+pub mod Depths
 pub mod Nesting
 pub mod Places
 pub mod Trees

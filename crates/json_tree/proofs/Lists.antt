@@ -1,18 +1,16 @@
 -- The tokens that are read are those of the text, and no others are.
-use Rattle.std.proofs.Common.{◌≡◌, ℕ, zero, suc, ◌+◌, ◌-◌, ◌<◌, ◌≤◌, Bool, true, false, ◌⊎◌, inl, inr, List, [], ◌∷◌, ◌++◌, length, take, drop, refl, sym, ap, ◌∙◌, subst, arith, append_assoc, length-append}
+use Rattle.std.proofs.Common.{◌≡◌, ℕ, zero, suc, ◌+◌, ◌-◌, ◌<◌, true, ◌⊎◌, inl, inr, List, [], ◌∷◌, ◌++◌, length, take, drop, refl, sym, ap, ◌∙◌, subst, arith, append_assoc, length-append}
 use Rattle.std.specs.Prelude.{Option, Some, None}
 use Rattle.std.specs.Char.{is_ascii_digit}
-use Rattle.std.specs.List.{prefix_len}
 use Rattle.std.proofs.Math.Seq.{drop-length}
 use Rattle.std.proofs.lemmas.List.{append-nil, drop_at, take_at}
-use Rattle.node_tree.specs.declared.span.Span.{Span}
 use Rattle.json_tree.specs.declared.token.Word.{Word}
 use Rattle.json_tree.specs.declared.token.Word.TheVariants.{LeftBrace, RightBrace, LeftBracket, RightBracket, Comma, Colon, Str, Number, Const}
 use Rattle.json_tree.specs.Grammar.{is_blank, AreBlanks, IsToken}
 use Rattle.json_tree.specs.Lexing.{blank_len, token_at, shown_len, token_of, token_from, cons_token, goes_on, unless_end, tokens_at}
 use Rattle.json_tree.specs.Tokens.{TokenView, closing, spelling, BeginsWith, Lexes}
 use Rattle.json_tree.proofs.Basics.{Front, cases_test, rest_is, some_is}
-use Rattle.json_tree.proofs.Tokens.{token_front, token_over, FindsToken, pair_is, found_as, no_number, number_begins, digit_not}
+use Rattle.json_tree.proofs.Tokens.{token_front, token_over, pair_is, found_as, no_number, number_begins, digit_not}
 
 -- ---- blanks
 
@@ -76,9 +74,6 @@ begins at blanks bs w n blank found =
       from = refl;
       to = omega (arith, f.len_is, ap length s);
     }
-
-none_found : (t : TokenView) (ts : List TokenView) → None ≡ Some ts → ⊥
-none_found t ts e = cc
 
 consed : (t : TokenView) (o : Option (List TokenView)) (ts : List TokenView) → cons_token t o ≡ Some ts → (more : List TokenView) × (o ≡ Some more) × (ts ≡ t ∷ more)
 consed t None ts e = absurd cc

@@ -1,5 +1,5 @@
 -- No token of a value stands inside more brackets than the value is deep.
-use Rattle.std.proofs.Common.{◌≡◌, ℕ, zero, suc, ◌+◌, ◌-◌, ◌≤◌, Bool, true, false, cond, List, [], ◌∷◌, ◌++◌, refl, sym, ap, ◌∙◌, subst, arith}
+use Rattle.std.proofs.Common.{◌≡◌, ℕ, zero, suc, ◌+◌, ◌-◌, ◌≤◌, Bool, false, cond, List, [], ◌∷◌, ◌++◌, refl, sym, ap, ◌∙◌, subst, arith}
 use Rattle.std.proofs.lemmas.List.Sums.{sum_by-append}
 use Rattle.node_tree.specs.declared.node.Node.{Node}
 use Rattle.node_tree.specs.declared.kind.Kind.{Kind}
@@ -8,8 +8,9 @@ use Rattle.node_tree.specs.Tree.{kind_of, kids_of}
 use Rattle.json_tree.specs.declared.token.Word.{Word}
 use Rattle.json_tree.specs.declared.token.Word.TheVariants as words
 use Rattle.json_tree.specs.Tokens.{TokenView}
-use Rattle.json_tree.specs.Brackets.{opens_bracket, closes_bracket, opening_count, closing_count, brackets_round, NestsWithin}
-use Rattle.json_tree.specs.Spells.{IsLeaf, Listed, IsBracketed, IsPair, IsLine, IsValue, IsMember}
+use Rattle.json_tree.specs.Brackets.{opens_bracket, closes_bracket, opening_count, closing_count, NestsWithin}
+use Rattle.json_tree.proofs.Basics.{one_is}
+use Rattle.json_tree.specs.Spells.{IsLeaf, AreListed, IsBracketed, IsPair, IsValueOfKind, IsValue, IsMember}
 
 opening-append : (xs ys : List TokenView) → opening_count (xs ++ ys) ≡ opening_count xs + opening_count ys
 opening-append xs ys = sum_by-append (λ (t : TokenView). cond (opens_bracket t.word) 1 0) xs ys
@@ -118,7 +119,7 @@ fits_as depth ts us e f = let P : List TokenView → Type 0 = λ x. Fits depth x
 leaf_fits : (depth : ℕ) (w : Word) (n : Node) (ts : List TokenView) (l : IsLeaf w n ts) → opens_bracket w ≡ false → closes_bracket w ≡ false → Fits depth ts
 leaf_fits depth w n ts l no_open no_close = fits_as depth ts (l.token ∷ []) l.alone (Fits-cons depth l.token w [] l.is_word no_open no_close (Fits-nil depth))
 
-listed_fits : (P : Node → List TokenView → Type 0) (depth : ℕ) → AllFit P depth → (ns : List Node) (ts : List TokenView) → Listed P ns ts → Fits depth ts
+listed_fits : (P : Node → List TokenView → Type 0) (depth : ℕ) → AllFit P depth → (ns : List Node) (ts : List TokenView) → AreListed P ns ts → Fits depth ts
 listed_fits P depth all [] ts h = fits_as depth ts [] h (Fits-nil depth)
 listed_fits P depth all (n ∷ []) ts h = all n ts h
 listed_fits P depth all (n ∷ m ∷ ns) ts (first, comma, others, parts, is, p, l) =
@@ -134,7 +135,7 @@ bracket_fits P depth all left right n ts b o1 c0 o0 c1 =
     (opening-one b.close_mark right b.right_word ∙ o0) (closing-one b.close_mark right b.right_word ∙ c1)
     (listed_fits P depth all (kids_of n) b.inner b.kids))
 
-line_fits : (d : ℕ) → AllFit (IsValue d) d → AllFit (IsMember d) d → (k : Kind) (n : Node) (ts : List TokenView) → IsLine k (IsValue d) (IsMember d) n ts → Fits (suc d) ts
+line_fits : (d : ℕ) → AllFit (IsValue d) d → AllFit (IsMember d) d → (k : Kind) (n : Node) (ts : List TokenView) → IsValueOfKind k (IsValue d) (IsMember d) n ts → Fits (suc d) ts
 line_fits d v m kinds.Str n ts l = leaf_fits (suc d) words.Str n ts l refl refl
 line_fits d v m kinds.Number n ts l = leaf_fits (suc d) words.Number n ts l refl refl
 line_fits d v m kinds.Const n ts l = leaf_fits (suc d) words.Const n ts l refl refl
@@ -142,12 +143,9 @@ line_fits d v m kinds.Array n ts l = bracket_fits (IsValue d) d v words.LeftBrac
 line_fits d v m kinds.Object n ts l = bracket_fits (IsMember d) d m words.LeftBrace words.RightBrace n ts l refl refl refl refl
 line_fits d v m _ n ts l = absurd l
 
-name_word : (w : Word) (p q : TokenView) → p ∷ [] ≡ q ∷ [] → q.word ≡ w → p.word ≡ w
-name_word w p q e is = let same : p ≡ q = cc in ap (λ (x : TokenView). x.word) same ∙ is
-
 pair_fits : (P : Node → List TokenView → Type 0) (depth : ℕ) → AllFit P depth → (n : Node) (ts : List TokenView) (p : IsPair P n ts) → Fits (suc depth) ts
 pair_fits P depth all n ts p =
-    let name : p.name.word ≡ words.Str = name_word words.Str p.name p.key_leaf.token p.key_leaf.alone p.key_leaf.is_word in
+    let name : p.name.word ≡ words.Str = ap (λ (x : TokenView). x.word) (one_is _ _ p.key_leaf.alone) ∙ p.key_leaf.is_word in
     fits_as (suc depth) ts (p.name ∷ p.colon ∷ p.others) p.parts
     (Fits-cons (suc depth) p.name words.Str (p.colon ∷ p.others) name refl refl
     (Fits-cons (suc depth) p.colon words.Colon p.others p.colon_word refl refl (Fits-deeper depth p.others (all p.value p.others p.is_value))))

@@ -1,12 +1,11 @@
 -- The longest number: what is found is a number, and no number at the front is longer.
-use Rattle.std.proofs.Common.{ne_eqb, ◌≡◌, ◌≢◌, ℕ, zero, suc, ◌+◌, ◌-◌, ◌<◌, ◌≤◌, Bool, true, false, cond, ◌||◌, eqb, ◌⊎◌, inl, inr, List, [], ◌∷◌, ◌++◌, length, take, drop, refl, sym, ap, ◌∙◌, subst, arith, append_assoc, length-append}
-use Rattle.std.specs.Prelude.{Option, Some, None}
+use Rattle.std.proofs.Common.{ne_eqb, ◌≡◌, ℕ, zero, suc, ◌+◌, ◌<◌, ◌≤◌, false, eqb, ◌⊎◌, inl, inr, List, [], ◌∷◌, ◌++◌, length, drop, refl, sym, ap, ◌∙◌, subst, arith, append_assoc, length-append}
+use Rattle.std.specs.Prelude.{Option, Some}
 use Rattle.std.specs.Char.{is_ascii_digit}
-use Rattle.std.specs.List.{prefix_len}
 use Rattle.std.proofs.lemmas.List.{drop_at}
 use Rattle.std.proofs.lemmas.Bool.{eqb-true, eqb-false}
 use Rattle.json_tree.proofs.Basics.{Front, rest_is, cases_test, some_is, not_both}
-use Rattle.json_tree.specs.Grammar.{IsDigit, AreDigits, AreSomeDigits, IsMinus, IsInteger, IsFraction, IsSign, IsExponent, IsNumber}
+use Rattle.json_tree.specs.Grammar.{AreDigits, AreSomeDigits, IsMinus, IsInteger, IsFraction, IsSign, IsExponent, IsNumber}
 use Rattle.json_tree.specs.Lexing.{digits_len, after_mark, fraction_len, sign_len, exponent_len, minus_len, integer_len, tail_len, after_minus, number_len}
 
 pub digits_front : (bs : List ℕ) → Front AreDigits (digits_len bs) bs
@@ -27,10 +26,6 @@ not_digit b n e h = ap is_ascii_digit e ∙ h
 pub digits-over : (ds rest : List ℕ) → AreDigits ds → digits_len (ds ++ rest) ≡ length ds + digits_len rest
 digits-over [] rest h = omega arith
 digits-over (d ∷ ds) rest h = rw h.0 (omega (arith, digits-over ds rest h.1))
-
--- after a byte that is no digit there is none
-pub digits-stop : (b : ℕ) (rest : List ℕ) → is_ascii_digit b ≡ false → digits_len (b ∷ rest) ≡ 0
-digits-stop b rest h = rw h refl
 
 -- ---- sound
 

@@ -1,7 +1,7 @@
 -- The spans of a tree lie in the text, where the tokens do.
-use Rattle.std.proofs.Common.{◌≡◌, ℕ, zero, suc, ◌+◌, ◌-◌, ◌≤◌, List, [], ◌∷◌, ◌++◌, length, drop, refl, sym, ap, ◌∙◌, subst, arith, length-append}
+use Rattle.std.proofs.Common.{◌≡◌, ℕ, zero, suc, ◌+◌, ◌≤◌, List, [], ◌∷◌, ◌++◌, length, drop, refl, sym, ap, ◌∙◌, subst, arith}
 use Rattle.std.specs.Str.{IsUtf8, IsCharBoundary}
-use Rattle.std.proofs.lemmas.List.{drop_at, drop-drop, length-drop}
+use Rattle.std.proofs.lemmas.List.{drop_at, drop-drop}
 use Rattle.std.proofs.lemmas.Str.{IsCharBoundary-start, IsCharBoundary-end}
 use Rattle.node_tree.specs.declared.node.Node.{Node}
 use Rattle.node_tree.specs.declared.kind.Kind.{Kind}
@@ -14,8 +14,8 @@ use Rattle.node_tree.proofs.SpanLaws.{AllLieIn, none_lie, more_lie, node_lies}
 use Rattle.json_tree.specs.declared.token.Word.{Word}
 use Rattle.json_tree.specs.declared.token.Word.TheVariants as words
 use Rattle.json_tree.specs.Tokens.{TokenView, spelling, BeginsWith, Lexes}
-use Rattle.json_tree.specs.Spells.{IsLeaf, Listed, IsBracketed, IsPair, IsLine, IsValue, IsMember, IsRoot, start_of}
-use Rattle.json_tree.proofs.Cuts.{StandsAt, token_stands, stands_from, stands_to}
+use Rattle.json_tree.specs.Spells.{IsLeaf, AreListed, IsBracketed, IsPair, IsValueOfKind, IsValue, IsMember, IsRoot, start_of}
+use Rattle.json_tree.proofs.Cuts.{token_stands, stands_from, stands_to}
 
 -- the tokens lie in the text one after the other, from at on
 abbrev pub Placed : List ℕ → ℕ → List TokenView → Type 0
@@ -84,7 +84,7 @@ leaf_lies text w at n ts l h =
     let p = placed_as text at ts (l.token ∷ []) l.alone h in
     node_over text at n [] l.token.span l.kids l.span p.1 p.0 (none_lie text)
 
-listed_lies : (text : List ℕ) (P : Node → List TokenView → Type 0) → AllLie text P → (at : ℕ) (ns : List Node) (ts : List TokenView) → Listed P ns ts → Placed text at ts → AllLieIn text ns
+listed_lies : (text : List ℕ) (P : Node → List TokenView → Type 0) → AllLie text P → (at : ℕ) (ns : List Node) (ts : List TokenView) → AreListed P ns ts → Placed text at ts → AllLieIn text ns
 listed_lies text P all at [] ts l h = none_lie text
 listed_lies text P all at (n ∷ []) ts l h = more_lie text n [] (all at n ts l h).tree (none_lie text)
 listed_lies text P all at (n ∷ m ∷ ns) ts (first, comma, others, parts, is, p, l) h =
@@ -110,7 +110,7 @@ pair_lies text P all at n ts p h =
     record { ordered = omega (arith, placed.1.ordered, placed.2.0, placed.2.1.ordered, value.after, value.whole.ordered); begins = placed.1.begins; ends = value.whole.ends } in
     node_over text at n (p.key ∷ p.value ∷ []) _ p.kids p.span lies placed.0 (more_lie text p.key (p.value ∷ []) key.tree (more_lie text p.value [] value.tree (none_lie text)))
 
-line_lies : (text : List ℕ) (V M : Node → List TokenView → Type 0) → AllLie text V → AllLie text M → (k : Kind) → AllLie text (IsLine k V M)
+line_lies : (text : List ℕ) (V M : Node → List TokenView → Type 0) → AllLie text V → AllLie text M → (k : Kind) → AllLie text (IsValueOfKind k V M)
 line_lies text V M v m kinds.Str = leaf_lies text words.Str
 line_lies text V M v m kinds.Number = leaf_lies text words.Number
 line_lies text V M v m kinds.Const = leaf_lies text words.Const
@@ -128,7 +128,7 @@ both_lie text (suc d) =
 pub root_lies : (text : List ℕ) (n : Node) → IsUtf8 text → IsRoot text n → SpansLieIn text n
 root_lies text n utf8 r =
     let placed = tokens_placed text (start_of text) (drop (start_of text) text) r.tokens utf8 refl r.lexes in
-    let value = (both_lie text 499).0 (start_of text) r.value r.tokens r.is_value placed in
+    let value = (both_lie text r.levels).0 (start_of text) r.value r.tokens r.is_value placed in
     let lies : LiesIn text (record { from = 0; to = length text }) =
     record { ordered = omega arith; begins = IsCharBoundary-start text utf8; ends = IsCharBoundary-end text } in
     (node_over text 0 n (r.value ∷ []) _ r.kids r.span lies (omega arith) (more_lie text r.value [] value.tree (none_lie text))).tree

@@ -1,12 +1,11 @@
 -- Strings: where the closing quote is.
-use Rattle.std.proofs.Common.{ne_eqb, ◌≡◌, ◌≢◌, ℕ, zero, suc, ◌+◌, ◌<◌, ◌≤◌, Bool, true, false, cond, ◌||◌, eqb, ltb, ◌⊎◌, inl, inr, List, [], ◌∷◌, ◌++◌, length, drop, refl, sym, ap, ◌∙◌, subst, arith, append_assoc, length-append}
+use Rattle.std.proofs.Common.{ne_eqb, ◌≡◌, ℕ, zero, suc, true, eqb, ltb, ◌⊎◌, inl, inr, List, [], ◌∷◌, ◌++◌, length, refl, sym, ap, ◌∙◌, subst, arith, append_assoc}
 use Rattle.std.specs.Prelude.{Option, Some, None, option_map}
-use Rattle.std.specs.Char.{is_ascii_digit}
 use Rattle.std.specs.List.{concat, AllByRecursion}
 use Rattle.std.proofs.lemmas.Bool.{eqb-true, eqb-false, ltb-false, le-ltb}
 use Rattle.json_tree.specs.declared.string.StringState.{StringState}
 use Rattle.json_tree.specs.declared.string.StringState.TheVariants.{Plain, Escaped, Hex4, Hex3, Hex2, Hex1, Closed, Wrong}
-use Rattle.json_tree.specs.Grammar.{is_hex, is_escape, IsChar, IsContent, IsString}
+use Rattle.json_tree.specs.Grammar.{is_hex, is_escape, IsChar, IsContent}
 use Rattle.json_tree.specs.Lexing.{after, after_hex, one_more, closed_len}
 use Rattle.json_tree.proofs.Basics.{Front, cases_test}
 
@@ -150,12 +149,6 @@ GoesOn place b p = ((after place b ≡ Closed) × (p ≡ [])) ⊎ Completes (aft
 
 tail_is : (a b : ℕ) (p q : List ℕ) → a ∷ p ≡ b ∷ q → (a ≡ b) × (p ≡ q)
 tail_is a b p q e = (cc, cc)
-
-not_escape : (b n : ℕ) → b ≡ n → is_escape n ≡ true → is_escape b ≡ true
-not_escape b n e h = ap is_escape e ∙ h
-
-short_on : (e : ℕ) (p : List ℕ) → is_escape e ≡ true → Ended p → AfterBackslash (e ∷ p)
-short_on e p h f = inl (h, f)
 
 plain_on : (b : ℕ) (p : List ℕ) (chars : List (List ℕ)) → b ∷ p ≡ concat chars ++ 34 ∷ [] → AllByRecursion IsChar chars → GoesOn Plain b p
 plain_on b p [] e each =

@@ -1,5 +1,5 @@
 -- What is read is spelled by the tokens that were read.
-use Rattle.std.proofs.Common.{if◌then◌else◌, ◌≡◌, ℕ, zero, suc, ◌+◌, ◌<◌, ◌≤◌, Bool, true, false, ◌&&◌, ◌⊎◌, inl, inr, List, [], ◌∷◌, ◌++◌, length, refl, sym, ap, ◌∙◌, subst, arith, append_assoc}
+use Rattle.std.proofs.Common.{if◌then◌else◌, ◌≡◌, ℕ, zero, suc, ◌<◌, Bool, true, false, ◌&&◌, inl, inr, List, [], ◌∷◌, ◌++◌, length, refl, sym, ap, ◌∙◌, subst, arith, append_assoc}
 use Rattle.std.specs.Prelude.{Option, Some, None}
 use denote.Enum.Bare.{same_true, true_same}
 use Rattle.node_tree.proofs.Nodes.{made_kind, made_text, made_kids, made_span}
@@ -7,14 +7,14 @@ use Rattle.node_tree.specs.declared.node.Node.{Node}
 use Rattle.node_tree.specs.declared.kind.Kind.{Kind}
 use Rattle.node_tree.specs.declared.kind.Kind.TheVariants as kinds
 use Rattle.node_tree.specs.declared.span.Span.{Span}
-use Rattle.node_tree.specs.Tree.{kind_of, text_of, kids_of, span_of}
+use Rattle.node_tree.specs.Tree.{kind_of, span_of}
 use Rattle.json_tree.specs.contracts.token.Word.{the_type}
 use Rattle.json_tree.specs.declared.token.Word.{Word}
 use Rattle.json_tree.specs.declared.token.Word.TheVariants as words
 use Rattle.json_tree.specs.Tokens.{TokenView}
-use Rattle.json_tree.specs.Spells.{IsLeaf, Listed, IsBracketed, IsPair, IsLine, IsValue, IsMember}
-use Rattle.json_tree.specs.Reading.{Reader, Entries, word_is, leaf, bracket, member, cons_entry, after_node, after_entry, entries_at, as_bracket, bracket_at, as_member, member_of, value_by, value_of, value_at, member_at}
-use Rattle.json_tree.proofs.Basics.{cases_test, both_true, some_is}
+use Rattle.json_tree.specs.Spells.{IsLeaf, AreListed, IsBracketed, IsValueOfKind, IsValue, IsMember}
+use Rattle.json_tree.specs.Reading.{Reader, Entries, word_is, leaf, bracket, member, cons_entry, after_node, after_entry, entries_at, as_bracket, bracket_at, as_member, member_of, value_by, value_at, member_at}
+use Rattle.json_tree.proofs.Basics.{cases_test, some_is}
 use Rattle.json_tree.proofs.Descent.{found, listed}
 
 pub same_word : (a b : Word) → word_is a b ≡ true → a ≡ b
@@ -52,10 +52,10 @@ pub record TakesList (P : Node → List TokenView → Type 0) (close : Word) (ts
   pub parts : ts ≡ inner ++ mark ∷ rest
   pub word : mark.word ≡ close
   pub to_is : mark.span.to ≡ to
-  pub nodes : Listed P ns inner
+  pub nodes : AreListed P ns inner
   pub some : 0 < length ns
 
-more_listed : (P : Node → List TokenView → Type 0) (n : Node) (ns : List Node) (used : List TokenView) (comma : TokenView) (inner : List TokenView) → 0 < length ns → comma.word ≡ words.Comma → P n used → Listed P ns inner → Listed P (n ∷ ns) (used ++ comma ∷ inner)
+more_listed : (P : Node → List TokenView → Type 0) (n : Node) (ns : List Node) (used : List TokenView) (comma : TokenView) (inner : List TokenView) → 0 < length ns → comma.word ≡ words.Comma → P n used → AreListed P ns inner → AreListed P (n ∷ ns) (used ++ comma ∷ inner)
 more_listed P n [] used comma inner some is p l = absurd (omega arith)
 more_listed P n (m ∷ ns) used comma inner some is p l = (used, comma, inner, refl, is, p, l)
 
@@ -105,10 +105,10 @@ entries_sound P close V sound (suc k) ts ns to rest h = first (entries_sound P c
 abbrev span_at : ℕ → ℕ → Span
 span_at a b = record { from = a; to = b }
 
-bracketed : (left right : Word) (P : Node → List TokenView → Type 0) (k : Kind) (o c : TokenView) (inner : List TokenView) (ns : List Node) (to : ℕ) → o.word ≡ left → c.word ≡ right → c.span.to ≡ to → Listed P ns inner
+bracketed : (left right : Word) (P : Node → List TokenView → Type 0) (k : Kind) (o c : TokenView) (inner : List TokenView) (ns : List Node) (to : ℕ) → o.word ≡ left → c.word ≡ right → c.span.to ≡ to → AreListed P ns inner
     → IsBracketed left right P (bracket k o.span.from to ns) (o ∷ (inner ++ c ∷ []))
 bracketed left right P k o c inner ns to l r is nodes =
-    let Q : List Node → Type 0 = λ x. Listed P x inner in
+    let Q : List Node → Type 0 = λ x. AreListed P x inner in
     record {
       open_mark = o;
       inner = inner;
@@ -155,8 +155,8 @@ leaf_is : (w : Word) (k : Kind) (t : TokenView) → t.word ≡ w → IsLeaf w (l
 leaf_is w k t is = record { token = t; alone = refl; is_word = is; text = made_text k t.text [] t.span; kids = made_kids k t.text [] t.span; span = made_span k t.text [] t.span }
 
 -- a line by the kind that the node has
-lined : (k : Kind) (V M : Node → List TokenView → Type 0) (n : Node) (ts : List TokenView) → kind_of n ≡ k → IsLine k V M n ts → IsLine (kind_of n) V M n ts
-lined k V M n ts e h = let P : Kind → Type 0 = λ x. IsLine x V M n ts in subst P (sym e) h
+lined : (k : Kind) (V M : Node → List TokenView → Type 0) (n : Node) (ts : List TokenView) → kind_of n ≡ k → IsValueOfKind k V M n ts → IsValueOfKind (kind_of n) V M n ts
+lined k V M n ts e h = let P : Kind → Type 0 = λ x. IsValueOfKind x V M n ts in subst P (sym e) h
 
 leaf_takes : (k : Kind) (w : Word) (P : Node → List TokenView → Type 0) (t : TokenView) (ts : List TokenView) (n : Node) (rest : List TokenView) → P (leaf k t) (t ∷ []) → found (leaf k t) ts ≡ found n rest → Takes P (t ∷ ts) n rest
 leaf_takes k w P t ts n rest fact h =

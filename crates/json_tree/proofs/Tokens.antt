@@ -1,18 +1,18 @@
 -- Tokens: what is found is a token, and no token at the front is longer.
-use Rattle.std.proofs.Common.{ne_eqb, ◌≡◌, ◌≢◌, ℕ, zero, suc, ◌+◌, ◌<◌, ◌≤◌, Bool, true, false, cond, if◌then◌else◌, ◌==◌, ◌||◌, ◌&&◌, eqb, ◌⊎◌, inl, inr, List, [], ◌∷◌, ◌++◌, length, take, drop, codes, nat_eq, refl, sym, ap, ◌∙◌, subst, arith, append_assoc, length-append}
+use Rattle.std.proofs.Common.{ne_eqb, ◌≡◌, ℕ, suc, ◌≤◌, true, false, if◌then◌else◌, ◌==◌, ◌||◌, eqb, ◌⊎◌, inl, inr, List, [], ◌∷◌, ◌++◌, length, take, drop, codes, nat_eq, refl, sym, ap, ◌∙◌, subst, arith}
 use Rattle.std.specs.Prelude.{Option, Some, None, option_map}
 use lib.Pointwise.{pointwise}
 use Rattle.std.specs.Char.{is_ascii_digit}
-use Rattle.std.proofs.lemmas.Bool.{eqb-true, eqb-false}
+use Rattle.std.proofs.lemmas.Bool.{eqb-true}
 use Rattle.std.proofs.lemmas.List.{take-append-drop}
 use Rattle.json_tree.specs.declared.token.Word.{Word}
 use Rattle.json_tree.specs.declared.token.Word.TheVariants.{LeftBrace, RightBrace, LeftBracket, RightBracket, Comma, Colon, Str, Number, Const}
 use Rattle.json_tree.specs.declared.string.StringState.TheVariants.{Plain}
-use Rattle.json_tree.specs.Grammar.{IsToken, IsConst, IsString, IsNumber, IsMinus, IsInteger}
+use Rattle.json_tree.specs.Grammar.{IsToken, IsConst, IsNumber, IsMinus, IsInteger}
 use Rattle.json_tree.specs.Lexing.{begins, const_len, mark_of, with_word, mark_or, token_at, closed_len, number_len}
 use Rattle.json_tree.proofs.Basics.{Front, cases_test, some_is, not_both, both_true}
 use Rattle.json_tree.proofs.Numbers.{number_front, number_over, FindsAtLeast}
-use Rattle.json_tree.proofs.Quoted.{Ended, closed_front, closed_over}
+use Rattle.json_tree.proofs.Quoted.{closed_front, closed_over}
 
 same_items : (xs ys : List ℕ) → pointwise nat_eq xs ys ≡ true → ys ≡ xs
 same_items [] [] h = refl

@@ -13,10 +13,10 @@ use crate::token::{Token, Word};
 use node_tree::{ReadFault, Span};
 use std::alloc::Global;
 
-fn is_blank(b: u8) -> bool
-    ensures { result ≡ grammar.is_blank b }
+fn is_blank(byte: u8) -> bool
+    ensures { result ≡ grammar.is_blank byte }
 {
-    b == b' ' || b == b'\t' || b == b'\n' || b == b'\r'
+    byte == b' ' || byte == b'\t' || byte == b'\n' || byte == b'\r'
 }
 
 // How many blanks stand at the front.
@@ -24,7 +24,7 @@ fn blank_len(bytes: &[u8]) -> usize
     ensures value { result ≡ lexing.blank_len bytes.now }
     ensures within { result ≤ length bytes.now }
 {
-    bytes.iter().take_while(|b| is_blank(**b)).count()
+    bytes.iter().take_while(|byte| is_blank(**byte)).count()
 }
 
 // How long the name at the front is.
@@ -43,10 +43,10 @@ fn const_len(bytes: &[u8]) -> Option<usize>
 }
 
 // A token of one byte.
-fn mark_of(b: u8) -> Option<Word>
-    ensures { result ≡ lexing.mark_of b }
+fn mark_of(byte: u8) -> Option<Word>
+    ensures { result ≡ lexing.mark_of byte }
 {
-    match b {
+    match byte {
         b'{' => Some(Word::LeftBrace),
         b'}' => Some(Word::RightBrace),
         b'[' => Some(Word::LeftBracket),

@@ -8,7 +8,10 @@ fn digits_len(bytes: &[u8]) -> usize
     ensures value { result ≡ lexing.digits_len bytes.now }
     ensures within { result ≤ length bytes.now }
 {
-    bytes.iter().take_while(|b| b.is_ascii_digit()).count()
+    bytes
+        .iter()
+        .take_while(|byte| byte.is_ascii_digit())
+        .count()
 }
 
 // A point and digits.
@@ -19,7 +22,7 @@ fn fraction_len(bytes: &[u8]) -> usize
     match bytes {
         [b'.', rest @ ..] => match digits_len(rest) {
             0 => 0,
-            n => 1 + n,
+            digits => 1 + digits,
         },
         _ => 0,
     }
@@ -45,7 +48,7 @@ fn exponent_len(bytes: &[u8]) -> usize
             let sign = sign_len(rest);
             match digits_len(&rest[sign..]) {
                 0 => 0,
-                n => 1 + sign + n,
+                digits => 1 + sign + digits,
             }
         }
         _ => 0,

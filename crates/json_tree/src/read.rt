@@ -257,9 +257,9 @@ fn root(alloc: Global, text: &str) -> Result<Node, ReadFault>
 /// Reads a JSON text (RFC 8259) into its tree.
 ///
 /// The tree is a `Root` over the one value. An `Object` has `Member`s, each with a `Str` as its key and a value, an `Array`
-/// has values, and a `Str`, a `Number` and a `Const` (`true`, `false` and `null`) have no kids. Spans are in bytes, from 0;
-/// the root spans the whole text. Numbers and escapes stay as they are written: the text of a `Str` is the opening quote and
-/// what follows it up to the closing one. Members may have the same key. A byte order mark at the start is skipped.
+/// has values, and a `Str`, a `Number` and a `Const` (`true`, `false` and `null`) have no kids. Numbers and escapes stay as
+/// they are written: the text of a `Str` is the opening quote and what follows it up to the closing one. Two members may have
+/// the same key. A byte order mark at the start is skipped. Spans are in bytes, from 0, and the root spans the whole text.
 ///
 /// NoTree comes exactly where the text is no JSON text, or its tree would be more than 500 deep, or a token would stand
 /// inside more than 500 open brackets. So far it also comes for every text that is read as a pattern.

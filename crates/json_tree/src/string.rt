@@ -19,62 +19,66 @@ enum StringState {
     Wrong,
 }
 
-fn is_hex(b: u8) -> bool
-    ensures { result ≡ grammar.is_hex b }
+fn is_hex(byte: u8) -> bool
+    ensures { result ≡ grammar.is_hex byte }
 {
-    b.is_ascii_digit() || (b'a' <= b && b <= b'f') || (b'A' <= b && b <= b'F')
+    byte.is_ascii_digit() || (b'a' <= byte && byte <= b'f') || (b'A' <= byte && byte <= b'F')
 }
 
-fn is_escape(b: u8) -> bool
-    ensures { result ≡ grammar.is_escape b }
+fn is_escape(byte: u8) -> bool
+    ensures { result ≡ grammar.is_escape byte }
 {
-    b == b'"'
-        || b == b'\\'
-        || b == b'/'
-        || b == b'b'
-        || b == b'f'
-        || b == b'n'
-        || b == b'r'
-        || b == b't'
+    byte == b'"'
+        || byte == b'\\'
+        || byte == b'/'
+        || byte == b'b'
+        || byte == b'f'
+        || byte == b'n'
+        || byte == b'r'
+        || byte == b't'
 }
 
-fn after(state: StringState, b: u8) -> StringState
-    ensures { result ≡ lexing.after state b }
+fn after(state: StringState, byte: u8) -> StringState
+    ensures { result ≡ lexing.after state byte }
 {
     match state {
         StringState::Plain => {
-            if b == b'"' {
+            if byte == b'"' {
                 StringState::Closed
-            } else if b == b'\\' {
+            } else if byte == b'\\' {
                 StringState::Escaped
-            } else if b < 32 {
+            } else if byte < 32 {
                 StringState::Wrong
             } else {
                 StringState::Plain
             }
         }
         StringState::Escaped => {
-            if b == b'u' {
+            if byte == b'u' {
                 StringState::Hex4
-            } else if is_escape(b) {
+            } else if is_escape(byte) {
                 StringState::Plain
             } else {
                 StringState::Wrong
             }
         }
-        StringState::Hex4 => after_hex(b, StringState::Hex3),
-        StringState::Hex3 => after_hex(b, StringState::Hex2),
-        StringState::Hex2 => after_hex(b, StringState::Hex1),
-        StringState::Hex1 => after_hex(b, StringState::Plain),
+        StringState::Hex4 => after_hex(byte, StringState::Hex3),
+        StringState::Hex3 => after_hex(byte, StringState::Hex2),
+        StringState::Hex2 => after_hex(byte, StringState::Hex1),
+        StringState::Hex1 => after_hex(byte, StringState::Plain),
         StringState::Closed => StringState::Wrong,
         StringState::Wrong => StringState::Wrong,
     }
 }
 
-fn after_hex(b: u8, next: StringState) -> StringState
-    ensures { result ≡ lexing.after_hex b next }
+fn after_hex(byte: u8, next: StringState) -> StringState
+    ensures { result ≡ lexing.after_hex byte next }
 {
-    if is_hex(b) { next } else { StringState::Wrong }
+    if is_hex(byte) {
+        next
+    } else {
+        StringState::Wrong
+    }
 }
 
 /// How many bytes there are up to the closing quote and with it, behind an opening one.
@@ -83,8 +87,8 @@ pub fn closed_len(bytes: &[u8]) -> Option<usize>
     ensures within { IfSome result (λ n. n ≤ length bytes.now) }
 {
     let mut state = StringState::Plain;
-    for (i, b) in bytes.iter().enumerate() {
-        state = after(state, *b);
+    for (i, byte) in bytes.iter().enumerate() {
+        state = after(state, *byte);
         match state {
             StringState::Closed => return Some(i + 1),
             StringState::Wrong => return None,

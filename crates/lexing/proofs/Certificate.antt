@@ -6,6 +6,7 @@ use Rattle.std.proofs.lemmas.Bool.Decides.{nat_tests}
 use Rattle.lexing.specs.Rules.{symbol, Range, To, Expression, Never, Empty, OneOf, Then, Or, Many, Matches, Rule, Spells}
 use Rattle.lexing.specs.Automaton.{Table, step, word_at, accepted, Accepts}
 use Rattle.lexing.proofs.Derivatives.{nullable, left_of, SomeMatches, nullable_sound, nullable_complete, left_sound, left_complete}
+use Rattle.lexing.proofs.Basics.{or_cases, and_both}
 
 -- ---- equal expressions
 
@@ -105,14 +106,10 @@ abbrev pub within : List Rule → List Rule → Bool
 within [] qs = true
 within (r ∷ rs) qs = has r qs && within rs qs
 
-or_parts : (a b : Bool) → (a || b) ≡ true → (a ≡ true) ⊎ (b ≡ true)
-or_parts true b h = inl refl
-or_parts false b h = inr h
-
 has_right : (r : Rule) (qs : List Rule) (w : ℕ) (cs : List ℕ) → has r qs ≡ true → r.word ≡ w → Matches r.spelled cs → Spells qs w cs
 has_right r [] w cs h e m = absurd cc
 has_right r (q ∷ qs) w cs h e m =
-    elim (or_parts (same_rule r q) (has r qs) h) [
+    elim (or_cases (same_rule r q) (has r qs) h) [
       | inl p ↦ (let s = and_parts (r.word == q.word) (same r.spelled q.spelled) p in inl (sym (eqb-true r.word q.word s.0) ∙ e, subst (λ (x : Expression). Matches x cs) (same_is r.spelled q.spelled s.1) m))
       | inr o ↦ inr (has_right r qs w cs o e m)
     ]
@@ -147,7 +144,7 @@ label_is n (r ∷ rs) w h (inr s) = label_is n rs w (and_parts (if nullable r.sp
 
 some_spells : (rs : List Rule) → some_nullable rs ≡ true → (w : ℕ) × Spells rs w []
 some_spells [] h = absurd cc
-some_spells (r ∷ rs) h = elim (or_parts (nullable r.spelled) (some_nullable rs) h) [ inl p ↦ (r.word, inl (refl, nullable_sound r.spelled p)) | inr q ↦ (let s = some_spells rs q in (s.0, inr s.1)) ]
+some_spells (r ∷ rs) h = elim (or_cases (nullable r.spelled) (some_nullable rs) h) [ inl p ↦ (r.word, inl (refl, nullable_sound r.spelled p)) | inr q ↦ (let s = some_spells rs q in (s.0, inr s.1)) ]
 
 suc_is : (a b : ℕ) → suc a ≡ suc b → a ≡ b
 suc_is a b e = omega arith
@@ -258,7 +255,3 @@ certified m all start rules h f = record { sound = λ cs w a. run_sound m all h 
 pub rows_append : (m : Table) (all es fs : List Entry) → rows_right m all es ≡ true → rows_right m all fs ≡ true → rows_right m all (es ++ fs) ≡ true
 rows_append m all [] fs h k = k
 rows_append m all (e ∷ es) fs h k = let p = and_parts (row_right m all e.place e.left) (rows_right m all es) h in and_both (row_right m all e.place e.left) (rows_right m all (es ++ fs)) p.0 (rows_append m all es fs p.1 k)
-  where
-    and_both : (a b : Bool) → a ≡ true → b ≡ true → (a && b) ≡ true
-    and_both true b h k = k
-    and_both false b h k = absurd cc

@@ -7,6 +7,7 @@ use Rattle.lexing.specs.Automaton.{Table, step}
 use Rattle.lexing.specs.Conditions.{BeginsWithSuch, BeginsWithNoneSuch, without, IsPrefixFree}
 use Rattle.lexing.proofs.Derivatives.{nullable, nullable_complete}
 use Rattle.lexing.proofs.Certificate.{Entry, find, rows_right, same, same_is, after, after_complete, within_right, found_right, row_next, symbol_few}
+use Rattle.lexing.proofs.Basics.{or_left, or_right, and_both, cons_is}
 
 -- ---- rules without a word
 
@@ -42,10 +43,7 @@ front_within (x ∷ f) r (y ∷ g) s e l =
     let h : x ≡ y = cc in
     let t : f ++ r ≡ g ++ s = cc in
     let m = front_within f r g s t (omega arith) in
-    record { more = m.more; parts = both y x g (f ++ m.more) (sym h) m.parts }
-  where
-    both : (a b : ℕ) (xs ys : List ℕ) → a ≡ b → xs ≡ ys → a ∷ xs ≡ b ∷ ys
-    both a b xs ys h k = cc
+    record { more = m.more; parts = cons_is y x g (f ++ m.more) (sym h) m.parts }
 
 nothing_more : (f m : List ℕ) → m ≡ [] → f ++ m ≡ f
 nothing_more [] m e = e
@@ -92,18 +90,6 @@ nothing_left w (r ∷ rs) = (if r.word == w then same r.spelled Empty else true)
 unfoldable pub closed : ℕ → List Entry → Bool
 closed w [] = true
 closed w (e ∷ es) = (if ends_here w e.left then nothing_left w e.left else true) && closed w es
-
-or_left : (a b : Bool) → a ≡ true → (a || b) ≡ true
-or_left true b h = refl
-or_left false b h = absurd cc
-
-or_right : (a b : Bool) → b ≡ true → (a || b) ≡ true
-or_right true b h = refl
-or_right false b h = h
-
-and_both : (a b : Bool) → a ≡ true → b ≡ true → (a && b) ≡ true
-and_both true b h k = k
-and_both false b h k = absurd cc
 
 ends_if : (w : ℕ) (rs : List Rule) → Spells rs w [] → ends_here w rs ≡ true
 ends_if w [] h = absurd h

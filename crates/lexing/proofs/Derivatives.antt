@@ -4,6 +4,7 @@ use Rattle.std.specs.Prelude.{if◌then◌else◌}
 use Rattle.std.specs.List.{concat, AllByRecursion}
 use Rattle.std.proofs.lemmas.Bool.{and_parts}
 use Rattle.lexing.specs.Rules.{symbol, Range, among, Expression, Never, Empty, OneOf, Then, Or, Many, Matches}
+use Rattle.lexing.proofs.Basics.{or_cases, or_left, or_right, and_both, no_front, no_back, head_is, tail_is}
 
 -- the empty spelling is one of the expression's
 abbrev pub nullable : Expression → Bool
@@ -38,39 +39,13 @@ abbrev pub SomeMatches : List Expression → List ℕ → Type 0
 SomeMatches [] cs = ⊥
 SomeMatches (r ∷ rs) cs = Matches r cs ⊎ SomeMatches rs cs
 
--- ---- tests
-
-or_parts : (a b : Bool) → (a || b) ≡ true → (a ≡ true) ⊎ (b ≡ true)
-or_parts true b h = inl refl
-or_parts false b h = inr h
-
-or_left : (a b : Bool) → a ≡ true → (a || b) ≡ true
-or_left true b h = refl
-or_left false b h = absurd cc
-
-or_right : (a b : Bool) → b ≡ true → (a || b) ≡ true
-or_right true b h = refl
-or_right false b h = h
-
-and_both : (a b : Bool) → a ≡ true → b ≡ true → (a && b) ≡ true
-and_both true b h k = k
-and_both false b h k = absurd cc
-
 pub nullable_sound : (r : Expression) → nullable r ≡ true → Matches r []
 nullable_sound Never h = absurd cc
 nullable_sound Empty h = refl
 nullable_sound (OneOf rs) h = absurd cc
 nullable_sound (Then a b) h = let p = and_parts (nullable a) (nullable b) h in ([], [], refl, nullable_sound a p.0, nullable_sound b p.1)
-nullable_sound (Or a b) h = elim (or_parts (nullable a) (nullable b) h) [ inl p ↦ inl (nullable_sound a p) | inr q ↦ inr (nullable_sound b q) ]
+nullable_sound (Or a b) h = elim (or_cases (nullable a) (nullable b) h) [ inl p ↦ inl (nullable_sound a p) | inr q ↦ inr (nullable_sound b q) ]
 nullable_sound (Many a) h = ([], refl, tt)
-
-no_front : (u v : List ℕ) → [] ≡ u ++ v → u ≡ []
-no_front [] v h = refl
-no_front (x ∷ u) v h = absurd cc
-
-no_back : (u v : List ℕ) → [] ≡ u ++ v → v ≡ []
-no_back [] v h = sym h
-no_back (x ∷ u) v h = absurd cc
 
 pub nullable_complete : (r : Expression) (cs : List ℕ) → cs ≡ [] → Matches r cs → nullable r ≡ true
 nullable_complete Never cs n h = absurd h
@@ -157,12 +132,6 @@ left_sound (Many a) c cs h =
     ((c ∷ m.first) ∷ rest.0, ap (λ (x : List ℕ). c ∷ x) (m.parts ∙ ap (λ (x : List ℕ). m.first ++ x) rest.1), (left_sound a c m.first m.is_first, rest.2))
 
 -- ---- complete
-
-head_is : (c d : ℕ) (cs ds : List ℕ) → c ∷ cs ≡ d ∷ ds → c ≡ d
-head_is c d cs ds e = cc
-
-tail_is : (c d : ℕ) (cs ds : List ℕ) → c ∷ cs ≡ d ∷ ds → cs ≡ ds
-tail_is c d cs ds e = cc
 
 one_complete : (b : Bool) (cs : List ℕ) → b ≡ true → cs ≡ [] → SomeMatches (if b then Empty ∷ [] else []) cs
 one_complete true cs t e = inl e

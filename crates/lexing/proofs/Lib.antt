@@ -1,3 +1,4 @@
+pub mod Basics
 pub mod Derivatives
 pub mod Certificate
 pub mod Scanning

@@ -1,5 +1,5 @@
 -- A piece of a text, from the longest accepted front of its characters.
-use Rattle.std.proofs.Common.{◌≡◌, ◌≢◌, ℕ, suc, ◌-◌, ◌<◌, ◌≤◌, Bool, true, false, ◌&&◌, List, [], ◌∷◌, ◌++◌, length, take, drop, refl, sym, ap, ◌∙◌, subst, arith}
+use Rattle.std.proofs.Common.{◌≡◌, ◌≢◌, ℕ, suc, ◌-◌, ◌<◌, ◌≤◌, true, List, [], ◌∷◌, ◌++◌, length, take, drop, refl, sym, ap, ◌∙◌, subst, arith}
 use Rattle.std.specs.Prelude.{encode_utf8_all}
 use Rattle.std.specs.Str.{IsUtf8, IsCharBoundary, chars, all_scalars}
 use Rattle.std.proofs.lemmas.Bool.{and_parts}
@@ -8,14 +8,11 @@ use Rattle.std.proofs.Math.Seq.{take-append_seam, drop-append_seam}
 use Rattle.lexing.specs.Rules.{Rule, Spells, BeginsWithNone, IsSharp}
 use Rattle.lexing.specs.Automaton.{Table, accepted, word_at, Accepts, IsBest, IsPiece}
 use Rattle.lexing.specs.declared.automaton.Best.{Best}
+use Rattle.lexing.proofs.Basics.{and_both}
 
 scalars_left : (f r : List ℕ) → all_scalars (f ++ r) ≡ true → all_scalars f ≡ true
 scalars_left [] r h = refl
 scalars_left (c ∷ f) r h = let p = and_parts _ (all_scalars (f ++ r)) h in and_both _ (all_scalars f) p.0 (scalars_left f r p.1)
-  where
-    and_both : (a b : Bool) → a ≡ true → b ≡ true → (a && b) ≡ true
-    and_both true b h k = k
-    and_both false b h k = absurd cc
 
 scalars_right : (f r : List ℕ) → all_scalars (f ++ r) ≡ true → all_scalars r ≡ true
 scalars_right [] r h = h

@@ -3,6 +3,7 @@ use Rattle.std.proofs.Common.{◌≡◌, ℕ, true, false, List, [], ◌∷◌, 
 use Rattle.lexing.specs.Rules.{Rule, Spells, IsSharp}
 use Rattle.lexing.specs.Conditions.{BeginsWithSuch, BeginsWithNoneSuch}
 use Rattle.lexing.specs.Reading.{Lexeme, Turn, Reader, Reads, HasTokens}
+use Rattle.lexing.proofs.Basics.{cons_is}
 
 -- fronts of one length
 same_front : (f r g s : List ℕ) → f ++ r ≡ g ++ s → length f ≡ length g → (f ≡ g) × (r ≡ s)
@@ -13,10 +14,7 @@ same_front (x ∷ f) r (y ∷ g) s e l =
     let h : x ≡ y = cc in
     let t : f ++ r ≡ g ++ s = cc in
     let p = same_front f r g s t (omega arith) in
-    (both x y f g h p.0, p.1)
-  where
-    both : (a b : ℕ) (xs ys : List ℕ) → a ≡ b → xs ≡ ys → a ∷ xs ≡ b ∷ ys
-    both a b xs ys h k = cc
+    (cons_is x y f g h p.0, p.1)
 
 record SamePiece (w v : ℕ) (f g r s : List ℕ) : Type 0 where
   word : w ≡ v

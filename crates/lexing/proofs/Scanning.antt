@@ -9,6 +9,7 @@ use Rattle.std.specs.Prelude.{slice_index}
 use Rattle.lexing.specs.Rules.{symbol}
 use Rattle.lexing.specs.Automaton.{Table, step, word_at, IsWhole, accepted, IsBest}
 use Rattle.lexing.specs.declared.automaton.Best.{Best}
+use Rattle.lexing.proofs.Basics.{no_front, head_is, tail_is, cons_is}
 
 -- the later of two places where the automaton accepts
 abbrev pub better : Best → ℕ → ℕ → Best
@@ -30,25 +31,13 @@ front_cases read [] rest c e = inl (record { others = read; parts = refl })
 front_cases [] (x ∷ []) rest c e = inr (let h : x ≡ c = cc in ap (λ (y : ℕ). y ∷ []) h)
 front_cases [] (x ∷ y ∷ front) rest c e = absurd (no_more y front rest (tail_is c x [] (y ∷ (front ++ rest)) e))
   where
-    tail_is : (a b : ℕ) (xs ys : List ℕ) → a ∷ xs ≡ b ∷ ys → xs ≡ ys
-    tail_is a b xs ys h = cc
-
     no_more : (y : ℕ) (front rest : List ℕ) → [] ≡ y ∷ (front ++ rest) → ⊥
     no_more y front rest h = cc
 front_cases (r ∷ read) (x ∷ front) rest c e =
     elim (front_cases read front rest c (tail_is r x (read ++ c ∷ []) (front ++ rest) e)) [
-      | inl f ↦ inl (record { others = f.others; parts = both r x read (front ++ f.others) (head_is r x (read ++ c ∷ []) (front ++ rest) e) f.parts })
-      | inr q ↦ inr (both x r front (read ++ c ∷ []) (sym (head_is r x (read ++ c ∷ []) (front ++ rest) e)) q)
+      | inl f ↦ inl (record { others = f.others; parts = cons_is r x read (front ++ f.others) (head_is r x (read ++ c ∷ []) (front ++ rest) e) f.parts })
+      | inr q ↦ inr (cons_is x r front (read ++ c ∷ []) (sym (head_is r x (read ++ c ∷ []) (front ++ rest) e)) q)
     ]
-  where
-    tail_is : (a b : ℕ) (xs ys : List ℕ) → a ∷ xs ≡ b ∷ ys → xs ≡ ys
-    tail_is a b xs ys h = cc
-
-    head_is : (a b : ℕ) (xs ys : List ℕ) → a ∷ xs ≡ b ∷ ys → a ≡ b
-    head_is a b xs ys h = cc
-
-    both : (a b : ℕ) (xs ys : List ℕ) → a ≡ b → xs ≡ ys → a ∷ xs ≡ b ∷ ys
-    both a b xs ys h k = cc
 
 one_more : (acc : List ℕ → ℕ) (read : List ℕ) (best : Best) (c w len : ℕ) → IsBest acc read best → acc (read ++ c ∷ []) ≡ w → len ≡ length (encode_utf8_all (read ++ c ∷ [])) → IsBest acc (read ++ c ∷ []) (better best w len)
 one_more acc read best c zero len b a l = record {
@@ -116,10 +105,6 @@ nothing_read m start z = record {
   len = refl;
   longest = λ longer after e some. absurd (omega (arith, ap (accepted m start) (no_front longer after e)));
 }
-  where
-    no_front : (u v : List ℕ) → [] ≡ u ++ v → u ≡ []
-    no_front [] v h = refl
-    no_front (x ∷ u) v h = absurd cc
 
 pub scan_is_best : (m : Table) (start : ℕ) (cs : List ℕ) → word_at m start ≡ 0 → IsBest (accepted m start) cs (scan m start 0 (record { word = 0; len = 0 }) cs)
 unfolding accepted

@@ -3,7 +3,7 @@
 use Rattle.std.proofs.Common.{◌≡◌, ℕ, true, List, [], ◌∷◌, ◌++◌, refl, leb-true}
 use Rattle.lexing.specs.Automaton.{Table, IsWhole, IsSound, Accepts}
 use Rattle.lexing.proofs.Certificate.{Entry, rows_right, row_right, rows_append, certified}
-use Rattle.lexing.proofs.Whole.{is_whole, whole}
+use Rattle.lexing.proofs.Whole.{is_whole, whole as whole_by}
 use Rattle.py_lex.specs.declared.table.TheConstants.{COLUMNS, ROWS, WIDTH}
 use Rattle.py_lex.specs.Tokens.{anything, name_more, digit, decimal, hex_digit, exponent, digits_first, letter_r, letter_b, short_quote, short_double, char_quote, char_double, long_quote, long_double, letter_f, meta_name, line_end, in_line, rules, field_rules, converted_rules, text_rules, format_rules}
 use Rattle.node_tree.specs.declared.view.Mode.TheVariants.{Text, Pattern}
@@ -265,7 +265,7 @@ rows = rows_append the_table entries entries_1 _ rows_of_entries_1 (rows_append 
 
 is_whole_table : IsWhole the_table
 unfolding is_whole
-is_whole_table = whole the_table refl
+is_whole_table = whole_by the_table refl
 
 pub accepts_0 : Accepts the_table 54 (rules Text Both)
 unfolding entries entries_1 entries_2 entries_3 entries_4 entries_5 entries_6 entries_7 entries_8 entries_9 entries_10 entries_11 entries_12 entries_13

@@ -1,91 +1,118 @@
-//! The set of spans that a pattern matches.
+//! The set of members of a pattern in a file.
 
-ghost use Rattle.std.specs.Prelude.{◌≡◌, ◌+◌, ◌↔◌, length, slice_get, IfOk, Contains};
+ghost use Rattle.std.specs.Prelude.{◌≡◌, ◌≤◌, [], length, slice_get, IfOk, MatchOption};
 ghost use Rattle.std.specs.Option.{option_copied};
-ghost use Rattle.node_tree.specs.declared.span.Span.{Span as span};
-ghost use Rattle.node_tree.specs.Span.{span_cmp};
-ghost use Rattle.std.specs.List.Sorted.{IsStrictlySortedBy};
-ghost use Rattle.tree_match.specs.Leaf.{Matches, IsLeafOf};
+ghost use Rattle.node_tree.specs.Tree.{pre_of};
+ghost use Rattle.tree_match.specs.Members.{MemberIn};
+ghost use Rattle.tree_match.specs.Leaf.{IsWhole, HasMore};
 
-use node_tree::{FileView, List, Memory, Node, Pattern, Span, Steps};
+use crate::spread::add_node;
+use meta_bind::{Binding, Trail};
+use node_tree::{List, Memory, Node, Span, Twin};
 use std::alloc::Global;
 use std::marker::Model;
-use std::sync::ledger::Ledger;
 
-/// The spans where a pattern matches, which contracts see as a list: in order, each once. Only `match_leaf` makes one.
+// The most members of a set.
+const MOST: usize = 10000;
+
+/// The members of a set: ranges, each with what the metavariables stand for there. They stand in order of range, then of
+/// binding (the names with their spans, then the contents), each once.
 #[derive(Drop)]
 pub struct LeafSet {
-    members: List<Span>,
+    members: List<(Span, Binding)>,
 }
 
 impl Model for LeafSet {
     ghost use Rattle.std.specs.Prelude.{List as list};
+    ghost use Rattle.std.specs.Coded.{coded_list, coded×};
     ghost use Rattle.node_tree.specs.declared.span.Span.{Span as span};
+    ghost use Rattle.node_tree.specs.contracts.span.Span as spans;
+    ghost use Rattle.meta_bind.specs.declared.bound.Bound.{Bound as bound};
+    ghost use Rattle.meta_bind.specs.contracts.binding.Binding as bindings;
 
-    ghost Value = { list span };
+    ghost Value = { list (span × list bound) };
+
+    ghost coded = { coded_list (coded× spans.the_row.coded bindings.the_row.coded) };
 
     ghost view = { λ s. s.members };
 }
 
 impl LeafSet {
-    /// How many spans there are.
+    // The set without members, which takes no memory.
+    pub fn empty(alloc: Global) -> LeafSet
+        ensures { result ≡ [] }
+    {
+        LeafSet {
+            members: List::new(alloc),
+        }
+    }
+
+    /// How many members there are.
     pub fn len(&self) -> usize
         ensures { result ≡ length self.now }
     {
         self.members.len()
     }
 
-    /// The span at a place, counted from 0.
-    pub fn get(&self, at: usize) -> Option<&Span>
+    /// The member at a place, counted from 0.
+    pub fn get(&self, at: usize) -> Option<&(Span, Binding)>
         ensures { option_copied result ≡ slice_get self.now at }
     {
         self.members.get(at)
     }
+}
 
-    /// The spans.
-    pub fn as_slice(&self) -> &[Span]
-        ensures { result.now ≡ self.now }
-    {
-        self.members.as_slice()
+impl Twin for LeafSet {
+    fn copy(&self) -> Result<LeafSet, Memory> {
+        let mut members = List::new(self.members.alloc());
+        for (range, binding) in self.members.as_slice() {
+            members.push((*range, binding.copy()?))?;
+        }
+        Ok(LeafSet { members })
     }
 }
 
-// The spans of the nodes with the content of the pattern.
-fn matches(alloc: Global, tree: &Node, pattern: &Node) -> Result<Vec<Span>, Memory>
-    ensures { IfOk result (λ v. (s : span) → Contains v.items s ↔ Matches pattern.now tree.now s) }
-{
-    let mut members = Vec::new(alloc);
-    for node in tree.walk()? {
-        if node.same_content(pattern) {
-            members.push(node.span)?;
+/// The members of a pattern in a file, or that there are more than 10,000.
+#[derive(Drop)]
+pub enum Leaf {
+    Full(LeafSet),
+    Crowded,
+}
+
+impl Twin for Leaf {
+    fn copy(&self) -> Result<Leaf, Memory> {
+        match self {
+            Leaf::Full(members) => Ok(Leaf::Full(members.copy()?)),
+            Leaf::Crowded => Ok(Leaf::Crowded),
         }
     }
-    Ok(members)
 }
 
-// In order, and each once.
-fn arrange(spans: &mut Vec<Span>)
-    ensures sorted { IsStrictlySortedBy span_cmp spans.new.items }
-    ensures same { (s : span) → Contains spans.new.items s ↔ Contains spans.old.items s }
-{
-    spans.sort_unstable();
-    spans.dedup();
-}
-
-/// The spans of the nodes of a file whose content is that of a pattern without metavariables. It is one step.
-pub fn match_leaf<L: Ledger>(
+/// The members with borrowed bindings, or none where there are more than 10,000.
+pub fn members_of<'t>(
     alloc: Global,
-    view: &FileView,
-    pattern: &Pattern,
-    steps: &mut Steps<L>,
-) -> Result<LeafSet, Memory>
-    ensures leaf { IfOk result (IsLeafOf pattern.now.tree view.now.tree) }
-    ensures cost { steps.new ≡ steps.old + 1 }
+    pattern: &'t Node,
+    tree: &'t Node,
+) -> Result<Option<List<(Span, Trail<'t>)>>, Memory>
+    ensures { IfOk result (λ o. MatchOption o (HasMore (λ m. MemberIn pattern.now (pre_of tree.now) m) 10000) (λ l. IsWhole (λ m. MemberIn pattern.now (pre_of tree.now) m) l × (length l ≤ 10000))) }
 {
-    steps.tick();
-    let mut spans = matches(alloc, &view.tree, &pattern.tree)?;
-    arrange(&mut spans);
-    Ok(LeafSet {
-        members: List::from_vec(spans),
-    })
+    let mut members = List::new(alloc);
+    for node in tree.walk()? {
+        add_node(alloc, pattern, node, &mut members, MOST)?;
+        if members.len() > MOST {
+            return Ok(None);
+        }
+    }
+    Ok(Some(members))
+}
+
+/// The members with bindings of their own.
+pub fn keep_all(alloc: Global, members: &[(Span, Trail<'_>)]) -> Result<LeafSet, Memory>
+    ensures { IfOk result (λ s. s ≡ members.now) }
+{
+    let mut kept = List::new(alloc);
+    for (range, trail) in members {
+        kept.push((*range, trail.keep()?))?;
+    }
+    Ok(LeafSet { members: kept })
 }

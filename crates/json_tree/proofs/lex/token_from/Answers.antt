@@ -1,6 +1,6 @@
-use Rattle.std.proofs.Common.{arith, ◌≡◌, refl, sym, ap, ◌∙◌, ◌+◌, ℕ, List, take, drop}
+use Rattle.std.proofs.Common.{arith, sym, ap, ◌∙◌, ◌+◌, ℕ, List, take, drop}
 use Rattle.std.specs.Prelude.{Option, Some}
-use Rattle.json_tree.specs.Lexing.{token_at, token_from, token_of, shown_len}
+use Rattle.json_tree.specs.Lexing.{token_at, token_from, token_of}
 use Rattle.json_tree.specs.Tokens.{TokenView}
 use Rattle.json_tree.proofs.Cuts.{token_cut}
 use Rattle.json_tree.proofs.lex.token_from.Goals as goal

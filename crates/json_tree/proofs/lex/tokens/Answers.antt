@@ -1,8 +1,7 @@
-use Rattle.std.proofs.Common.{arith, ◌≡◌, ◌+◌, ◌++◌, ◌∷◌, [], refl, sym, ap, ◌∙◌, drop, map, length, ℕ}
+use Rattle.std.proofs.Common.{arith, ◌≡◌, ◌+◌, ◌++◌, ◌∷◌, [], ap, ◌∙◌, map, length, ℕ}
 use Rattle.std.proofs.lemmas.List.{map_push, length-drop}
 use Rattle.json_tree.specs.Lexing.{blank_len}
 use Rattle.json_tree.specs.Tokens.{token_view}
-use Rattle.json_tree.specs.Lexing.{tokens_at}
 use Rattle.json_tree.proofs.Loops.{ended, wrong, one_more, spent}
 use Rattle.json_tree.proofs.lex.tokens.Goals as goal
 

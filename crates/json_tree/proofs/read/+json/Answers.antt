@@ -1,9 +1,9 @@
-use Rattle.std.proofs.Common.{arith, ◌≡◌, ◌∷◌, ◌++◌, [], refl, sym, ap, ◌∙◌, length, drop}
+use Rattle.std.proofs.Common.{arith, refl, sym, ap, ◌∙◌, length, drop}
 use Rattle.std.proofs.lemmas.Result.{err_from_is_err_and}
 use Rattle.json_tree.specs.Tokens.{token_view}
-use Rattle.json_tree.specs.Reading.{kind_in, close_of, entry_at, entries_at, as_bracket, word_is}
+use Rattle.json_tree.specs.Reading.{kind_in, close_of, entry_at, as_bracket, word_is}
 use Rattle.json_tree.proofs.Descent.{value_opens, value_ends, member_opens, member_ends, reads_as, bracket_none, bracket_empty, bracket_full, bracket_fails, made_is, listed_is, kids_are}
-use Rattle.json_tree.proofs.Entries.{with_kids, fails, stops, closes, breaks, continues, spent, begins}
+use Rattle.json_tree.proofs.Entries.{fails, stops, closes, breaks, continues, spent, begins}
 use Rattle.json_tree.proofs.read.+json.Goals as goal
 
 pub value-returns-then-depth-eq0 : goal.value-returns-then-depth-eq0

@@ -1,7 +1,7 @@
 use Rattle.std.proofs.Common.{refl, sym}
-use Rattle.json_tree.specs.declared.string.StringState.TheVariants.{Plain, Closed, Wrong}
+use Rattle.json_tree.specs.declared.string.StringState.TheVariants.{Plain}
 use Rattle.json_tree.specs.Lexing.{closed_len}
-use Rattle.json_tree.proofs.Strings.{closed_step, closed_end, closed_at, wrong_at, goes_default}
+use Rattle.json_tree.proofs.Strings.{closed_end, closed_at, wrong_at, goes_default}
 use Rattle.json_tree.proofs.string.closed_len.Goals as goal
 
 pub returns-in-Closed-clause-value : goal.returns-in-Closed-clause-value

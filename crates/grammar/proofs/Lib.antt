@@ -1,0 +1,15 @@
+pub mod Facts
+pub mod Spelled
+pub mod Good
+pub mod Exact
+pub mod Longest
+pub mod Meaning
+pub mod Checked
+pub mod Bounded
+pub mod Words
+pub mod Stable
+pub mod Extends
+pub mod Counts
+pub mod Rounds
+pub mod Theorem
+pub mod sums

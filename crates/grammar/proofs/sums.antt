@@ -1,0 +1,5 @@
+pub mod Views
+pub mod Passes
+pub mod Depths
+pub mod Steps
+pub mod Runs

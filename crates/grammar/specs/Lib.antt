@@ -1,0 +1,5 @@
+pub mod Rule
+pub mod Sets
+pub mod Reader
+pub mod Check
+pub mod sums

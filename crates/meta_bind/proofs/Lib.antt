@@ -1,0 +1,5 @@
+pub mod Lookups
+pub mod Places
+pub mod Names
+pub mod BindingOrder
+pub mod Chains

@@ -1,0 +1,17 @@
+//! What the metavariables of a pattern stand for.
+//!
+//! A contract sees a [`Binding`] as the list of its bounds in order of name, each with the contents of its nodes. So two
+//! bindings are equal in a contract where they bind the same names, at the same spans, to nodes of the same contents.
+#![tactic(auto)]
+
+mod binding;
+mod bound;
+mod name;
+mod trail;
+
+pub use binding::Binding;
+pub use bound::Bound;
+pub use trail::{Held, Trail};
+
+#[cfg(test)]
+mod tests;

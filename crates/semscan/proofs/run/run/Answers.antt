@@ -1,0 +1,71 @@
+use Rattle.std.proofs.Common.{◌≡◌, ◌≤◌, ℕ, List, arith, Err, length, sym, ap, ◌∙◌, subst, map, string_bytes, inr}
+use Rattle.std.specs.List.{concat}
+use Rattle.std.specs.Io.KnownBytes.{Appends}
+use Rattle.node_tree.specs.declared.span.Span.{Span}
+use Rattle.scan_world.specs.Streams.{AppendsFront}
+use Rattle.semscan.specs.Streams.{AppendsSome}
+use Rattle.semscan.specs.Words.{AreOtherWords}
+use Rattle.semscan.specs.Lines.{line_of}
+use Rattle.semscan.specs.Run.{usage, bad_pattern}
+use Rattle.semscan.proofs.Runs.{only_end, unread, ends_over_limit, ends_bad_target, ends_done, ends_cut, ends_short}
+use Rattle.semscan.proofs.run.run.Goals as goal
+
+pub returns-in_default-clause-ends : goal.returns-in_default-clause-ends
+returns-in_default-clause-ends g c h =
+    unread _ _ _ _ (λ input. usage (subst (λ (l : List (List ℕ)). AreOtherWords l) (ap (map string_bytes) c.deref.ensures.value) c.in_default.ensures.other))
+
+pub returns-in-Err-NoTree-clause-ends : goal.returns-in-Err-NoTree-clause-ends
+returns-in-Err-NoTree-clause-ends g c h =
+    unread _ _ _ _
+    (λ input. bad_pattern c.in-Some.word.now (sym (ap (map string_bytes) c.deref.ensures.value) ∙ c.in-Some.ensures.asked) (c.in-Err-NoTree.ensures.none (ap Err c.in-Err-NoTree.field-0-is)))
+
+pub returns-in-Err-NoTree-clause-only : goal.returns-in-Err-NoTree-clause-only
+returns-in-Err-NoTree-clause-only g c h bytes s lines e ends =
+    only_end _ _ _ _ _ (returns-in-Err-NoTree-clause-ends g c h) bytes s lines e ends
+
+pub returns-then-len-eq-MOST-clause-ends : goal.returns-then-len-eq-MOST-clause-ends
+returns-then-len-eq-MOST-clause-ends g c h =
+    let are = sym (ap (map string_bytes) c.deref.ensures.value) ∙ c.in-Some.ensures.asked in
+    ends_over_limit _ c.in-Some.word.now c.in-Ok.pattern.tree are c.in-Ok.ensures.pattern _ _ _ c.in-Ok-read_input.bytes.items c.in-Ok-read_input.ensures.bytes
+    (omega (arith, c.if-len-eq-MOST.true, c.len.ensures, c.in-Ok-read_input.bytes.ok.0))
+
+pub returns-then-len-eq-MOST-clause-only : goal.returns-then-len-eq-MOST-clause-only
+returns-then-len-eq-MOST-clause-only g c h bytes s lines e ends =
+    only_end _ _ _ _ _ (returns-then-len-eq-MOST-clause-ends g c h) bytes s lines e ends
+
+pub returns-in-Err-NoTree-read_file-clause-ends : goal.returns-in-Err-NoTree-read_file-clause-ends
+returns-in-Err-NoTree-read_file-clause-ends g c h =
+    let are = sym (ap (map string_bytes) c.deref.ensures.value) ∙ c.in-Some.ensures.asked in
+    ends_bad_target _ c.in-Some.word.now c.in-Ok.pattern.tree are c.in-Ok.ensures.pattern _ _ _ c.in-Ok-read_input.bytes.items c.in-Ok-read_input.ensures.bytes
+    (c.in-Ok-read_input.ensures.end (omega (arith, c.in-Ok-read_input.ensures.limit, c.if-len-eq-MOST.false, c.len.ensures)))
+    (omega (arith, c.in-Ok-read_input.ensures.limit, c.if-len-eq-MOST.false, c.len.ensures, c.in-Ok-read_input.bytes.ok.0))
+    (c.in-Err-NoTree-read_file.ensures.none (ap Err c.in-Err-NoTree-read_file.field-0-is))
+
+pub returns-in-Err-NoTree-read_file-clause-only : goal.returns-in-Err-NoTree-read_file-clause-only
+returns-in-Err-NoTree-read_file-clause-only g c h bytes s lines e ends =
+    only_end _ _ _ _ _ (returns-in-Err-NoTree-read_file-clause-ends g c h) bytes s lines e ends
+
+pub returns-in-Ok-print_all-clause-ends : goal.returns-in-Ok-print_all-clause-ends
+returns-in-Ok-print_all-clause-ends g c h =
+    let are = sym (ap (map string_bytes) c.deref.ensures.value) ∙ c.in-Some.ensures.asked in
+    let end = c.in-Ok-read_input.ensures.end (omega (arith, c.in-Ok-read_input.ensures.limit, c.if-len-eq-MOST.false, c.len.ensures)) in
+    ends_done _ c.in-Some.word.now c.in-Ok.pattern.tree are c.in-Ok.ensures.pattern _ _ c.in-Ok-read_input.bytes.items c.in-Ok-read_input.ensures.bytes end
+    c.in-Ok-read_file.file.tree c.in-Ok-read_file.ensures.file c.in-Ok-match_leaf.members c.in-Ok-match_leaf.ensures.leaf _ _ (subst (λ (l : List Span). Appends (g.K.Sink.written c.args.out.now) (g.K.Sink.written c.print_all.new.out) (concat (map line_of l))) c.as_slice.ensures c.in-Ok-print_all.ensures.ok)
+
+pub returns-in-Ok-print_all-clause-only : goal.returns-in-Ok-print_all-clause-only
+returns-in-Ok-print_all-clause-only g c h bytes s lines e ends =
+    only_end _ _ _ _ _ (returns-in-Ok-print_all-clause-ends g c h) bytes s lines e ends
+
+pub returns-in-Err-Memory-print_all-clause-whole_lines : goal.returns-in-Err-Memory-print_all-clause-whole_lines
+returns-in-Err-Memory-print_all-clause-whole_lines g c h =
+    let are = sym (ap (map string_bytes) c.deref.ensures.value) ∙ c.in-Some.ensures.asked in
+    let end = c.in-Ok-read_input.ensures.end (omega (arith, c.in-Ok-read_input.ensures.limit, c.if-len-eq-MOST.false, c.len.ensures)) in
+    inr (ends_short _ c.in-Some.word.now c.in-Ok.pattern.tree are c.in-Ok.ensures.pattern _ _ c.in-Ok-read_input.bytes.items c.in-Ok-read_input.ensures.bytes end
+    c.in-Ok-read_file.file.tree c.in-Ok-read_file.ensures.file c.in-Ok-match_leaf.members c.in-Ok-match_leaf.ensures.leaf _ _ (subst (λ (l : List Span). AppendsSome (g.K.Sink.written c.args.out.now) (g.K.Sink.written c.print_all.new.out) (map line_of l)) c.as_slice.ensures (c.in-Err-Memory-print_all.ensures.whole (ap Err c.in-Err-Memory-print_all.field-0-is))))
+
+pub returns-clause-front_written : goal.returns-clause-front_written
+returns-clause-front_written g c h =
+    let are = sym (ap (map string_bytes) c.deref.ensures.value) ∙ c.in-Some.ensures.asked in
+    let end = c.in-Ok-read_input.ensures.end (omega (arith, c.in-Ok-read_input.ensures.limit, c.if-len-eq-MOST.false, c.len.ensures)) in
+    ends_cut _ c.in-Some.word.now c.in-Ok.pattern.tree are c.in-Ok.ensures.pattern _ _ c.in-Ok-read_input.bytes.items c.in-Ok-read_input.ensures.bytes end
+    c.in-Ok-read_file.file.tree c.in-Ok-read_file.ensures.file c.in-Ok-match_leaf.members c.in-Ok-match_leaf.ensures.leaf _ _ (subst (λ (l : List Span). AppendsFront (g.K.Sink.written c.args.out.now) (g.K.Sink.written c.print_all.new.out) (concat (map line_of l))) c.as_slice.ensures c.in-Err-Failed-print_all.ensures.front)

@@ -1,0 +1,21 @@
+use Rattle.std.proofs.Common.{◌⊎◌, ◌↔◌, ◌+◌, ◌*◌, length}
+use Rattle.tree_match.specs.Sets.{Among}
+use Rattle.tree_match.specs.Ascending.{IsAscending}
+use Rattle.tree_match.specs.Members.{Member, member_cmp}
+use Rattle.tree_match.specs.States.{MemberFrom}
+use Rattle.tree_match.proofs.spread.+spread.Given as goal
+
+abbrev pub decreases-add_from : goal.decreases-add_from
+decreases-add_from l = 2 * l.splits
+
+abbrev pub decreases-add_each : goal.decreases-add_each
+decreases-add_each l = 2 * l.splits + 1
+
+abbrev pub decreases-add_each-loop-state : goal.decreases-add_each-loop-state
+decreases-add_each-loop-state l = length l.states
+
+abbrev pub invariant-add_each-loop-state : goal.invariant-add_each-loop-state
+invariant-add_each-loop-state l = record {
+  ordered : IsAscending member_cmp l.members;
+  gathers : (m : Member) → (Among l.members m ⊎ MemberFrom l.holder l.patterns l.states m) ↔ (Among l.initial.members m ⊎ MemberFrom l.holder l.patterns l.initial.states m);
+}
