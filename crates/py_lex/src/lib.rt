@@ -1,0 +1,14 @@
+//! From a text in Python to its tokens.
+#![tactic(auto)]
+
+mod class;
+mod columns;
+mod inside;
+mod keyword;
+mod layout;
+mod lex;
+mod table;
+mod token;
+
+pub use lex::tokens;
+pub use token::{FPart, PyToken, PyWord};
