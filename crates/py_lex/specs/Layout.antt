@@ -12,7 +12,7 @@ use Rattle.py_lex.specs.Tokens.{rules}
 use Rattle.py_lex.specs.Columns.{top}
 use Rattle.py_lex.specs.declared.class.Class.{Class}
 use Rattle.py_lex.specs.declared.class.Class.TheVariants.{FShort, FLong, Name, Number, Str, Mark, Opening, Closing, Meta, MetaDots, Blank, LineEnd, Splice}
-use Rattle.py_lex.specs.declared.class.Forms.TheVariants.{Neither}
+use Rattle.py_lex.specs.declared.class.Forms.TheVariants.{Both}
 use Rattle.py_lex.specs.declared.token.PyWord.{PyWord}
 use Rattle.py_lex.specs.declared.token.PyWord.TheVariants as words
 use Rattle.py_lex.specs.declared.token.PyToken.{PyToken, roll-PyToken}
@@ -126,8 +126,14 @@ abbrev pub step_by : Option PyWord → Layout → Class → List ℕ → Option 
 step_by (Some word) s class text = token_step s class word text
 step_by None s class text = Some (gap_step s class text)
 
+-- f-strings are not read yet: a text that has one has no tokens
+abbrev pub is_f_string : Class → Bool
+is_f_string FShort = true
+is_f_string FLong = true
+is_f_string _ = false
+
 abbrev pub step : Layout → ℕ → List ℕ → Option (Turn Layout PyToken)
-step s number text = step_by (word_of (class_of number) text) s (class_of number) text
+step s number text = if is_f_string (class_of number) then None else step_by (word_of (class_of number) text) s (class_of number) text
 
 -- the last line ends too, and then each open block
 abbrev pub last_newline : Line → ℕ → ℕ → List PyToken
@@ -144,7 +150,7 @@ finish s = option_map (ending s) (close s.at s.columns 0)
 -- ---- the tokens of a text
 
 abbrev pub py_language : Mode → Language Layout PyToken
-py_language mode = record { rules = λ s. rules mode Neither; step = step; finish = finish }
+py_language mode = record { rules = λ s. rules mode Both; step = step; finish = finish }
 
 -- reading begins behind a byte order mark, at the start of the first line
 abbrev pub first_line : List ℕ → Layout

@@ -225,6 +225,13 @@ fn gap_step(
     Ok(())
 }
 
+/// Whether a class is one of f-strings.
+fn is_f_string(class: Class) -> bool
+    ensures { result ≡ spec.is_f_string class }
+{
+    matches!(class, Class::FShort | Class::FLong)
+}
+
 /// Reads one lexeme, of the class that has the number.
 pub fn step(
     alloc: Global,
@@ -241,6 +248,9 @@ pub fn step(
     ensures moves { OnOk result (layout.new.at ≡ layout.old.at + length text.now) }
 {
     let class = class_at(number);
+    if is_f_string(class) {
+        return Err(LexFault::NoTokens);
+    }
     match word_of(class, text) {
         Some(word) => token_step(alloc, all, layout, class, word, text),
         None => gap_step(alloc, all, layout, class, text),

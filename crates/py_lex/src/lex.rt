@@ -3,7 +3,7 @@
 ghost use Rattle.std.specs.Prelude.{◌≡◌, ◌≤◌, List, length, IfOk};
 ghost use Rattle.lexing.specs.Automaton.{Accepts};
 ghost use Rattle.py_lex.specs.Tokens.{rules};
-ghost use Rattle.py_lex.specs.declared.class.Forms.TheVariants.{Neither};
+ghost use Rattle.py_lex.specs.declared.class.Forms.TheVariants.{Both};
 ghost use Rattle.py_lex.specs.Layout as spec;
 ghost use Rattle.py_lex.specs.declared.token.PyToken.{PyToken as token};
 
@@ -17,15 +17,19 @@ use std::alloc::Global;
 
 /// The automaton of the rules in a mode.
 fn automaton(mode: Mode) -> Automaton<'static>
-    ensures { Accepts result.table result.start (rules mode Neither) }
+    ensures { Accepts result.table result.start (rules mode Both) }
 {
     match mode {
-        Mode::Text => Automaton::new(&COLUMNS, &ROWS, WIDTH, STARTS[3]),
-        Mode::Pattern => Automaton::new(&COLUMNS, &ROWS, WIDTH, STARTS[7]),
+        Mode::Text => Automaton::new(&COLUMNS, &ROWS, WIDTH, STARTS[0]),
+        Mode::Pattern => Automaton::new(&COLUMNS, &ROWS, WIDTH, STARTS[4]),
     }
 }
 
 /// The tokens of a text, of which there is one list at most.
+///
+/// Words, numbers, strings, operators and delimiters are those of the Python reference, section "Lexical analysis". In a
+/// pattern, metavariables and the marks `<...` and `...>` are tokens too. f-strings are not read yet: a text that has
+/// one has no tokens, in either mode. `NoTokens` comes just where the text has no list of tokens.
 pub fn tokens(alloc: Global, text: &str, mode: Mode) -> Result<List<PyToken>, LexFault>
     requires { length text.now ≤ 1000000 }
     ensures given { IfOk result (λ l. spec.IsTokensOf mode text.now l) }
