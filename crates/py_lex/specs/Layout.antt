@@ -147,7 +147,7 @@ ending s t = last_newline s.line s.at s.depth ++ t.tokens ++ token words.End [] 
 abbrev pub finish : Layout → Option (List PyToken)
 finish s = option_map (ending s) (close s.at s.columns 0)
 
--- ---- the tokens of a text
+-- ---- the tokens of a text, which has none where it has an f-string
 
 abbrev pub py_language : Mode → Language Layout PyToken
 py_language mode = record { rules = λ s. rules mode Both; step = step; finish = finish }

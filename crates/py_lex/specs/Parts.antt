@@ -1,4 +1,4 @@
--- The parts of an f-string, and the readers of texts that have f-strings.
+-- The parts of an f-string, and the readers of texts that have f-strings. This is what is to be proved next: no contract cites it yet.
 use Rattle.std.specs.Prelude.{◌≡◌, ℕ, zero, suc, ◌+◌, ◌-◌, ◌==◌, ◌||◌, if◌then◌else◌, List, [], ◌∷◌, length, slice_range, encode_utf8_all, Option, Some}
 use Rattle.std.specs.Str.{chars, IsCharBoundary}
 use Rattle.node_tree.specs.declared.view.Mode.{Mode}

@@ -69,7 +69,7 @@ prefix = maybe (any_of (letter_r ∷ letter_b ∷ letter (codes "U") (codes "u")
 abbrev pub escape : Expression
 escape = Then (the 92) anything
 
--- within `'`: no line end but behind a backslash, which takes a digits_first CR LF along
+-- within `'`: no line end but behind a backslash, which takes a whole CR LF along
 abbrev pub short_quote : Expression
 short_quote = any_of (but (10 ∷ 39 ∷ 92 ∷ []) ∷ escape ∷ exactly (92 ∷ 13 ∷ 10 ∷ []) ∷ [])
 

@@ -1,4 +1,6 @@
 //! Within an f-string: its text and its fields.
+//!
+//! `step` is the first part of the reader of f-strings, which is not written yet; nothing calls it.
 
 ghost use Rattle.std.specs.Prelude.{◌≡◌, ◌≤◌, ◌+◌, ◌<◌, List, [], ◌∷◌, ◌++◌, length, OnOk};
 ghost use Rattle.py_lex.specs.Inside as spec;

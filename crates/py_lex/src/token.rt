@@ -12,7 +12,7 @@ pub enum PyWord {
     Number,
     /// A string with its prefix and quotes.
     Str,
-    /// An f-string.
+    /// An f-string. None is read yet.
     FStr,
     /// An operator or a delimiter; in a pattern also `<...` and `...>`.
     Op,
@@ -31,6 +31,9 @@ pub enum PyWord {
 }
 
 /// A token: its word, its text as written, the bytes that it takes in the text, and the parts of an f-string.
+///
+/// The text of `Newline`, `Indent`, `Dedent` and `End` is empty. A `Newline` takes the bytes of its line end, or none at
+/// the text's end. An `Indent` or a `Dedent` stands before the first token of its line and takes no bytes.
 #[cycle(token)]
 #[derive(Drop)]
 pub struct PyToken {
