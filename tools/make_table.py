@@ -342,14 +342,14 @@ left w e = record { word = w; spelled = e }
 
 """
     for part, chunk in zip(parts, chunks):
-        text += f'unfoldable {part} : List Entry\n{part} =\n    ' + '\n    ∷ '.join(chunk) + '\n    ∷ []\n\n'
-    text += 'unfoldable entries : List Entry\nentries = ' + ' ++ ('.join(parts) + ')' * (len(parts) - 1) + '\n\n'
+        text += f'unfoldable pub {part} : List Entry\n{part} =\n    ' + '\n    ∷ '.join(chunk) + '\n    ∷ []\n\n'
+    text += 'unfoldable pub entries : List Entry\nentries = ' + ' ++ ('.join(parts) + ')' * (len(parts) - 1) + '\n\n'
     for part in parts:
         text += f'rows_of_{part} : rows_right the_table entries {part} ≡ true\nunfolding {opened} row_right\nrows_of_{part} = refl\n\n'
     joined = f'rows_of_{parts[-1]}'
     for part in reversed(parts[:-1]):
         joined = f'rows_append the_table entries {part} _ rows_of_{part} ({joined})'
-    text += f'rows : rows_right the_table entries entries ≡ true\nunfolding entries\nrows = {joined}\n\n'
+    text += f'pub rows : rows_right the_table entries entries ≡ true\nunfolding entries\nrows = {joined}\n\n'
     text += 'is_whole_table : IsWhole the_table\nunfolding is_whole\nis_whole_table = whole_by the_table refl\n'
     for number, (start, state) in enumerate(starts):
         place = state * width

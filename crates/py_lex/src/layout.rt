@@ -1,0 +1,270 @@
+//! Lines and their columns.
+
+ghost use Rattle.std.specs.Prelude.{◌≡◌, ◌≤◌, ◌+◌, ◌*◌, ◌<◌, ℕ, List, [], ◌∷◌, ◌++◌, length, drop, map, OnOk, reverse, Some, Err, ◌≢◌};
+ghost use Rattle.node_tree.specs.declared.fault.LexFault.TheVariants.{NoTokens};
+ghost use Rattle.py_lex.specs.Layout as spec;
+ghost use Rattle.py_lex.specs.declared.token.PyToken.{PyToken};
+
+use crate::class::{Class, class_at};
+use crate::columns::Columns;
+use crate::keyword::is_keyword;
+use crate::token::{PyToken, PyWord};
+use node_tree::{LexFault, List, Span, Text};
+use std::alloc::Global;
+
+/// What of a line was read.
+#[derive(Clone, Copy, Debug, PartialEq, Eq)]
+pub enum Line {
+    /// Blanks, which say its column.
+    Start,
+    /// Blanks and a backslash, which fixed its column.
+    Fixed,
+    /// A token.
+    Inside,
+}
+
+/// Where reading stands.
+#[derive(Drop)]
+pub struct Layout {
+    pub at: usize,
+    pub columns: Columns,
+    pub depth: usize,
+    pub column: usize,
+    pub line: Line,
+    pub first: bool,
+}
+
+fn push(
+    alloc: Global,
+    all: &mut List<PyToken>,
+    word: PyWord,
+    text: &str,
+    from: usize,
+    len: usize,
+) -> Result<(), LexFault>
+    requires { from + len ≤ 1000000 }
+    ensures ok { OnOk result (all.new ≡ all.old ++ spec.token word text.now from len ∷ []) }
+    ensures memory { result ≢ Err NoTokens }
+{
+    all.push(PyToken {
+        word,
+        text: Text::from_str(alloc, text)?,
+        span: Span {
+            from: from as u32,
+            to: (from + len) as u32,
+        },
+        parts: List::new(alloc),
+    })?;
+    Ok(())
+}
+
+/// Closes the blocks that are deeper than a column.
+fn close(
+    alloc: Global,
+    all: &mut List<PyToken>,
+    columns: &mut Columns,
+    at: usize,
+    column: usize,
+) -> Result<(), LexFault>
+    requires { at ≤ 1000000 }
+    ensures { spec.Turns (spec.close at columns.old column) all.old all.new columns.new result }
+{
+    'deeper: while column < columns.top() {
+        columns.pop();
+        push(alloc, all, PyWord::Dedent, "", at, 0)?;
+    }
+    if columns.top() == column {
+        Ok(())
+    } else {
+        Err(LexFault::NoTokens)
+    }
+}
+
+/// Opens a block or closes some, as the column of a line says.
+fn open_line(
+    alloc: Global,
+    all: &mut List<PyToken>,
+    columns: &mut Columns,
+    at: usize,
+    column: usize,
+) -> Result<(), LexFault>
+    requires { at ≤ 1000000 }
+    ensures { spec.Turns (spec.open_line at columns.old column) all.old all.new columns.new result }
+{
+    if columns.top() < column {
+        columns.push(column)?;
+        push(alloc, all, PyWord::Indent, "", at, 0)
+    } else {
+        close(alloc, all, columns, at, column)
+    }
+}
+
+/// How deep blanks lead from a column.
+fn column_after(column: usize, blanks: &[u8]) -> usize
+    requires { column + 8 * length blanks.now ≤ 100000000 }
+    ensures value { result ≡ spec.column_after column blanks.now }
+    ensures bound { result ≤ column + 8 * length blanks.now }
+{
+    let mut column = column;
+    for b in blanks {
+        column = match *b {
+            b'\t' => (column / 8 + 1) * 8,
+            0x0c => 0,
+            _ => column + 1,
+        };
+    }
+    column
+}
+
+/// Opens or closes blocks at the first token of a line.
+fn begin(alloc: Global, all: &mut List<PyToken>, layout: &mut Layout) -> Result<(), LexFault>
+    requires { layout.old.at ≤ 1000000 }
+    ensures turns { spec.Turns (spec.begin layout.old) all.old all.new layout.new result }
+    ensures same { OnOk result (layout.new.at ≡ layout.old.at) }
+    ensures depth { OnOk result (layout.new.depth ≡ layout.old.depth) }
+    ensures column { OnOk result (layout.new.column ≡ layout.old.column) }
+{
+    if layout.line == Line::Inside {
+        return Ok(());
+    }
+    let column = if layout.first { 0 } else { layout.column };
+    open_line(alloc, all, &mut layout.columns, layout.at, column)?;
+    layout.line = Line::Inside;
+    layout.first = false;
+    Ok(())
+}
+
+/// The word of a token, or `None` for what stands between tokens.
+pub fn word_of(class: Class, text: &str) -> Option<PyWord>
+    ensures { result ≡ spec.word_of class text.now }
+{
+    match class {
+        Class::Name => Some(if is_keyword(text) {
+            PyWord::Keyword
+        } else {
+            PyWord::Name
+        }),
+        Class::Number => Some(PyWord::Number),
+        Class::Str => Some(PyWord::Str),
+        Class::FShort | Class::FLong => Some(PyWord::FStr),
+        Class::Mark | Class::Opening | Class::Closing => Some(PyWord::Op),
+        Class::Meta => Some(PyWord::Meta),
+        Class::MetaDots => Some(PyWord::MetaDots),
+        _ => None,
+    }
+}
+
+/// The brackets that are open after a token.
+pub fn depth_after(class: Class, depth: usize) -> usize
+    requires { depth ≤ 1000000 }
+    ensures value { result ≡ spec.depth_after class depth }
+    ensures bound { result ≤ depth + 1 }
+{
+    match class {
+        Class::Opening => depth + 1,
+        Class::Closing => depth.saturating_sub(1),
+        _ => depth,
+    }
+}
+
+/// A token of a line.
+#[tactic(auto, unfolding(crate::specs::Layout::token_step))]
+fn token_step(
+    alloc: Global,
+    all: &mut List<PyToken>,
+    layout: &mut Layout,
+    class: Class,
+    word: PyWord,
+    text: &str,
+) -> Result<(), LexFault>
+    requires room { layout.old.at + length text.now ≤ 1000000 }
+    requires bounded { spec.IsBounded layout.old }
+    requires some { 0 < length text.now }
+    ensures turns { spec.Turns (spec.token_step layout.old class word text.now) all.old all.new layout.new result }
+    ensures bounded { OnOk result (spec.IsBounded layout.new) }
+    ensures moves { OnOk result (layout.new.at ≡ layout.old.at + length text.now) }
+{
+    begin(alloc, all, layout)?;
+    push(alloc, all, word, text, layout.at, text.len())?;
+    layout.depth = depth_after(class, layout.depth);
+    layout.at += text.len();
+    Ok(())
+}
+
+/// What stands between tokens.
+fn gap_step(
+    alloc: Global,
+    all: &mut List<PyToken>,
+    layout: &mut Layout,
+    class: Class,
+    text: &str,
+) -> Result<(), LexFault>
+    requires room { layout.old.at + length text.now ≤ 1000000 }
+    requires bounded { spec.IsBounded layout.old }
+    ensures turns { spec.Turns (Some (spec.gap_step layout.old class text.now)) all.old all.new layout.new result }
+    ensures bounded { OnOk result (spec.IsBounded layout.new) }
+    ensures moves { OnOk result (layout.new.at ≡ layout.old.at + length text.now) }
+{
+    match (class, layout.line) {
+        (Class::Blank, Line::Start) => layout.column = column_after(layout.column, text.as_bytes()),
+        (Class::LineEnd, Line::Inside) => {
+            if layout.depth == 0 {
+                push(alloc, all, PyWord::Newline, "", layout.at, text.len())?;
+                layout.line = Line::Start;
+                layout.column = 0;
+            }
+        }
+        (Class::LineEnd, _) => {
+            layout.line = Line::Start;
+            layout.column = 0;
+        }
+        (Class::Splice, Line::Start) => layout.line = Line::Fixed,
+        _ => {}
+    }
+    layout.at += text.len();
+    Ok(())
+}
+
+/// Whether a class is one of f-strings.
+fn is_f_string(class: Class) -> bool
+    ensures { result ≡ spec.is_f_string class }
+{
+    matches!(class, Class::FShort | Class::FLong)
+}
+
+/// Reads one lexeme, of the class that has the number.
+pub fn step(
+    alloc: Global,
+    all: &mut List<PyToken>,
+    layout: &mut Layout,
+    number: u16,
+    text: &str,
+) -> Result<(), LexFault>
+    requires room { layout.old.at + length text.now ≤ 1000000 }
+    requires bounded { spec.IsBounded layout.old }
+    requires some { 0 < length text.now }
+    ensures turns { spec.Turns (spec.step layout.old number text.now) all.old all.new layout.new result }
+    ensures bounded { OnOk result (spec.IsBounded layout.new) }
+    ensures moves { OnOk result (layout.new.at ≡ layout.old.at + length text.now) }
+{
+    let class = class_at(number);
+    if is_f_string(class) {
+        return Err(LexFault::NoTokens);
+    }
+    match word_of(class, text) {
+        Some(word) => token_step(alloc, all, layout, class, word, text),
+        None => gap_step(alloc, all, layout, class, text),
+    }
+}
+
+/// The last tokens.
+pub fn finish(alloc: Global, all: &mut List<PyToken>, layout: &mut Layout) -> Result<(), LexFault>
+    requires { layout.old.at ≤ 1000000 }
+    ensures { spec.Ends (spec.finish layout.old) all.old all.new result }
+{
+    if layout.line == Line::Inside && layout.depth == 0 {
+        push(alloc, all, PyWord::Newline, "", layout.at, 0)?;
+    }
+    close(alloc, all, &mut layout.columns, layout.at, 0)?;
+    push(alloc, all, PyWord::End, "", layout.at, 0)
+}
