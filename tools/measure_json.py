@@ -1,12 +1,12 @@
 #!/usr/bin/env python3
 """Measures `semscan match json 1` beside Python's json.loads on generated files of 1,000,000 bytes.
 
-Run it at the top of the repository. It prints, for each file, the times of both without their start-up (the least of
-several runs, less the least of as many runs on `1`), the ratio of the two, and the program's peak memory a source byte.
+It measures the program that `./semscan` built. It prints, for each file, the time of a whole run without its start-up (the
+least of several runs, less the least of as many runs on `1`), the time that Python takes to read the same file and parse it
+(the least of as many, by Python's own clock), the ratio of the two, and the program's peak memory a source byte.
 """
 import os
 import random
-import resource
 import subprocess
 import sys
 import tempfile
@@ -40,6 +40,7 @@ def texts():
 
 
 def least(command, path):
+    """The shortest of several runs of the program on a file, in seconds."""
     best = None
     for _ in range(RUNS):
         with open(path, 'rb') as source:
@@ -50,6 +51,17 @@ def least(command, path):
             sys.exit('%s ends with %d on %s' % (command[0], status, path))
         best = took if best is None else min(best, took)
     return best
+
+
+def least_parse(path):
+    """The shortest of several parses of a file by json.loads in new processes, reading included, in seconds."""
+    code = ('import sys, json, time; start = time.perf_counter(); json.loads(sys.stdin.buffer.read()); '
+            'print(time.perf_counter() - start)')
+    times = []
+    for _ in range(RUNS):
+        with open(path, 'rb') as source:
+            times.append(float(subprocess.run([sys.executable, '-c', code], stdin=source, capture_output=True).stdout))
+    return min(times)
 
 
 def peak(command, path):
@@ -66,19 +78,17 @@ def peak(command, path):
 
 def main():
     ours = [os.path.abspath(PROGRAM), 'match', 'json', '1']
-    theirs = [sys.executable, '-c', 'import sys, json; json.loads(sys.stdin.buffer.read())']
     with tempfile.TemporaryDirectory() as folder:
         small = os.path.join(folder, 'small')
         with open(small, 'w') as f:
             f.write('1')
-        our_start, their_start = least(ours, small), least(theirs, small)
-        our_room = peak(ours, small)
-        print('start-up: semscan %.1f ms, python %.1f ms' % (1e3 * our_start, 1e3 * their_start))
+        our_start, our_room = least(ours, small), peak(ours, small)
+        print('start-up of semscan: %.1f ms' % (1e3 * our_start))
         for name, text in texts():
             path = os.path.join(folder, name)
             with open(path, 'w') as f:
                 f.write(text)
-            a, b = least(ours, path) - our_start, least(theirs, path) - their_start
+            a, b = least(ours, path) - our_start, least_parse(path)
             room = (peak(ours, path) - our_room) / len(text)
             print('%-8s %7d bytes: semscan %6.1f ms, json.loads %6.1f ms, ratio %.2f, %3.0f bytes of memory a byte' % (
                 name, len(text), 1e3 * a, 1e3 * b, a / b, room))
