@@ -54,3 +54,7 @@ IsCovered states at b = (s : State) × Among states s × (s.floating ≡ true) �
 -- the range of the holder, with a binding to which the patterns lead from one of the states
 abbrev pub MemberFrom : Node → List Node → List State → Member → Type 0
 MemberFrom h ps states m = (m.0 ≡ span_of h) × AnyFrom h ps states ([], m.1)
+
+-- the range of the holder, with a binding to which the patterns lead from that place, or where it floats from a later one too
+abbrev pub MemberAfter : Bool → Node → List Node → ℕ → List Bound → Member → Type 0
+MemberAfter floating h ps at b m = (m.0 ≡ span_of h) × Goes floating h ps (drop at (kids_of h)) b ([], m.1)

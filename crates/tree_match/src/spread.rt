@@ -3,13 +3,13 @@
 //! Along the kids of the node the states after a new name are followed one by one, each to its end. So a search that finds
 //! too many members stops before it has made all states.
 
-ghost use Rattle.std.specs.Prelude.{◌≡◌, ◌↔◌, ◌<◌, List as list, [], length, drop, OnOk, IfOk};
+ghost use Rattle.std.specs.Prelude.{◌≡◌, ◌↔◌, ◌<◌, [], ◌∷◌, false, length, drop, OnOk, IfOk};
 ghost use Rattle.node_tree.specs.Tree.{kind_of};
 ghost use Rattle.tree_match.specs.Sets.{AddsUpTo};
 ghost use Rattle.tree_match.specs.Kinds.{role_of as role};
 ghost use Rattle.tree_match.specs.declared.class.Role.TheVariants.{Plain};
 ghost use Rattle.tree_match.specs.Fronts.{End};
-ghost use Rattle.tree_match.specs.States.{AnyFrom, MemberFrom};
+ghost use Rattle.tree_match.specs.States.{AnyFrom, MemberFrom, MemberAfter};
 ghost use Rattle.tree_match.specs.Ascending.{IsAscending};
 ghost use Rattle.tree_match.specs.Members.{member_cmp, MemberAt};
 
@@ -33,7 +33,16 @@ fn names_of(states: &[State<'_>]) -> usize {
     }
 }
 
-// The patterns that were taken and where they lead: all of them, or those up to a new name that leads to several states.
+// Whether the pattern is a named run that may begin at any later place.
+fn is_run_anywhere(pattern: &Node, states: &[State<'_>]) -> bool {
+    match states {
+        [] => false,
+        [first, ..] => first.floating && role_of(pattern.kind) == Role::MetaDots,
+    }
+}
+
+// The patterns that were taken and where they lead: all of them, those up to a new name that leads to several states, or
+// those before a named run that may begin anywhere.
 fn follow<'t>(
     alloc: Global,
     patterns: &'t [Node],
@@ -45,6 +54,9 @@ fn follow<'t>(
     ensures part { IfOk result (λ r. r.0 < length patterns.now → 0 < splits) }
 {
     for (i, pattern) in patterns.iter().enumerate() {
+        if splits > 0 && is_run_anywhere(pattern, states.as_slice()) {
+            return Ok((i, states));
+        }
         let names = names_of(states.as_slice());
         states = step(alloc, pattern, holder, &states)?;
         if splits > 0 && states.len() > 1 && names_of(states.as_slice()) > names {
@@ -98,12 +110,86 @@ fn add_each<'t>(
 {
     states.reverse();
     while let Some(state) = states.pop() {
-        let one = alone(alloc, state)?;
-        add_from(alloc, patterns, holder, one, splits, members, most)?;
+        add_state(alloc, patterns, holder, state, splits, members, most)?;
         if members.len() > most {
             return Ok(());
         }
     }
+    Ok(())
+}
+
+// The same from one state: place by place where it floats.
+#[cycle(spread)]
+fn add_state<'t>(
+    alloc: Global,
+    patterns: &'t [Node],
+    holder: &'t Node,
+    state: State<'t>,
+    splits: usize,
+    members: &mut List<(Span, Trail<'t>)>,
+    most: usize,
+) -> Result<(), Memory>
+    requires { IsAscending member_cmp members.old }
+    ensures ordered { IsAscending member_cmp members.new }
+    ensures added { OnOk result (AddsUpTo most members.old members.new (λ m. MemberFrom holder.now patterns.now (state.entry ∷ []) m)) }
+{
+    if !state.floating {
+        let one = alone(alloc, state)?;
+        add_from(alloc, patterns, holder, one, splits, members, most)?;
+        return Ok(());
+    }
+    let end = holder.kids.len();
+    for at in state.at..end {
+        add_at(
+            alloc,
+            patterns,
+            holder,
+            at,
+            &state.trail,
+            splits,
+            members,
+            most,
+        )?;
+        if members.len() > most {
+            return Ok(());
+        }
+    }
+    add_at(
+        alloc,
+        patterns,
+        holder,
+        end,
+        &state.trail,
+        splits,
+        members,
+        most,
+    )?;
+    Ok(())
+}
+
+// The same from one place.
+#[cycle(spread)]
+fn add_at<'t>(
+    alloc: Global,
+    patterns: &'t [Node],
+    holder: &'t Node,
+    at: usize,
+    trail: &Trail<'t>,
+    splits: usize,
+    members: &mut List<(Span, Trail<'t>)>,
+    most: usize,
+) -> Result<(), Memory>
+    requires { IsAscending member_cmp members.old }
+    ensures ordered { IsAscending member_cmp members.new }
+    ensures added { OnOk result (AddsUpTo most members.old members.new (λ m. MemberAfter false holder.now patterns.now at trail.now m)) }
+{
+    let state = State {
+        at,
+        floating: false,
+        trail: trail.copy()?,
+    };
+    let one = alone(alloc, state)?;
+    add_from(alloc, patterns, holder, one, splits, members, most)?;
     Ok(())
 }
 
