@@ -1,4 +1,4 @@
-//! `semscan`: where a pattern matches.
+//! `semscan`: where a pattern that looks like code matches.
 #![tactic(auto)]
 
 ghost use Rattle.std.specs.Prelude.{◌≡◌, ◌<◌};

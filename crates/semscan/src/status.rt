@@ -1,5 +1,8 @@
 //! How a run ends.
 
+ghost use Rattle.std.specs.Prelude.{◌≡◌};
+ghost use Rattle.semscan.specs.Status.{number_of};
+
 /// What has a limit, of which there was too much.
 #[derive(Clone, Copy, Debug, PartialEq, Eq)]
 pub enum LimitKind {
@@ -32,7 +35,9 @@ pub enum Status {
 
 impl Status {
     /// The number that the program ends with.
-    pub fn number(self) -> u8 {
+    pub fn number(self) -> u8
+        ensures { result ≡ number_of self }
+    {
         match self {
             Status::Done => 0,
             Status::Usage => 2,
