@@ -1,8 +1,9 @@
 //! `semscan`: where a pattern that looks like code matches.
 #![tactic(auto)]
 
-ghost use Rattle.std.specs.Prelude.{◌≡◌, ◌<◌};
+ghost use Rattle.std.specs.Prelude.{◌≡◌, ◌<◌, map, string_bytes};
 ghost use Rattle.scan_world.specs.Faults.{Rose};
+ghost use Rattle.semscan.specs.Run.{IsAnswer, Printed};
 
 mod adapters;
 mod input;
@@ -63,6 +64,7 @@ fn counted<S: Source, K: Sink, L: Ledger>(
     requires name { blank.name ≡ L.name }
     requires parts { blank.parts ≡ L.parts }
     requires some { 0 < L.parts }
+    ensures ends { IsAnswer result → Printed (map string_bytes words.now.items) (S.left input.old) (K.written out.old) (K.written out.new) result }
     ensures input_fault { result ≡ Status.InputFault → Rose (S.faults input.old) (S.faults input.new) }
     ensures output_fault { result ≡ Status.OutputFault → Rose (K.faults out.old) (K.faults out.new) }
 {
