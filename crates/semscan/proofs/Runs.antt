@@ -6,7 +6,8 @@ use Rattle.std.specs.Io.KnownBytes.{Consumes, IsAtEnd, Appends}
 use Rattle.std.proofs.lemmas.List.{append-nil}
 use Rattle.node_tree.specs.declared.node.Node.{Node}
 use Rattle.node_tree.specs.declared.view.Pattern.{Pattern}
-use Rattle.node_tree.specs.declared.view.Lang.TheVariants.{Json}
+use Rattle.node_tree.specs.declared.view.Lang.{Lang}
+use Rattle.node_tree.specs.declared.view.Lang.TheVariants as langs
 use Rattle.node_tree.specs.declared.view.Mode.TheVariants.{Text}
 use Rattle.pattern_read.proofs.Trees.{one_tree}
 use Rattle.pattern_read.specs.Patterns.{IsPatternOf}
@@ -20,34 +21,71 @@ use Rattle.tree_match.proofs.Exclusion.{few_or_more, whole_once}
 use Rattle.semscan.specs.declared.status.Status.{Status}
 use Rattle.semscan.specs.declared.status.Status.TheVariants.{OverLimit, BadTarget, TooMany, Done}
 use Rattle.semscan.specs.declared.status.LimitKind.TheVariants.{Target}
-use Rattle.semscan.specs.Words.{AreMatchWords}
-use Rattle.semscan.specs.Reading.{IsFileOf, HasNoFile}
+use Rattle.semscan.specs.Words.{lang_word, IsMatched, AreMatchWords}
+use Rattle.semscan.specs.Reading.{IsTreeIn, IsFileOf, HasNoFile}
 use Rattle.semscan.specs.Lines.{line_of}
 use Rattle.semscan.specs.Streams.{Tells, AppendsSome}
 use Rattle.semscan.specs.Run.{AskFor, HasNoPattern, Ends, usage, bad_pattern, over_limit, bad_target, too_many, done, Printed, PrintedFront, PrintedSome}
 use Rattle.semscan.proofs.Streaming.{nothing_written}
 
-same_words : (words : List (List ℕ)) (a b : List ℕ) → AreMatchWords words a → AreMatchWords words b → a ≡ b
-same_words words a b p q = cc
+-- ---- words ask for one language and one pattern, and an input has one tree
+
+same_lang : (a b : Lang) → IsMatched a → IsMatched b → lang_word a ≡ lang_word b → a ≡ b
+same_lang langs.Json langs.Json p q e = refl
+
+same_words : (words : List (List ℕ)) (k l : Lang) (a b : List ℕ) → AreMatchWords words k a → AreMatchWords words l b → (k ≡ l) × (a ≡ b)
+same_words words k l a b p q =
+    let e : lang_word k ≡ lang_word l = second (sym p.are ∙ q.are) in
+    (same_lang k l p.matched q.matched e, third (sym p.are ∙ q.are))
+  where
+    second : {u v w x y z : List ℕ} → u ∷ v ∷ w ∷ [] ≡ x ∷ y ∷ z ∷ [] → v ≡ y
+    second e = cc
+
+    third : {u v w x y z : List ℕ} → u ∷ v ∷ w ∷ [] ≡ x ∷ y ∷ z ∷ [] → w ≡ z
+    third e = cc
+
+-- the words that were looked at are those that were given
+pub asked : (given words : List (List ℕ)) (lang : Lang) (text : List ℕ) → words ≡ given → AreMatchWords words lang text → AreMatchWords given lang text
+asked given words lang text e are = subst (λ (l : List (List ℕ)). AreMatchWords l lang text) e are
 
 -- words whose pattern is refused ask for none
-refused : (words : List (List ℕ)) (text : List ℕ) (pattern : Pattern) → AreMatchWords words text → HasNoPattern text → AskFor words pattern → ⊥
-refused words text pattern are none ask =
-    let P : List ℕ → Type 0 = λ t. IsPatternOf Json t pattern in
-    none pattern (subst P (same_words words ask.text text ask.are_words are) ask.is_pattern)
+refused : (words : List (List ℕ)) (k l : Lang) (text : List ℕ) (pattern : Pattern) → AreMatchWords words k text → HasNoPattern k text → AskFor words l pattern → ⊥
+refused words k l text pattern are none ask =
+    let same = same_words words l k ask.text text ask.are_words are in
+    let P : Lang → Type 0 = λ x. IsPatternOf x ask.text pattern in
+    let Q : List ℕ → Type 0 = λ t. IsPatternOf k t pattern in
+    none pattern (subst Q same.1 (subst P same.0 ask.is_pattern))
 
--- words ask for one pattern
-same_pattern : (words : List (List ℕ)) (p q : Pattern) → AskFor words p → AskFor words q → p ≡ q
-same_pattern words p q a b =
-    let P : List ℕ → Type 0 = λ t. IsPatternOf Json t q in
-    one_pattern Json a.text p q a.is_pattern (subst P (same_words words b.text a.text b.are_words a.are_words) b.is_pattern)
+one_lang : (words : List (List ℕ)) (k l : Lang) (p q : Pattern) → AskFor words k p → AskFor words l q → k ≡ l
+one_lang words k l p q a b = (same_words words k l a.text b.text a.are_words b.are_words).0
+
+same_pattern : (words : List (List ℕ)) (k l : Lang) (p q : Pattern) → AskFor words k p → AskFor words l q → p ≡ q
+same_pattern words k l p q a b =
+    let same = same_words words l k b.text a.text b.are_words a.are_words in
+    let P : Lang → Type 0 = λ x. IsPatternOf x b.text q in
+    let Q : List ℕ → Type 0 = λ t. IsPatternOf k t q in
+    one_pattern k a.text p q a.is_pattern (subst Q same.1 (subst P same.0 b.is_pattern))
+
+same_tree : (lang : Lang) (text : List ℕ) (t u : Node) → IsTreeIn lang text t → IsTreeIn lang text u → t ≡ u
+same_tree langs.Json text t u a b = one_tree Text text t u a b
+same_tree langs.Python text t u a b = absurd a
+same_tree langs.C text t u a b = absurd a
+same_tree langs.Regex text t u a b = absurd a
+
+other_lang : (k l : Lang) (input : List ℕ) (t : Node) → k ≡ l → IsFileOf k input t → IsFileOf l input t
+other_lang k l input t e f = subst (λ (x : Lang). IsFileOf x input t) e f
 
 -- what is said of one pattern and file holds of the others that the words and the input give
-same_leaf : (words : List (List ℕ)) (input : List ℕ) (p q : Pattern) (t u : Node) (leaf : Leaf) → AskFor words p → AskFor words q → IsFileOf input t → IsFileOf input u → IsLeaf (IsMember q u) leaf → IsLeaf (IsMember p t) leaf
-same_leaf words input p q t u leaf a b f g h =
+same_leaf : (words : List (List ℕ)) (input : List ℕ) (k l : Lang) (p q : Pattern) (t u : Node) (leaf : Leaf) → AskFor words k p → AskFor words l q → IsFileOf k input t → IsFileOf l input u → IsLeaf (IsMember q u) leaf → IsLeaf (IsMember p t) leaf
+same_leaf words input k l p q t u leaf a b f g h =
     let P : Pattern → Type 0 = λ x. IsLeaf (IsMember x u) leaf in
     let Q : Node → Type 0 = λ x. IsLeaf (IsMember p x) leaf in
-    subst Q (one_tree Text input u t g.is_tree f.is_tree) (subst P (same_pattern words q p b a) h)
+    let g' = other_lang l k input u (one_lang words l k q p b a) g in
+    subst Q (same_tree k input u t g'.is_tree f.is_tree) (subst P (same_pattern words l k q p b a) h)
+
+-- an input without a file of the language that is asked for has none of a language that is asked for too
+no_file : (words : List (List ℕ)) (input : List ℕ) (k l : Lang) (p q : Pattern) (u : Node) → AskFor words k p → AskFor words l q → HasNoFile k input → IsFileOf l input u → ⊥
+no_file words input k l p q u a b none f = none u (other_lang l k input u (one_lang words l k q p b a) f)
 
 -- the status and the lines of a run
 abbrev Same : Status → Status → List (List ℕ) → List (List ℕ) → Type 0
@@ -56,45 +94,45 @@ Same s t ls ms = (t ≡ s) × (ms ≡ ls)
 module _ (words : List (List ℕ)) (input : List ℕ) where
   pub once : (s t : Status) (ls ms : List (List ℕ)) → Ends words input s ls → Ends words input t ms → Same s t ls ms
   once _ _ _ _ (usage other) (usage _) = (refl, refl)
-  once _ _ _ _ (usage other) (bad_pattern text are _) = absurd (other text are)
-  once _ _ _ _ (usage other) (over_limit _ ask _) = absurd (other ask.text ask.are_words)
-  once _ _ _ _ (usage other) (bad_target _ ask _ _) = absurd (other ask.text ask.are_words)
-  once _ _ _ _ (usage other) (too_many _ _ ask _ _) = absurd (other ask.text ask.are_words)
-  once _ _ _ _ (usage other) (done _ _ _ ask _ _) = absurd (other ask.text ask.are_words)
-  once _ _ _ _ (bad_pattern text are none) (usage other) = absurd (other text are)
-  once _ _ _ _ (bad_pattern text are none) (bad_pattern _ _ _) = (refl, refl)
-  once _ _ _ _ (bad_pattern text are none) (over_limit q ask _) = absurd (refused words text q are none ask)
-  once _ _ _ _ (bad_pattern text are none) (bad_target q ask _ _) = absurd (refused words text q are none ask)
-  once _ _ _ _ (bad_pattern text are none) (too_many q _ ask _ _) = absurd (refused words text q are none ask)
-  once _ _ _ _ (bad_pattern text are none) (done q _ _ ask _ _) = absurd (refused words text q are none ask)
-  once _ _ _ _ (over_limit p ask long) (usage other) = absurd (other ask.text ask.are_words)
-  once _ _ _ _ (over_limit p ask long) (bad_pattern text are none) = absurd (refused words text p are none ask)
-  once _ _ _ _ (over_limit p ask long) (over_limit _ _ _) = (refl, refl)
-  once _ _ _ _ (over_limit p ask long) (bad_target _ _ small _) = absurd (omega arith)
-  once _ _ _ _ (over_limit p ask long) (too_many _ _ _ file _) = absurd (omega (arith, file.small))
-  once _ _ _ _ (over_limit p ask long) (done _ _ _ _ file _) = absurd (omega (arith, file.small))
-  once _ _ _ _ (bad_target p ask small none) (usage other) = absurd (other ask.text ask.are_words)
-  once _ _ _ _ (bad_target p ask small none) (bad_pattern text are nothing) = absurd (refused words text p are nothing ask)
-  once _ _ _ _ (bad_target p ask small none) (over_limit _ _ long) = absurd (omega arith)
-  once _ _ _ _ (bad_target p ask small none) (bad_target _ _ _ _) = (refl, refl)
-  once _ _ _ _ (bad_target p ask small none) (too_many _ tree _ file _) = absurd (none tree file)
-  once _ _ _ _ (bad_target p ask small none) (done _ tree _ _ file _) = absurd (none tree file)
-  once _ _ _ _ (too_many p t ask file more) (usage other) = absurd (other ask.text ask.are_words)
-  once _ _ _ _ (too_many p t ask file more) (bad_pattern text are none) = absurd (refused words text p are none ask)
-  once _ _ _ _ (too_many p t ask file more) (over_limit _ _ long) = absurd (omega (arith, file.small))
-  once _ _ _ _ (too_many p t ask file more) (bad_target _ _ _ none) = absurd (none t file)
-  once _ _ _ _ (too_many p t ask file more) (too_many _ _ _ _ _) = (refl, refl)
-  once _ _ _ _ (too_many p t ask file more) (done q u members ask' file' leaf) =
-      let whole = same_leaf words input p q t u (Full members) ask ask' file file' leaf in
+  once _ _ _ _ (usage other) (bad_pattern l text are _) = absurd (other l text are)
+  once _ _ _ _ (usage other) (over_limit l _ ask _) = absurd (other l ask.text ask.are_words)
+  once _ _ _ _ (usage other) (bad_target l _ ask _ _) = absurd (other l ask.text ask.are_words)
+  once _ _ _ _ (usage other) (too_many l _ _ ask _ _) = absurd (other l ask.text ask.are_words)
+  once _ _ _ _ (usage other) (done l _ _ _ ask _ _) = absurd (other l ask.text ask.are_words)
+  once _ _ _ _ (bad_pattern k text are none) (usage other) = absurd (other k text are)
+  once _ _ _ _ (bad_pattern k text are none) (bad_pattern _ _ _ _) = (refl, refl)
+  once _ _ _ _ (bad_pattern k text are none) (over_limit l q ask _) = absurd (refused words k l text q are none ask)
+  once _ _ _ _ (bad_pattern k text are none) (bad_target l q ask _ _) = absurd (refused words k l text q are none ask)
+  once _ _ _ _ (bad_pattern k text are none) (too_many l q _ ask _ _) = absurd (refused words k l text q are none ask)
+  once _ _ _ _ (bad_pattern k text are none) (done l q _ _ ask _ _) = absurd (refused words k l text q are none ask)
+  once _ _ _ _ (over_limit k p ask long) (usage other) = absurd (other k ask.text ask.are_words)
+  once _ _ _ _ (over_limit k p ask long) (bad_pattern l text are none) = absurd (refused words l k text p are none ask)
+  once _ _ _ _ (over_limit k p ask long) (over_limit _ _ _ _) = (refl, refl)
+  once _ _ _ _ (over_limit k p ask long) (bad_target _ _ _ small _) = absurd (omega arith)
+  once _ _ _ _ (over_limit k p ask long) (too_many _ _ _ _ file _) = absurd (omega (arith, file.small))
+  once _ _ _ _ (over_limit k p ask long) (done _ _ _ _ _ file _) = absurd (omega (arith, file.small))
+  once _ _ _ _ (bad_target k p ask small none) (usage other) = absurd (other k ask.text ask.are_words)
+  once _ _ _ _ (bad_target k p ask small none) (bad_pattern l text are nothing) = absurd (refused words l k text p are nothing ask)
+  once _ _ _ _ (bad_target k p ask small none) (over_limit _ _ _ long) = absurd (omega arith)
+  once _ _ _ _ (bad_target k p ask small none) (bad_target _ _ _ _ _) = (refl, refl)
+  once _ _ _ _ (bad_target k p ask small none) (too_many l q tree ask' file _) = absurd (no_file words input k l p q tree ask ask' none file)
+  once _ _ _ _ (bad_target k p ask small none) (done l q tree _ ask' file _) = absurd (no_file words input k l p q tree ask ask' none file)
+  once _ _ _ _ (too_many k p t ask file more) (usage other) = absurd (other k ask.text ask.are_words)
+  once _ _ _ _ (too_many k p t ask file more) (bad_pattern l text are none) = absurd (refused words l k text p are none ask)
+  once _ _ _ _ (too_many k p t ask file more) (over_limit _ _ _ long) = absurd (omega (arith, file.small))
+  once _ _ _ _ (too_many k p t ask file more) (bad_target l q ask' _ none) = absurd (no_file words input l k q p t ask' ask none file)
+  once _ _ _ _ (too_many k p t ask file more) (too_many _ _ _ _ _ _) = (refl, refl)
+  once _ _ _ _ (too_many k p t ask file more) (done l q u members ask' file' leaf) =
+      let whole = same_leaf words input k l p q t u (Full members) ask ask' file file' leaf in
       absurd (few_or_more (IsMember p t) 10000 members whole.0 whole.1 more)
-  once _ _ _ _ (done p t members ask file leaf) (usage other) = absurd (other ask.text ask.are_words)
-  once _ _ _ _ (done p t members ask file leaf) (bad_pattern text are none) = absurd (refused words text p are none ask)
-  once _ _ _ _ (done p t members ask file leaf) (over_limit _ _ long) = absurd (omega (arith, file.small))
-  once _ _ _ _ (done p t members ask file leaf) (bad_target _ _ _ none) = absurd (none t file)
-  once _ _ _ _ (done p t members ask file leaf) (too_many q u ask' file' more) =
-      absurd (few_or_more (IsMember p t) 10000 members leaf.0 leaf.1 (same_leaf words input p q t u Crowded ask ask' file file' more))
-  once _ _ _ _ (done p t members ask file leaf) (done q u members' ask' file' leaf') =
-      let whole = same_leaf words input p q t u (Full members') ask ask' file file' leaf' in
+  once _ _ _ _ (done k p t members ask file leaf) (usage other) = absurd (other k ask.text ask.are_words)
+  once _ _ _ _ (done k p t members ask file leaf) (bad_pattern l text are none) = absurd (refused words l k text p are none ask)
+  once _ _ _ _ (done k p t members ask file leaf) (over_limit _ _ _ long) = absurd (omega (arith, file.small))
+  once _ _ _ _ (done k p t members ask file leaf) (bad_target l q ask' _ none) = absurd (no_file words input l k q p t ask' ask none file)
+  once _ _ _ _ (done k p t members ask file leaf) (too_many l q u ask' file' more) =
+      absurd (few_or_more (IsMember p t) 10000 members leaf.0 leaf.1 (same_leaf words input k l p q t u Crowded ask ask' file file' more))
+  once _ _ _ _ (done k p t members ask file leaf) (done l q u members' ask' file' leaf') =
+      let whole = same_leaf words input k l p q t u (Full members') ask ask' file file' leaf' in
       (refl, ap (map line_of) (whole_once (IsMember p t) members' members whole.0 leaf.0))
 
 -- so an answer and what was written are the only ones for an input that the source tells
@@ -134,31 +172,31 @@ unread words (Some xs) written s ends = record { input = xs; told = refl; lines 
 
 -- ---- how a run with a pattern ends
 
-module _ (words : List (List ℕ)) (text : List ℕ) (pattern : Pattern) (are : AreMatchWords words text) (is : IsPatternOf Json text pattern) where
-  ask : AskFor words pattern
+module _ (words : List (List ℕ)) (lang : Lang) (text : List ℕ) (pattern : Pattern) (are : AreMatchWords words lang text) (is : IsPatternOf lang text pattern) where
+  ask : AskFor words lang pattern
   ask = record { text = text; are_words = are; is_pattern = is }
 
   pub ends_over_limit : (left after written : Option (List ℕ)) (read : List ℕ) → Consumes left after read → 1000001 ≤ length read → Printed words left written written (OverLimit Target 1000001)
   ends_over_limit left after written read h long =
       let i = input_with left after read h in
-      record { input = i.bytes; told = i.told; lines = []; ends = over_limit pattern ask (omega (arith, i.long)); printed = nothing_written written }
+      record { input = i.bytes; told = i.told; lines = []; ends = over_limit lang pattern ask (omega (arith, i.long)); printed = nothing_written written }
 
-  pub ends_bad_target : (left after written : Option (List ℕ)) (read : List ℕ) → Consumes left after read → IsAtEnd after → length read ≤ 1000000 → HasNoFile read → Printed words left written written BadTarget
+  pub ends_bad_target : (left after written : Option (List ℕ)) (read : List ℕ) → Consumes left after read → IsAtEnd after → length read ≤ 1000000 → HasNoFile lang read → Printed words left written written BadTarget
   ends_bad_target left after written read h end small none = record {
     input = read;
     told = whole_input left after read h end;
     lines = [];
-    ends = bad_target pattern ask small none;
+    ends = bad_target lang pattern ask small none;
     printed = nothing_written written;
   }
 
-  module _ (left after : Option (List ℕ)) (read : List ℕ) (h : Consumes left after read) (end : IsAtEnd after) (tree : Node) (file : IsFileOf read tree) where
+  module _ (left after : Option (List ℕ)) (read : List ℕ) (h : Consumes left after read) (end : IsAtEnd after) (tree : Node) (file : IsFileOf lang read tree) where
     pub ends_too_many : (written : Option (List ℕ)) → IsLeaf (IsMember pattern tree) Crowded → Printed words left written written (TooMany 10000)
-    ends_too_many written more = record { input = read; told = whole_input left after read h end; lines = []; ends = too_many pattern tree ask file more; printed = nothing_written written }
+    ends_too_many written more = record { input = read; told = whole_input left after read h end; lines = []; ends = too_many lang pattern tree ask file more; printed = nothing_written written }
 
     module _ (members : List Member) (leaf : IsLeaf (IsMember pattern tree) (Full members)) where
       is_done : Ends words read Done (map line_of members)
-      is_done = done pattern tree members ask file leaf
+      is_done = done lang pattern tree members ask file leaf
 
       pub ends_done : (written written_after : Option (List ℕ)) → Appends written written_after (concat (map line_of members)) → Printed words left written written_after Done
       ends_done written written_after put = record { input = read; told = whole_input left after read h end; lines = map line_of members; ends = is_done; printed = put }

@@ -4,7 +4,7 @@ use Rattle.std.specs.List.{concat}
 use Rattle.std.specs.Io.KnownBytes.{Appends}
 use Rattle.node_tree.specs.declared.node.Node.{Node}
 use Rattle.node_tree.specs.declared.view.Pattern.{Pattern}
-use Rattle.node_tree.specs.declared.view.Lang.TheVariants.{Json}
+use Rattle.node_tree.specs.declared.view.Lang.{Lang}
 use Rattle.pattern_read.specs.Patterns.{IsPatternOf}
 use Rattle.scan_world.specs.Streams.{AppendsFront}
 use Rattle.tree_match.specs.declared.leaf.Leaf.TheVariants.{Full, Crowded}
@@ -18,25 +18,25 @@ use Rattle.semscan.specs.Reading.{IsFileOf, HasNoFile}
 use Rattle.semscan.specs.Lines.{line_of}
 use Rattle.semscan.specs.Streams.{Tells, AppendsSome}
 
--- the words ask where this pattern matches
-pub record AskFor (words : List (List ℕ)) (pattern : Pattern) : Type 0 where
+-- the words ask where this pattern of the language matches
+pub record AskFor (words : List (List ℕ)) (lang : Lang) (pattern : Pattern) : Type 0 where
   pub text : List ℕ
-  pub are_words : AreMatchWords words text
-  pub is_pattern : IsPatternOf Json text pattern
+  pub are_words : AreMatchWords words lang text
+  pub is_pattern : IsPatternOf lang text pattern
 
--- the text writes no pattern of JSON
-abbrev pub HasNoPattern : List ℕ → Type 0
-HasNoPattern text = (pattern : Pattern) → IsPatternOf Json text pattern → ⊥
+-- the text writes no pattern of the language
+abbrev pub HasNoPattern : Lang → List ℕ → Type 0
+HasNoPattern lang text = (pattern : Pattern) → IsPatternOf lang text pattern → ⊥
 
 -- How a run ends, and the lines that it prints, by its words and its whole input, where no fault is met and memory is not
 -- wanting. The first cause decides.
 pub data Ends (words : List (List ℕ)) (input : List ℕ) : Status → List (List ℕ) → Type 0 where
   usage : AreOtherWords words → Ends words input statuses.Usage []
-  bad_pattern : (text : List ℕ) → AreMatchWords words text → HasNoPattern text → Ends words input statuses.BadPattern []
-  over_limit : (pattern : Pattern) → AskFor words pattern → 1000001 ≤ length input → Ends words input (statuses.OverLimit Target 1000001) []
-  bad_target : (pattern : Pattern) → AskFor words pattern → length input ≤ 1000000 → HasNoFile input → Ends words input statuses.BadTarget []
-  too_many : (pattern : Pattern) (tree : Node) → AskFor words pattern → IsFileOf input tree → IsLeaf (IsMember pattern tree) Crowded → Ends words input (statuses.TooMany 10000) []
-  done : (pattern : Pattern) (tree : Node) (members : List Member) → AskFor words pattern → IsFileOf input tree → IsLeaf (IsMember pattern tree) (Full members) → Ends words input statuses.Done (map line_of members)
+  bad_pattern : (lang : Lang) (text : List ℕ) → AreMatchWords words lang text → HasNoPattern lang text → Ends words input statuses.BadPattern []
+  over_limit : (lang : Lang) (pattern : Pattern) → AskFor words lang pattern → 1000001 ≤ length input → Ends words input (statuses.OverLimit Target 1000001) []
+  bad_target : (lang : Lang) (pattern : Pattern) → AskFor words lang pattern → length input ≤ 1000000 → HasNoFile lang input → Ends words input statuses.BadTarget []
+  too_many : (lang : Lang) (pattern : Pattern) (tree : Node) → AskFor words lang pattern → IsFileOf lang input tree → IsLeaf (IsMember pattern tree) Crowded → Ends words input (statuses.TooMany 10000) []
+  done : (lang : Lang) (pattern : Pattern) (tree : Node) (members : List Member) → AskFor words lang pattern → IsFileOf lang input tree → IsLeaf (IsMember pattern tree) (Full members) → Ends words input statuses.Done (map line_of members)
 
 -- the status is that of a run which met no fault and had its memory
 abbrev pub IsAnswer : Status → Type 0

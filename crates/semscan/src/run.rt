@@ -12,8 +12,8 @@ use crate::input::{InputError, MOST, read_input};
 use crate::output::{OutputError, print_all};
 use crate::reading::read_file;
 use crate::status::{LimitKind, Status};
-use crate::words::pattern_word;
-use node_tree::{Lang, ReadFault, Steps};
+use crate::words::match_words;
+use node_tree::{ReadFault, Steps};
 use pattern_read::{PatternFault, read_pattern};
 use scan_world::{Sink, Source};
 use std::alloc::Global;
@@ -47,10 +47,10 @@ pub fn run<S: Source, K: Sink, L: Ledger>(
 
     ensures work { TakesSteps result steps.old steps.new }
 {
-    let Some(word) = pattern_word(words) else {
+    let Some((lang, word)) = match_words(words) else {
         return Status::Usage;
     };
-    let pattern = match read_pattern(alloc, Lang::Json, word) {
+    let pattern = match read_pattern(alloc, lang, word) {
         Ok(pattern) => pattern,
         Err(fault) => match fault {
             PatternFault::Memory => return Status::Memory,
@@ -66,7 +66,7 @@ pub fn run<S: Source, K: Sink, L: Ledger>(
         return Status::OverLimit(LimitKind::Target, MOST as u64);
     }
     steps.tick();
-    let file = match read_file(alloc, bytes) {
+    let file = match read_file(alloc, lang, bytes) {
         Ok(file) => file,
         Err(ReadFault::Memory) => return Status::Memory,
         Err(ReadFault::NoTree) => return Status::BadTarget,
