@@ -94,4 +94,5 @@ def main():
                 name, len(text), 1e3 * a, 1e3 * b, a / b, room))
 
 
-main()
+if __name__ == "__main__":
+    main()

@@ -250,15 +250,15 @@ fn inside(
     ensures within { IfOk result (λ x. x.1 ≤ length tokens.now) }
     ensures gives { Gives (λ x. x) result (reading.level tokens.now room (reading.inside container) at) }
 {
-    let mut kids = List::new(alloc);
     if room == 0 {
         return Err(ReadFault::NoTree);
     }
     if !starts_part(container, tokens, at) {
-        return Ok((kids, at));
+        return Ok((List::new(alloc), at));
     }
     let (first, mut end) = part(alloc, tokens, container, room, at)?;
-    kids.push(first)?;
+    // room for one, which is all that many containers hold
+    let mut kids = List::from_vec(vec![in alloc; first]?);
     for turn in 0..=tokens.len() {
         if !is(tokens, end, Word::Comma) {
             return Ok((kids, end));

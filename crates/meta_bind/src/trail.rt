@@ -150,8 +150,11 @@ impl<'t> Trail<'t> {
     pub fn order(&self, other: &Trail<'t>) -> Ordering
         ensures { result ≡ binding_cmp self.now other.now }
     {
-        let places = order_places(self.held.as_slice(), other.held.as_slice());
-        places.then(order_contents(self.held.as_slice(), other.held.as_slice()))
+        match order_places(self.held.as_slice(), other.held.as_slice()) {
+            Ordering::Less => Ordering::Less,
+            Ordering::Greater => Ordering::Greater,
+            Ordering::Equal => order_contents(self.held.as_slice(), other.held.as_slice()),
+        }
     }
 
     /// Whether names, spans and contents are the same.

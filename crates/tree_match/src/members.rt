@@ -13,7 +13,11 @@ use std::cmp::Ordering;
 fn order<'t>(a: &(Span, Trail<'t>), b: &(Span, Trail<'t>)) -> Ordering
     ensures { result ≡ member_cmp a.now b.now }
 {
-    a.0.order(b.0).then(a.1.order(&b.1))
+    match a.0.order(b.0) {
+        Ordering::Less => Ordering::Less,
+        Ordering::Greater => Ordering::Greater,
+        Ordering::Equal => a.1.order(&b.1),
+    }
 }
 
 // Where the member belongs, if it isn't there yet.

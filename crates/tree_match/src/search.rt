@@ -10,6 +10,7 @@ ghost use Rattle.tree_match.specs.declared.class.Role.TheVariants.{Meta, Deep, P
 
 use crate::class::{Role, is_alike, is_expression, is_string, is_term, is_wild, role_of};
 use crate::list::{bound_run, enter, finish, float, put_trail, runs, start};
+use crate::refusal::{LOOK, are_refused};
 use crate::state::State;
 use meta_bind::Trail;
 use node_tree::{List, Memory, Node};
@@ -78,6 +79,9 @@ fn same<'t>(
     ensures { OnOk result (Adds out.old out.new (λ c. Matches pattern.now node.now trail.now c)) }
 {
     if !is_alike(pattern, node) {
+        return Ok(());
+    }
+    if are_refused(pattern.kids.as_slice(), node.kids.as_slice(), LOOK) {
         return Ok(());
     }
     kids(alloc, pattern, node, trail, out)?;

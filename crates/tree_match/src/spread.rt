@@ -16,6 +16,7 @@ ghost use Rattle.tree_match.specs.Members.{member_cmp, MemberAt};
 use crate::class::{Role, is_alike, is_expression, role_of};
 use crate::list::{alone, finish, start};
 use crate::members::add_all;
+use crate::refusal::{LOOK, are_refused};
 use crate::search::{relate, step};
 use crate::state::State;
 use meta_bind::Trail;
@@ -209,8 +210,11 @@ fn add_alike<'t>(
     if !is_alike(pattern, node) {
         return Ok(());
     }
-    let states = start(alloc, &Trail::new(alloc))?;
     let patterns = pattern.kids.as_slice();
+    if are_refused(patterns, node.kids.as_slice(), LOOK) {
+        return Ok(());
+    }
+    let states = start(alloc, &Trail::new(alloc))?;
     add_from(alloc, patterns, node, states, SPLITS, members, most)?;
     Ok(())
 }

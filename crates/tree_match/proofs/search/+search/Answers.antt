@@ -6,6 +6,7 @@ use Rattle.tree_match.specs.States.{AnyFrom}
 use Rattle.node_tree.specs.Tree.{kids_of}
 use Rattle.tree_match.proofs.Sets.{adds_as, adds_none, gathered, gathered_all, plus_as, plus_none, chain}
 use Rattle.tree_match.proofs.Inversion.{plain, plain_kinds, plain_texts, any_string, any_strings, no_dots, no_meta_dots, dots_again, deep_in, heads, goes_more, no_goes, no_item, ordered_kids, somewhere_more, nowhere, one_kid, Somewhere}
+use Rattle.tree_match.proofs.Refused.{refused_at}
 use Rattle.tree_match.proofs.Steps.{first_state, no_state, floating_from, staying_from, entered_heads, next_pattern, last_pattern, from_none}
 use Rattle.tree_match.proofs.search.+search.Goals as goal
 
@@ -15,6 +16,15 @@ same-returns-then-not-is_alike t c =
     let n = c.args.node.now in
     let b = c.args.trail.now in
     adds_none _ _ (λ d x. let yes = c.is_alike.ensures.1 (plain_kinds p n b c.requires d x, plain_texts p n b c.requires d x) in let e : false ≡ true = sym c.if-not-is_alike.true ∙ yes in cc)
+
+pub same-returns-then-are_refused : goal.same-returns-then-are_refused
+same-returns-then-are_refused t c =
+    let p = c.args.pattern.now in
+    let n = c.args.node.now in
+    let b = c.args.trail.now in
+    let alike = c.is_alike.ensures.0 c.if-not-is_alike.false in
+    let refused = refused_at _ (kids_of p) _ (kids_of n) c.as_slice.ensures c.as_slice-2.ensures (c.are_refused.ensures c.if-are_refused.true) in
+    adds_none _ _ (λ d x. refused n b d ((ordered_kids n (kids_of p) (kids_of n) b d).1 ((plain p n b c.requires alike.0 alike.1 d).1 x)))
 
 pub same-returns : goal.same-returns
 same-returns t c =
