@@ -1,10 +1,8 @@
 use Rattle.std.proofs.Common.{◌≡◌, ◌≤◌, ℕ, List, Err, length, sym, ◌∙◌, ap, subst, arith}
 use Rattle.std.specs.Str.{IsUtf8}
 use Rattle.std.proofs.lemmas.Result.{err_from_is_err_and}
-use Rattle.node_tree.specs.declared.view.Mode.TheVariants.{Text}
 use Rattle.node_tree.specs.Spans.{SpansLieIn}
-use Rattle.json_tree.specs.Spells.{IsTreeOf}
-use Rattle.pattern_read.proofs.Trees.{no_tree}
+use Rattle.semscan.specs.Reading.{IsTreeIn}
 use Rattle.semscan.proofs.reading.read_file.Goals as goal
 
 pub returns-in_err-tree-clause-none : goal.returns-in_err-tree-clause-none
@@ -13,8 +11,8 @@ returns-in_err-tree-clause-none c h tree file =
     let a = p.1 in
     let b = p.2 in
     let same : c.in-Ok.text.now ≡ c.args.bytes.items = c.in-Ok.ensures.cases.0 ∙ c.deref.ensures.value in
-    let P : List ℕ → Type 0 = λ t. IsTreeOf Text t tree in
-    no_tree Text c.in-Ok.text.now (Err c.in_err-tree.field-0.0) c.in_err-tree.ensures.only (cc) tree (subst P (sym same) file.is_tree)
+    let P : List ℕ → Type 0 = λ t. IsTreeIn c.args.lang t tree in
+    c.in_err-tree.ensures.none (cc) tree (subst P (sym same) file.is_tree)
 
 pub invariant_of-result : goal.invariant_of-result
 invariant_of-result c =
