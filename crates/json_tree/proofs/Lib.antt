@@ -7,3 +7,4 @@ pub mod Whole
 pub mod Places
 pub mod Texts
 pub mod Spans
+pub mod Trees

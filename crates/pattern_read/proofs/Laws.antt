@@ -6,7 +6,7 @@ use Rattle.node_tree.specs.declared.view.Lang.{Lang}
 use Rattle.node_tree.specs.declared.view.Shape.{Shape}
 use Rattle.node_tree.specs.declared.view.Mode.TheVariants as modes
 use Rattle.node_tree.specs.Tree.{kind_of, kids_of}
-use Rattle.pattern_read.proofs.Trees.{one_tree}
+use Rattle.json_tree.proofs.Trees.{one_tree}
 use Rattle.pattern_read.specs.declared.fault.PatternFault.{PatternFault}
 use Rattle.pattern_read.specs.declared.fault.PatternFault.TheVariants as faults
 use Rattle.pattern_read.specs.Dots.{is_dots, DotsArePlaced}

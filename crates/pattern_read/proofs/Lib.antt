@@ -1,4 +1,3 @@
 pub mod Walked
-pub mod Trees
 pub mod Faults
 pub mod Laws

@@ -9,7 +9,7 @@ use Rattle.node_tree.specs.declared.view.Pattern.{Pattern}
 use Rattle.node_tree.specs.declared.view.Lang.{Lang}
 use Rattle.node_tree.specs.declared.view.Lang.TheVariants as langs
 use Rattle.node_tree.specs.declared.view.Mode.TheVariants.{Text}
-use Rattle.pattern_read.proofs.Trees.{one_tree}
+use Rattle.json_tree.proofs.Trees.{one_tree}
 use Rattle.pattern_read.specs.Patterns.{IsPatternOf}
 use Rattle.pattern_read.proofs.Laws.{one_pattern}
 use Rattle.scan_world.specs.Streams.{AppendsFront}

@@ -1,7 +1,7 @@
 use Rattle.std.proofs.Common.{◌≡◌, ℕ, List, Err, sym, ap, ◌∙◌, subst, arith}
 use Rattle.std.proofs.lemmas.Result.{err_from_is_err_and}
 use Rattle.node_tree.specs.declared.view.Mode.TheVariants.{Pattern}
-use Rattle.pattern_read.proofs.Trees.{no_tree, kid_of_root}
+use Rattle.json_tree.proofs.Trees.{no_tree, kid_of_root}
 use Rattle.pattern_read.proofs.Faults.{unread_is}
 use Rattle.pattern_read.proofs.read.json_value.Goals as goal
 
