@@ -42,7 +42,7 @@ def costs(pattern, path, folder):
     return most('PROGRAM TOTALS'), most(READING), most(MATCHING)
 
 
-READING, MATCHING = 'read_file', 'match_leaf'
+READING, MATCHING = 'read_json', 'match_leaf'
 
 
 def main():
