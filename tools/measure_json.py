@@ -1,16 +1,15 @@
 #!/usr/bin/env python3
 """Measures `semscan match json 1` beside Python's json.loads on generated files of 1,000,000 bytes.
 
-It measures the program that `./semscan` built. It prints, for each file, the time of a whole run without its start-up (the
-least of several runs, less the least of as many runs on `1`), the time that Python takes to read the same file and parse it
-(the least of as many, by Python's own clock), the ratio of the two, and the program's peak memory a source byte.
+It measures the program that `./semscan` built. It prints, for each file, the processor time of a whole run without its start-up
+(the least of several runs, less the least of as many runs on `1`), the processor time that Python takes to read the same file
+and parse it (the least of as many), the ratio of the two, and the program's peak memory a source byte.
 """
 import os
 import random
 import subprocess
 import sys
 import tempfile
-import time
 
 SIZE = 1_000_000
 RUNS = 7
@@ -36,27 +35,26 @@ def texts():
     yield 'strings', fill('[', lambda k: '"%s %d"' % (rng.choice(words) * 4, k), ']')
     yield 'records', fill('[', lambda k: '{"id": %d, "name": "%s", "tags": ["a", "b"], "on": true, "price": %d.%02d}' % (
         k, rng.choice(words), k % 1000, k % 100), ']')
+    yield 'pairs', fill('[', lambda k: '[' * 400 + '2' + ',2]' * 399 + ']', ']')
     yield 'nested', fill('[', lambda k: '[' * 400 + '1' + ']' * 400, ']')
 
 
 def least(command, path):
-    """The shortest of several runs of the program on a file, in seconds."""
-    best = None
+    """The least processor time of several runs of the command on a file, in seconds, and its exit status."""
+    times = []
     for _ in range(RUNS):
         with open(path, 'rb') as source:
-            start = time.perf_counter()
-            status = subprocess.run(command, stdin=source, stdout=subprocess.DEVNULL).returncode
-            took = time.perf_counter() - start
-        if status != 0:
-            sys.exit('%s ends with %d on %s' % (command[0], status, path))
-        best = took if best is None else min(best, took)
-    return best
+            run = subprocess.Popen(command, stdin=source, stdout=subprocess.DEVNULL, stderr=subprocess.DEVNULL)
+        _, status, usage = os.wait4(run.pid, 0)
+        run.returncode = os.waitstatus_to_exitcode(status)
+        times.append(usage.ru_utime + usage.ru_stime)
+    return min(times), run.returncode
 
 
 def least_parse(path):
-    """The shortest of several parses of a file by json.loads in new processes, reading included, in seconds."""
-    code = ('import sys, json, time; start = time.perf_counter(); json.loads(sys.stdin.buffer.read()); '
-            'print(time.perf_counter() - start)')
+    """The least processor time of several parses of a file by json.loads in new processes, reading included, in seconds."""
+    code = ('import sys, json, time; start = time.process_time(); json.loads(sys.stdin.buffer.read()); '
+            'print(time.process_time() - start)')
     times = []
     for _ in range(RUNS):
         with open(path, 'rb') as source:
@@ -65,15 +63,15 @@ def least_parse(path):
 
 
 def peak(command, path):
-    """The most memory that a run of the command has, in bytes."""
-    pid = os.fork()
-    if pid == 0:
-        source = os.open(path, os.O_RDONLY)
-        os.dup2(source, 0)
-        os.dup2(os.open(os.devnull, os.O_WRONLY), 1)
-        os.execv(command[0], command)
-    _, _, usage = os.wait4(pid, 0)
-    return usage.ru_maxrss * 1024
+    """The most memory that a run of the command has, in bytes, by the system's own mark, which is read until the run ends."""
+    most = 0
+    with open(path, 'rb') as source:
+        run = subprocess.Popen(command, stdin=source, stdout=subprocess.DEVNULL, stderr=subprocess.DEVNULL)
+    while run.poll() is None:
+        with open('/proc/%d/status' % run.pid) as status:
+            marks = [int(line.split()[1]) * 1024 for line in status if line.startswith('VmHWM')]
+        most = max([most, *marks])
+    return most
 
 
 def main():
@@ -82,17 +80,20 @@ def main():
         small = os.path.join(folder, 'small')
         with open(small, 'w') as f:
             f.write('1')
-        our_start, our_room = least(ours, small), peak(ours, small)
+        our_start, _ = least(ours, small)
         print('start-up of semscan: %.1f ms' % (1e3 * our_start))
         for name, text in texts():
             path = os.path.join(folder, name)
             with open(path, 'w') as f:
                 f.write(text)
-            a, b = least(ours, path) - our_start, least_parse(path)
-            room = (peak(ours, path) - our_room) / len(text)
+            took, status = least(ours, path)
+            if status != 0:
+                sys.exit('%s ends with %d on %s' % (ours[0], status, name))
+            a, b = took - our_start, least_parse(path)
+            room = peak(ours, path) / len(text)
             print('%-8s %7d bytes: semscan %6.1f ms, json.loads %6.1f ms, ratio %.2f, %3.0f bytes of memory a byte' % (
                 name, len(text), 1e3 * a, 1e3 * b, a / b, room))
 
 
-if __name__ == "__main__":
+if __name__ == '__main__':
     main()

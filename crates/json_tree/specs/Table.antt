@@ -1,4 +1,5 @@
--- The grammar of JSON as a table: a row of a level for each line of the grammar of RFC 8259, with what patterns have besides.
+-- The grammar of JSON as a table: a row of a level for each line of the grammar of RFC 8259, sections 2 to 5, with what patterns
+-- have besides.
 use Rattle.std.specs.Prelude.{ℕ, Bool, true, List, [], ◌∷◌}
 use Rattle.node_tree.specs.declared.kind.Kind.{Kind}
 use Rattle.node_tree.specs.declared.kind.Kind.TheVariants as k
@@ -60,24 +61,25 @@ dots = class w.MetaDots ∷ class w.Dots ∷ []
 
 -- The table.
 abbrev pub table : Level → Row
--- value = false / null / true / object / array / number / string
+-- value = false / null / true / object / array / number / string                (section 3)
 -- in a pattern also / StrAny / Meta / MetaDots / Dots / deep
 table Value = word Own scalars ∣ ref Array ∣ ref Object ∣ ref Deep
--- array = begin-array [ value *( value-separator value ) ] end-array            Array[value ..]
+-- array = begin-array [ value *( value-separator value ) ] end-array            (section 5)     Array[value ..]
 table Array = bracketed k.Array w.LeftBracket w.RightBracket Values
 table Values = listed Value ValuesTail
 table ValuesTail = rep ValuesTail (further Value)
--- object = begin-object [ member *( value-separator member ) ] end-object       Object[member ..]
+-- object = begin-object [ member *( value-separator member ) ] end-object       (section 4)     Object[member ..]
 table Object = bracketed k.Object w.LeftBrace w.RightBrace Entries
 table Entries = listed Entry EntriesTail
 table EntriesTail = rep EntriesTail (further Entry)
 -- in a pattern Dots and MetaDots stand where a member does
 table Entry = word Own dots ∣ ref Member
--- member = string name-separator value, in a pattern also with StrAny or Meta as its name       Member[name, value]
+-- member = string name-separator value (section 4), in a pattern also with StrAny or Meta as its name     Member[name, value]
 table Member = make k.Member (word Own names · tok w.Colon · deep Value)
 -- deep = "<..." value "...>", in a pattern alone                                Deep[value]
 table Deep = make k.Deep (tok w.DeepOpen · deep Value · tok w.DeepClose)
 
--- With the root above the value a tree is at most 500 deep, and no token stands inside more than 500 open brackets: section 9 leaves such limits to a reader.
+-- With the root above the value a tree is at most 500 deep, and no token stands inside more than 500 open brackets: section 9
+-- leaves such limits to a reader.
 abbrev pub grammar : Grammar Leaf Builder Level
 grammar = record { table = table; opens = class w.LeftBrace ∷ class w.LeftBracket ∷ []; closes = class w.RightBrace ∷ class w.RightBracket ∷ []; most_depth = 499; most_brackets = 500 }

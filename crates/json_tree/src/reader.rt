@@ -257,8 +257,12 @@ fn inside(
         return Ok((List::new(alloc), at));
     }
     let (first, mut end) = part(alloc, tokens, container, room, at)?;
-    // room for one, which is all that many containers hold
-    let mut kids = List::from_vec(vec![in alloc; first]?);
+    if !is(tokens, end, Word::Comma) {
+        // room for this one alone
+        return Ok((List::from_vec(vec![in alloc; first]?), end));
+    }
+    let mut kids = List::new(alloc);
+    kids.push(first)?;
     for turn in 0..=tokens.len() {
         if !is(tokens, end, Word::Comma) {
             return Ok((kids, end));

@@ -1,9 +1,8 @@
 -- Patterns that match a front of a list of kids, and leave a rest.
-use Rattle.std.proofs.Common.{◌≡◌, ◌↔◌, ℕ, zero, suc, ◌+◌, List, [], ◌∷◌, ◌++◌, length, take, drop, refl, sym, ap, ◌∙◌, subst, append_assoc}
+use Rattle.std.proofs.Common.{◌≡◌, ◌↔◌, ℕ, zero, suc, List, [], ◌∷◌, ◌++◌, length, take, drop, refl, sym, ap, ◌∙◌, subst, append_assoc}
 use Rattle.node_tree.specs.declared.node.Node.{Node}
 use Rattle.node_tree.specs.Tree.{text_of}
 use Rattle.meta_bind.specs.declared.bound.Bound.{Bound}
-use Rattle.tree_match.specs.declared.class.Role.TheVariants as roles
 use Rattle.tree_match.specs.Relation.{MatchesList, both_empty, head_and_rest, dots, named_dots, Binds}
 use Rattle.tree_match.specs.Fronts.{MatchesFront, no_pattern_front, head_front, dots_front, named_dots_front}
 

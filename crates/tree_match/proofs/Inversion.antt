@@ -3,6 +3,8 @@ use Rattle.std.proofs.Common.{◌≡◌, ◌≢◌, ◌⊎◌, inl, inr, ◌↔�
 use Rattle.std.proofs.lemmas.List.{drop_all, drop-drop}
 use Rattle.node_tree.specs.declared.node.Node.{Node}
 use Rattle.node_tree.specs.Tree.{kind_of, text_of, kids_of, pre_of}
+use Rattle.node_tree.proofs.Trees.{pre_is}
+use Rattle.std.specs.List.{flat_map}
 use Rattle.meta_bind.specs.declared.bound.Bound.{Bound}
 use Rattle.tree_match.specs.declared.class.Role.{Role}
 use Rattle.tree_match.specs.declared.class.Role.TheVariants as roles
@@ -197,6 +199,13 @@ somewhere_more q q' m ns all b c e is =
 
 pub nowhere : (q : Node) (ns : List Node) (b c : List Bound) → ns ≡ [] → Somewhere q ns b c → ⊥
 nowhere q ns b c e (m, among, x) = let P : List Node → Type 0 = λ xs. Among xs m in subst P e among
+
+-- a node without kids is all that there is of its tree
+pub only_here : (q q' n : Node) (b c : List Bound) → kids_of n ≡ [] → q' ≡ q → Matches q' n b c ↔ Somewhere q (pre_of n) b c
+only_here q q' n b c none is =
+    let alone : pre_of n ≡ n ∷ [] = pre_is n ∙ ap (λ (ks : List Node). n ∷ flat_map pre_of ks) none in
+    let all = somewhere_more q q' n [] (pre_of n) b c alone is in
+    (λ x. all.1 (inl x), λ s. elim (all.0 s) [ inl x ↦ x | inr y ↦ absurd (nowhere q [] b c refl y) ])
 
 pub one_kid : (ns : List Node) → length ns ≡ 1 → (q : Node) × (ns ≡ q ∷ [])
 one_kid [] e = absurd (omega (arith, e))

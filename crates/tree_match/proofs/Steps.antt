@@ -15,7 +15,6 @@ use Rattle.std.proofs.Math.Seq.{drop-cons}
 use Rattle.std.proofs.Math.Nat.{eq-or-lt_of_le}
 use Rattle.meta_bind.specs.Bounds.{bound_at, with_bound}
 use Rattle.node_tree.specs.declared.span.Span.{Span}
-use Rattle.node_tree.specs.declared.kind.Kind.TheVariants as kinds
 use Rattle.tree_match.proofs.Sets.{among_more}
 
 -- one state more

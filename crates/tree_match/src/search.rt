@@ -107,6 +107,10 @@ fn deep<'t>(
     if inner.len() != 1 {
         return Ok(());
     }
+    if node.kids.is_empty() {
+        relate(alloc, &inner[0], node, trail, out)?;
+        return Ok(());
+    }
     for candidate in node.walk()? {
         relate(alloc, &inner[0], candidate, trail, out)?;
     }

@@ -5,7 +5,7 @@ use Rattle.tree_match.specs.Relation.{Matches}
 use Rattle.tree_match.specs.States.{AnyFrom}
 use Rattle.node_tree.specs.Tree.{kids_of}
 use Rattle.tree_match.proofs.Sets.{adds_as, adds_none, gathered, gathered_all, plus_as, plus_none, chain}
-use Rattle.tree_match.proofs.Inversion.{plain, plain_kinds, plain_texts, any_string, any_strings, no_dots, no_meta_dots, dots_again, deep_in, heads, goes_more, no_goes, no_item, ordered_kids, somewhere_more, nowhere, one_kid, Somewhere}
+use Rattle.tree_match.proofs.Inversion.{plain, plain_kinds, plain_texts, any_string, any_strings, no_dots, no_meta_dots, dots_again, deep_in, heads, goes_more, no_goes, no_item, ordered_kids, somewhere_more, nowhere, one_kid, only_here, Somewhere}
 use Rattle.tree_match.proofs.Refused.{refused_at}
 use Rattle.tree_match.proofs.Steps.{first_state, no_state, floating_from, staying_from, entered_heads, next_pattern, last_pattern, from_none}
 use Rattle.tree_match.proofs.search.+search.Goals as goal
@@ -94,10 +94,21 @@ deep-returns t c b =
     (gathered_all _ _ _ (nowhere q _ c.args.trail.now b c.in-None.ensures.steps.0) (c.loop-candidate.invariant q b (c.as_slice-inner.ensures ∙ one.1)))
     (subst P (sym (c.into_iter-candidate-iterator.ensures.into_iter_gives ∙ c.in_ok-candidate-items.ensures)) (deep_in c.args.pattern.now c.args.node.now c.args.trail.now c.requires q one.1 (sym c.is_expression.ensures ∙ c.if-not-is_expression.false) b))
 
+pub deep-returns-then-is_empty : goal.deep-returns-then-is_empty
+deep-returns-then-is_empty t c =
+    let p = c.args.pattern.now in
+    let n = c.args.node.now in
+    let b = c.args.trail.now in
+    let one = one_kid (kids_of p) (ap length (sym c.as_slice-inner.ensures) ∙ c.if-inner-ne1.false) in
+    let q = one.0 in
+    let here = c.index-inner-0.is ∙ ap (λ (ns : List Node). get_or ns 0 c.index-inner-0.result) (c.as_slice-inner.ensures ∙ one.1) in
+    adds_as _ _ _ _ c.in_ok-relate.ensures
+    (λ d. chain _ _ _ (only_here q c.index-inner-0.result n b d (c.is_empty.ensures.0 c.if-is_empty.true) here) (deep_in p n b c.requires q one.1 (sym c.is_expression.ensures ∙ c.if-not-is_expression.false) d))
+
 pub deep-loop-candidate-preserved : goal.deep-loop-candidate-preserved
 deep-loop-candidate-preserved t c q b e =
-    gathered _ _ _ _ _ _ (c.in_ok-relate.ensures b)
-    (somewhere_more q c.index-inner-0.result c.in-Some.candidate.now c.next.new.self _ c.args.trail.now b c.in-Some.ensures.steps (c.index-inner-0.is ∙ ap (λ (ns : List Node). get_or ns 0 c.index-inner-0.result) e))
+    gathered _ _ _ _ _ _ (c.in_ok-relate-2.ensures b)
+    (somewhere_more q c.index-inner-0-in-loop-candidate.result c.in-Some.candidate.now c.next.new.self _ c.args.trail.now b c.in-Some.ensures.steps (c.index-inner-0-in-loop-candidate.is ∙ ap (λ (ns : List Node). get_or ns 0 c.index-inner-0-in-loop-candidate.result) e))
     (c.loop-candidate.invariant q b e)
 
 pub kids-returns : goal.kids-returns
