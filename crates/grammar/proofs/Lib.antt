@@ -2,6 +2,8 @@ pub mod Facts
 pub mod Spelled
 pub mod Good
 pub mod Exact
+pub mod Lookahead
+pub mod Fair
 pub mod Longest
 pub mod Meaning
 pub mod Checked
