@@ -3,7 +3,7 @@ use Rattle.std.proofs.Common.{◌≡◌, ℕ, zero, suc, ◌<◌, ◌≤◌, Lis
 use Rattle.std.specs.Prelude.{Bool, true, false, ◌||◌, ◌&&◌, not, Option, Some, None, ◌⊎◌}
 use Rattle.grammar.specs.Rule.{Rule, done, mark, word, ref, deep, again, seq, around, alt, look, choose, opt, must, rep, make, has, Source, Table, Unlike, Loop, outside, within, Derives, d_done, d_mark, d_word, d_ref, d_deep, d_again, d_rep, d_seq, d_around, d_left, d_right, d_seen, d_unseen, d_chosen, d_unchosen, d_without, d_with, d_barred, d_taken, d_make}
 use Rattle.grammar.specs.Sets.{Sets, nul, first, more, first_of, more_of, empty_of}
-use Rattle.grammar.specs.Tests.{Tests, targets, IsTest}
+use Rattle.grammar.specs.Tests.{Tests, targets, IsTest, arms}
 use Rattle.grammar.specs.Check.{each, within_set, follows, admits, behind_part, keeps, some_word, hollow, begun, is_word, fruitful}
 use Rattle.grammar.proofs.Facts.{true_false, decide, and_both, or_either, implied, ltb_less, ltb_same, less_or_same, no_some, each_at}
 use Rattle.grammar.proofs.Spelled.{Rel, Other, rounds, Never, Spelled, IsClear, IsGrammar}
@@ -21,7 +21,7 @@ word_of mode None h = cc
 and_there : {K B N : Type 0} (t u : Source K B N) (i j : ℕ) → Same t u i j → t.cls j ≡ u.cls j → Same t u i (suc j)
 and_there t u i j sm e n a b = elim (less_or_same n j (omega (arith, b))) [ inl lt ↦ sm n a lt | inr eq ↦ ap t.cls eq ∙ (e ∙ ap u.cls (sym eq)) ]
 
-module _ {K B L : Type 0} (N : Type 0) (S : Sets L) (table : Table K B L) (G : IsGrammar S table) (T : Tests L) (C : L → Bool) (steady : each (λ a. within_set (targets (T.arms a)) T.states) T.states ≡ true)
+module _ {K B L : Type 0} (N : Type 0) (S : Sets L) (table : Table K B L) (G : IsGrammar S table) (T : Tests L) (C : L → Bool) (steady : each (λ a. within_set (targets (arms T.automaton a)) T.states) T.states ≡ true)
     (all_fair : (l : L) → C l ≡ true → Fair S T C (T.start l) None (T.follow l) (table l)) (all_kept : (l : L) → C l ≡ true → keeps T None l (table l) ≡ true) (mode : ℕ → Bool) where
   -- a derivation goes over to a token list with the same classes, up to and with the one behind it
   moves : (t u : Source K B N) {c : Loop K B L} {r : Rule K B L} {xs : List N} {i j : ℕ} (m : Option ℕ) (q : Option L) (F : Option (List ℕ)) → Derives t table c r xs i j → Fair_loop S T C m c q → Fair S T C m q F r → follows F (t.cls j) ≡ true → Same t u i (suc j) → (ys : List N) × Derives u table c r ys i j

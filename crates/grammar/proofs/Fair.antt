@@ -3,7 +3,7 @@ use Rattle.std.proofs.Common.{◌≡◌, ℕ, zero, suc, ◌<◌, ◌≤◌, Lis
 use Rattle.std.specs.Prelude.{Bool, true, false, cond, ◌||◌, ◌&&◌, not, Option, Some, None, ◌⊎◌}
 use Rattle.grammar.specs.Rule.{Rule, done, mark, word, ref, deep, again, seq, around, alt, look, choose, opt, must, rep, make, has, Source, Table, Unlike, Loop, outside, within, Derives, d_done, d_mark, d_word, d_ref, d_deep, d_again, d_rep, d_seq, d_around, d_left, d_right, d_seen, d_unseen, d_chosen, d_unchosen, d_without, d_with, d_barred, d_taken, d_make}
 use Rattle.grammar.specs.Sets.{Sets, nul, first}
-use Rattle.grammar.specs.Tests.{Tests, verdict, targets, tests, IsTest, AllTests}
+use Rattle.grammar.specs.Tests.{Tests, verdict, targets, tests, IsTest, AllTests, arms}
 use Rattle.grammar.specs.Check.{each, within_set, follows, admits, behind_part, follow_of, each_of, onto, after, keeps, calm, told, settled}
 use Rattle.grammar.proofs.Facts.{true_false, and_true, and_both, not_true, or_left, or_right, less_or_same, has_left, has_right, has_head, skip, each_at, within_holds}
 use Rattle.grammar.proofs.Spelled.{IsClear, IsGrammar, Covers}
@@ -140,7 +140,7 @@ Fair_loop S T C m outside q = record {}
 Fair_loop S T C m (within l r) None = record { no : zero ≡ suc zero }
 Fair_loop S T C m (within l r) (Some q) = Fair S T C m (Some q) (T.follow q) r × (keeps T (Some q) q r ≡ true) × Covers S (Some q) q r
 
-module _ {K B L : Type 0} (S : Sets L) (table : Table K B L) (G : IsGrammar S table) (T : Tests L) (C : L → Bool) (steady : each (λ a. within_set (targets (T.arms a)) T.states) T.states ≡ true)
+module _ {K B L : Type 0} (S : Sets L) (table : Table K B L) (G : IsGrammar S table) (T : Tests L) (C : L → Bool) (steady : each (λ a. within_set (targets (arms T.automaton a)) T.states) T.states ≡ true)
     (all_fair : (l : L) → C l ≡ true → Fair S T C (T.start l) None (T.follow l) (table l)) (all_kept : (l : L) → C l ≡ true → keeps T None l (table l) ≡ true) where
   module _ {N : Type 0} (t : Source K B N) where
     -- a piece begins with a class that is declared, or is empty where that is
@@ -231,7 +231,7 @@ module _ {K B L : Type 0} (S : Sets L) (table : Table K B L) (G : IsGrammar S ta
 
     -- a test that begins a piece of the rule says the same of each list that agrees up to and with the token behind the piece
     same_test : {c : Loop K B L} (r : Rule K B L) {xs : List N} {i j : ℕ} (a : ℕ) (p : (ℕ → ℕ) → ℕ → Bool) (q : Option L) (F : Option (List ℕ)) → Derives t table c r xs i j → Fair_loop S T C (Some a) c q → Fair S T C (Some a) q F r → IsTest T (Some a) p → has T.states a ≡ true → calm T F (after T q r a) ≡ true → follows F (t.cls j) ≡ true → (f : ℕ → ℕ) → ((n : ℕ) → i ≤ n → n ≤ j → t.cls n ≡ f n) → p t.cls i ≡ p f i
-    same_test r {i = i} {j = j} a p q F d f k is h ca fo g ag = is t.cls i ∙ (same_verdict T t.cls g T.most a i j (goes d) ag (λ b z. calm_says T F (after T q r a) ca b (t.cls j) (comes_through (Some a) q F d f k a b h z) fo) ∙ sym (is g i))
+    same_test r {i = i} {j = j} a p q F d f k is h ca fo g ag = is t.cls i ∙ (same_verdict T t.cls g T.automaton.most a i j (goes d) ag (λ b z. calm_says T F (after T q r a) ca b (t.cls j) (comes_through (Some a) q F d f k a b h z) fo) ∙ sym (is g i))
 
     pub same_choice : {c : Loop K B L} {xs : List N} {i j : ℕ} (m : Option ℕ) (q : Option L) (F : Option (List ℕ)) (p : (ℕ → ℕ) → ℕ → Bool) (r s : Rule K B L) → Derives t table c r xs i j ⊎ Derives t table c s xs i j → Fair_loop S T C m c q → Fair S T C m q F (choose p r s) → follows F (t.cls j) ≡ true → (f : ℕ → ℕ) → ((n : ℕ) → i ≤ n → n ≤ j → t.cls n ≡ f n) → p t.cls i ≡ p f i
     same_choice None q F p r s d f k fo g ag = let z : _ = fair_choose S T C None q F p r s k in cc

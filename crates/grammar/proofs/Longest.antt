@@ -3,7 +3,7 @@ use Rattle.std.proofs.Common.{◌≡◌, ℕ, zero, suc, ◌<◌, ◌≤◌, Lis
 use Rattle.std.specs.Prelude.{Bool, true, false, cond, Option, Some, None, ◌⊎◌, ltb}
 use Rattle.grammar.specs.Rule.{Rule, done, mark, word, ref, deep, again, seq, around, alt, look, choose, opt, must, rep, make, has, Source, Table, Loop, outside, within, Derives, d_again}
 use Rattle.grammar.specs.Sets.{Sets, nul, first, more, first_of, more_of, empty_of}
-use Rattle.grammar.specs.Tests.{Tests, targets}
+use Rattle.grammar.specs.Tests.{Tests, targets, arms}
 use Rattle.grammar.specs.Check.{each, within_set, follows, admits, behind_part, follow_of, keeps}
 use Rattle.grammar.proofs.Facts.{true_false, and_both, ltb_less, ltb_same, less_or_same, Apart, Within}
 use Rattle.grammar.proofs.Spelled.{Rel, part, Other, rounds, Never, Spelled, Ladder, pick, Level, IsClear, IsGrammar}
@@ -168,7 +168,7 @@ module _ {K B N : Type 0} where
   longest_rounds t u F P P' Y Y' never never' good good' step (suc n) zero = swap u t F (Never N) (rounds (Never N) Y (suc n)) (longest_never u t F (rounds (Never N) Y (suc n)))
   longest_rounds t u F P P' Y Y' never never' good good' step (suc n) (suc n') = step (rounds (Never N) Y n) (rounds (Never N) Y' n') (rounds_hold P Y never good n) (rounds_hold P' Y' never' good' n') (longest_rounds t u F P P' Y Y' never never' good good' step n n')
 
-module _ {K B L N : Type 0} (t u : Source K B N) (S : Sets L) (table : Table K B L) (G : IsGrammar S table) (T : Tests L) (C : L → Bool) (steady : each (λ a. within_set (targets (T.arms a)) T.states) T.states ≡ true)
+module _ {K B L N : Type 0} (t u : Source K B N) (S : Sets L) (table : Table K B L) (G : IsGrammar S table) (T : Tests L) (C : L → Bool) (steady : each (λ a. within_set (targets (arms T.automaton a)) T.states) T.states ≡ true)
     (all_fair : (l : L) → C l ≡ true → Fair S T C (T.start l) None (T.follow l) (table l)) (all_kept : (l : L) → C l ≡ true → keeps T None l (table l) ≡ true) (m m' : ℕ) where
   -- a relation that gives derivations of a rule
   abbrev Derived : Source K B N → Loop K B L → Rule K B L → Rel N → Type 0

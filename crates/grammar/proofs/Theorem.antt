@@ -5,7 +5,7 @@ use Rattle.std.proofs.lemmas.List.{get_or_past}
 use Rattle.grammar.specs.Rule.{Rule, Source, Grammar, Derives, outside, d_deep, has, open_at, brackets_round, Deepens, with_classes, IsClosed, IsPiece, IsRun}
 use Rattle.grammar.specs.Sets.{Sets}
 use Rattle.grammar.specs.Reader.{read_level, room_of}
-use Rattle.grammar.specs.Tests.{Tests, targets, says, tests, IsTest, AllTests, Declared, no_tests}
+use Rattle.grammar.specs.Tests.{Tests, targets, says, tests, IsTest, AllTests, Declared, no_tests, arms}
 use Rattle.grammar.specs.Check.{each, within_set, Ranks, late, loops, follows, keeps, settled, some_level, begun_level, hollow_level, fruitful, bears, passes, closes, closes_runs}
 use Rattle.grammar.proofs.Facts.{true_false, and_both, implied, no_some, ltb_less}
 use Rattle.grammar.proofs.Spelled.{Rel, Ladder, pick, Level, Never}
@@ -87,10 +87,10 @@ module _ {K B L N : Type 0} (g : Grammar K B L) (S : Sets L) (R : Ranks B L) (pa
 
     module _ (T : Tests L) (declared : (l : L) → Declared T l (g.table l)) (mode : ℕ → Bool) (h : ℕ) (closing : (l : L) → closes g S R T mode h l ≡ true) where
       -- the parts of the check of a row
-      row : (l : L) → R.shut l ≡ true → (each (λ a. within_set (targets (T.arms a)) T.states) T.states ≡ true) × (keeps T None l (g.table l) ≡ true) × (settled S T R.shut (T.start l) None (T.follow l) (g.table l) ≡ true) × (elim (T.follow l) [ None ↦ bears g S T mode h l | Some cs ↦ true ] ≡ true)
+      row : (l : L) → R.shut l ≡ true → (each (λ a. within_set (targets (arms T.automaton a)) T.states) T.states ≡ true) × (keeps T None l (g.table l) ≡ true) × (settled S T R.shut (T.start l) None (T.follow l) (g.table l) ≡ true) × (elim (T.follow l) [ None ↦ bears g S T mode h l | Some cs ↦ true ] ≡ true)
       row l c =
-          let a : _ = and_both (each (λ a. within_set (targets (T.arms a)) T.states) T.states && (keeps T None l (g.table l) && settled S T R.shut (T.start l) None (T.follow l) (g.table l))) _ (implied (R.shut l) _ (closing l) c) in
-          let b : _ = and_both (each (λ a. within_set (targets (T.arms a)) T.states) T.states) (keeps T None l (g.table l) && settled S T R.shut (T.start l) None (T.follow l) (g.table l)) a.0 in
+          let a : _ = and_both (each (λ a. within_set (targets (arms T.automaton a)) T.states) T.states && (keeps T None l (g.table l) && settled S T R.shut (T.start l) None (T.follow l) (g.table l))) _ (implied (R.shut l) _ (closing l) c) in
+          let b : _ = and_both (each (λ a. within_set (targets (arms T.automaton a)) T.states) T.states) (keeps T None l (g.table l) && settled S T R.shut (T.start l) None (T.follow l) (g.table l)) a.0 in
           let d : _ = and_both (keeps T None l (g.table l)) (settled S T R.shut (T.start l) None (T.follow l) (g.table l)) b.1 in
           (b.0, d.0, d.1, a.1)
 
@@ -106,7 +106,7 @@ module _ {K B L N : Type 0} (g : Grammar K B L) (S : Sets L) (R : Ranks B L) (pa
       full : (l : L) → R.shut l ≡ true → T.follow l ≡ None → S.empty l ≡ true → hollow_level g.table h l zero ≡ true
       full l c n = implied (S.empty l) (hollow_level g.table h l zero) (and_both (not (S.empty l) || hollow_level g.table h l zero) _ (bearing l c n)).0
 
-      fruits : (l : L) → R.shut l ≡ true → T.follow l ≡ None → fruitful mode (says T (T.start l)) (some_level T g.table h) (begun_level T g.table h) (hollow_level g.table h) S None None (g.table l) ≡ true
+      fruits : (l : L) → R.shut l ≡ true → T.follow l ≡ None → fruitful mode (says T.automaton (T.start l)) (some_level T g.table h) (begun_level T g.table h) (hollow_level g.table h) S None None (g.table l) ≡ true
       fruits l c n = (and_both (not (S.empty l) || hollow_level g.table h l zero) _ (bearing l c n)).1
 
       -- What is read of a level that is shut, and that any class may follow, is a closed run, within the limits.
@@ -125,7 +125,7 @@ module _ {K B L N : Type 0} (g : Grammar K B L) (S : Sets L) (R : Ranks B L) (pa
           any : (F : Option (List ℕ)) (c : ℕ) → F ≡ None → follows F c ≡ true
           any F c e = rw e refl
 
-      module _ (x : ℕ) (in_mode : mode x ≡ true) (steady : each (λ a. within_set (targets (T.arms a)) T.states) T.states ≡ true) where
+      module _ (x : ℕ) (in_mode : mode x ≡ true) (steady : each (λ a. within_set (targets (arms T.automaton a)) T.states) T.states ≡ true) where
         Extend : (L → Rel N) → Type 0
         Extend X = (l : L) → R.shut l ≡ true → T.follow l ≡ None → (xs : List N) (i j : ℕ) → t.cls j ≡ x → X l None xs i j → X l (Some x) xs i j ⊎ Longer N S g.table (is_grammar g S R pass) T R.shut steady all_fair all_kept mode t outside (g.table l) i j x
 
@@ -136,7 +136,7 @@ module _ {K B L N : Type 0} (g : Grammar K B L) (S : Sets L) (R : Ranks B L) (pa
         extends_ladder : (X : L → Rel N) → ((l : L) → Good t (S.first l) (S.empty l) (S.more l) (X l)) → ((l : L) (o : Option ℕ) (xs : List N) (i j : ℕ) → X l o xs i j → Derives t g.table outside (g.table l) xs i j) → Extend X → (k : ℕ) → Extend (Ladder t S m g.table X k)
         unfolding Extend
         extends_ladder X gx b e zero l c fo xs i j here d = inl d
-        extends_ladder X gx b e (suc k) l c fo xs i j here d = extends N S g.table (is_grammar g S R pass) T R.shut steady all_fair all_kept mode (says T (T.start l)) (T.start l) (says_holds T (T.start l)) t m x in_mode (some_level T g.table h) (begun_level T g.table h) (hollow_level g.table h) (some_levels N g.table T declared h) (begun_levels N g.table T declared h) (hollow_levels N g.table h) full
+        extends_ladder X gx b e (suc k) l c fo xs i j here d = extends N S g.table (is_grammar g S R pass) T R.shut steady all_fair all_kept mode (says T.automaton (T.start l)) (T.start l) (says_holds T (T.start l)) t m x in_mode (some_level T g.table h) (begun_level T g.table h) (hollow_level g.table h) (some_levels N g.table T declared h) (begun_levels N g.table T declared h) (hollow_levels N g.table h) full
             (pick (Ladder t S m g.table X k) X) (good_pick t S (Ladder t S m g.table X k) X (good_ladder t S m g.table (is_grammar g S R pass) X gx k) gx) (pick_derived t g.table (Ladder t S m g.table X k) X (ladder_derived t S m g.table X b k) b) (extends_pick (Ladder t S m g.table X k) X (extends_ladder X gx b e k) e) (g.table l) None None outside (Never N) (good_never t [] false []) (λ o xs' i' j' e'. absurd (omega (arith, e'.no))) (λ xs' i' j' here' e'. absurd (omega (arith, e'.no))) (λ w n. no_some w n) (λ e'. true_false false e' refl) (record {}) (rw fo at (all_fair l c)) (fruits l c fo) xs i j here d
 
         extends_level : (n : ℕ) → Extend (Level t S m g.table R.top n)

@@ -63,21 +63,22 @@ said_word J b (Some v) w h = by (J b v) refl h
     by false e k = cc
 
 -- what a word tells of a test holds of each list that begins with it
-judge_holds : {K B N L : Type 0} (T : Tests L) (u : Source K B N) (n a : ℕ) (w : List ℕ) (i e : ℕ) (b : Bool) → judge T n a w ≡ Some b → Match u i w e → verdict T n a u.cls i ≡ b
+judge_holds : {K B N L : Type 0} (T : Tests L) (u : Source K B N) (n a : ℕ) (w : List ℕ) (i e : ℕ) (b : Bool) → judge T.automaton n a w ≡ Some b → Match u i w e → verdict T.automaton n a u.cls i ≡ b
+unfolding verdict
 judge_holds T u zero a w i e b h m = no_some b h
 judge_holds T u (suc n) a [] i e b h m = no_some b h
-judge_holds T u (suc n) a (c ∷ w) i e b h m = ap (λ d. then T n u.cls i (step T a d)) m.0 ∙ by (λ a' k. judge_holds T u n a' w (suc i) e b k m.1) (step T a c) h
+judge_holds T u (suc n) a (c ∷ w) i e b h m = ap (λ d. then T.automaton n u.cls i (step T.automaton a d)) m.0 ∙ by (λ a' k. judge_holds T u n a' w (suc i) e b k m.1) (step T.automaton a c) h
   where
     same : (d : Bool) → Some d ≡ Some b → d ≡ b
     same d k = cc
 
-    by : ((a' : ℕ) → judge T n a' w ≡ Some b → verdict T n a' u.cls (suc i) ≡ b) → (m : Move) → ◌≡◌ {A = Option Bool} (elim m [ say d ↦ Some d | go a' ↦ judge T n a' w ]) (Some b) → then T n u.cls i m ≡ b
+    by : ((a' : ℕ) → judge T.automaton n a' w ≡ Some b → verdict T.automaton n a' u.cls (suc i) ≡ b) → (m : Move) → ◌≡◌ {A = Option Bool} (elim m [ say d ↦ Some d | go a' ↦ judge T.automaton n a' w ]) (Some b) → then T.automaton n u.cls i m ≡ b
     by rest (say d) k = same d k
     by rest (go a') k = rest a' k
 
-pub says_holds : {K B N L : Type 0} (T : Tests L) (st : Option ℕ) (p : (ℕ → ℕ) → ℕ → Bool) → IsTest T st p → (b : Bool) (w : List ℕ) → says T st b w ≡ true → (u : Source K B N) (i e : ℕ) → Match u i w e → p u.cls i ≡ b
+pub says_holds : {K B N L : Type 0} (T : Tests L) (st : Option ℕ) (p : (ℕ → ℕ) → ℕ → Bool) → IsTest T st p → (b : Bool) (w : List ℕ) → says T.automaton st b w ≡ true → (u : Source K B N) (i e : ℕ) → Match u i w e → p u.cls i ≡ b
 says_holds T None p is b w h u i e m = cc
-says_holds T (Some a) p is b w h u i e m = is u.cls i ∙ judge_holds T u T.most a w i e b (told b (judge T T.most a w) h) m
+says_holds T (Some a) p is b w h u i e m = is u.cls i ∙ judge_holds T u T.automaton.most a w i e b (told b (judge T.automaton T.automaton.most a w) h) m
   where
     told : (b : Bool) (o : Option Bool) → is_same b o ≡ true → o ≡ Some b
     told b None k = cc
@@ -251,8 +252,8 @@ module _ {K B L : Type 0} (N : Type 0) (table : Table K B L) where
   module _ (T : Tests L) (declared : (l : L) → Declared T l (table l)) where
     pub some_levels : (h : ℕ) (l : L) (w : List ℕ) → some_level T table h l ≡ Some w → WordOf N table outside (table l) w
     some_levels zero l w h = no_some w h
-    some_levels (suc n) l w h = some_sound N table (says T (T.start l)) (IsTest T (T.start l)) (says_holds T (T.start l)) (some_level T table n) (some_levels n) (table l) None outside (λ w' e. no_some w' e) (declared l) w h
+    some_levels (suc n) l w h = some_sound N table (says T.automaton (T.start l)) (IsTest T (T.start l)) (says_holds T (T.start l)) (some_level T table n) (some_levels n) (table l) None outside (λ w' e. no_some w' e) (declared l) w h
 
     pub begun_levels : (h : ℕ) (l : L) (x : ℕ) (w : List ℕ) → begun_level T table h l x ≡ Some w → WordOf N table outside (table l) (x ∷ w)
     begun_levels zero l x w h = no_some w h
-    begun_levels (suc n) l x w h = begun_sound N table (says T (T.start l)) (IsTest T (T.start l)) (says_holds T (T.start l)) (some_level T table n) (begun_level T table n) (hollow_level table n) (some_levels n) (begun_levels n) (hollow_levels n) (table l) None outside (λ w' e. no_some w' e) (declared l) x w h
+    begun_levels (suc n) l x w h = begun_sound N table (says T.automaton (T.start l)) (IsTest T (T.start l)) (says_holds T (T.start l)) (some_level T table n) (begun_level T table n) (hollow_level table n) (some_levels n) (begun_levels n) (hollow_levels n) (table l) None outside (λ w' e. no_some w' e) (declared l) x w h

@@ -3,7 +3,7 @@ use Rattle.std.specs.Prelude.{ℕ, zero, suc, Bool, true, false, cond, ◌||◌,
 use Rattle.grammar.specs.Rule.{Rule, done, mark, word, ref, deep, again, seq, around, alt, look, choose, opt, must, rep, make, has, Table, Grammar}
 use Rattle.grammar.specs.Sets.{Sets, nul, first, more}
 use Rattle.grammar.specs.Reader.{◌>>=◌}
-use Rattle.grammar.specs.Tests.{Move, say, go, Tests, step, says, looks, targets, no_tests}
+use Rattle.grammar.specs.Tests.{Move, say, go, Tests, step, says, looks, targets, no_tests, arms}
 
 -- whether each of the classes passes the test
 abbrev pub each : (ℕ → Bool) → List ℕ → Bool
@@ -130,7 +130,7 @@ each_of g (x ∷ xs) = g x ++ each_of g xs
 
 -- the states in which a test looks on behind a token of the set
 abbrev pub onto : {L : Type 0} → Tests L → List ℕ → ℕ → List ℕ
-onto T cs a = each_of (λ c. elim (step T a c) [ say b ↦ [] | go a' ↦ a' ∷ [] ]) cs
+onto T cs a = each_of (λ c. elim (step T.automaton a c) [ say b ↦ [] | go a' ↦ a' ∷ [] ]) cs
 
 abbrev pub after_of : {L : Type 0} → Tests L → Option L → ℕ → List ℕ
 after_of T None a = []
@@ -160,8 +160,8 @@ keeps T q l r = each (λ a. within_set (after T q r a) (T.after l a)) T.states
 
 -- whether no test looks on, in these states, at what may follow
 abbrev pub calm : {L : Type 0} → Tests L → Option (List ℕ) → List ℕ → Bool
-calm T None bs = each (λ a. elim (looks (T.arms a)) [ [] ↦ true | c ∷ cs ↦ false ]) bs
-calm T (Some ds) bs = each (λ a. apart (looks (T.arms a)) ds) bs
+calm T None bs = each (λ a. elim (looks (arms T.automaton a)) [ [] ↦ true | c ∷ cs ↦ false ]) bs
+calm T (Some ds) bs = each (λ a. apart (looks (arms T.automaton a)) ds) bs
 
 -- whether a test that begins in the state is settled at the latest by the token behind the one rule or the other
 abbrev pub told : {K B L : Type 0} → Sets L → Tests L → Option ℕ → Option L → Option (List ℕ) → Rule K B L → Rule K B L → Bool
@@ -220,7 +220,7 @@ some_word J V a (make b r) = some_word J V a r
 -- some word of a level; h bounds how deep levels stand in levels
 abbrev pub some_level : {K B L : Type 0} → Tests L → Table K B L → ℕ → L → Option (List ℕ)
 some_level T table zero l = None
-some_level T table (suc h) l = some_word (says T (T.start l)) (some_level T table h) None (table l)
+some_level T table (suc h) l = some_word (says T.automaton (T.start l)) (some_level T table h) None (table l)
 
 -- whether the rule spells nothing, beyond doubt, where a token of the class follows
 abbrev pub hollow : {K B L : Type 0} → (L → ℕ → Bool) → Rule K B L → ℕ → Bool
@@ -266,7 +266,7 @@ begun J V W E a (make b r) x = begun J V W E a r x
 
 abbrev pub begun_level : {K B L : Type 0} → Tests L → Table K B L → ℕ → L → ℕ → Option (List ℕ)
 begun_level T table zero l x = None
-begun_level T table (suc h) l x = begun (says T (T.start l)) (some_level T table h) (begun_level T table h) (hollow_level table h) None (table l) x
+begun_level T table (suc h) l x = begun (says T.automaton (T.start l)) (some_level T table h) (begun_level T table h) (hollow_level table h) None (table l) x
 
 -- whether there is a word, and all of it is of the mode
 abbrev pub is_word : (ℕ → Bool) → Option (List ℕ) → Bool
@@ -297,11 +297,11 @@ passes g S R l = clear S None (g.table l) && (covers S None l (g.table l) && (fi
 
 -- whether each class that can go on with a run of the level does in some word; h bounds how deep levels stand in levels for the words that are tried
 abbrev pub bears : {K B L : Type 0} → Grammar K B L → Sets L → Tests L → (ℕ → Bool) → ℕ → L → Bool
-bears g S T mode h l = (not (S.empty l) || hollow_level g.table h l zero) && fruitful mode (says T (T.start l)) (some_level T g.table h) (begun_level T g.table h) (hollow_level g.table h) S None None (g.table l)
+bears g S T mode h l = (not (S.empty l) || hollow_level g.table h l zero) && fruitful mode (says T.automaton (T.start l)) (some_level T g.table h) (begun_level T g.table h) (hollow_level g.table h) S None None (g.table l)
 
 -- The check of one row, where closed runs of the level are promised and rows may have tests.
 abbrev pub closes : {K B L : Type 0} → Grammar K B L → Sets L → Ranks B L → Tests L → (ℕ → Bool) → ℕ → L → Bool
-closes g S R T mode h l = not (R.shut l) || ((each (λ a. within_set (targets (T.arms a)) T.states) T.states && (keeps T None l (g.table l) && settled S T R.shut (T.start l) None (T.follow l) (g.table l))) && elim (T.follow l) [ None ↦ bears g S T mode h l | Some cs ↦ true ])
+closes g S R T mode h l = not (R.shut l) || ((each (λ a. within_set (targets (arms T.automaton a)) T.states) T.states && (keeps T None l (g.table l) && settled S T R.shut (T.start l) None (T.follow l) (g.table l))) && elim (T.follow l) [ None ↦ bears g S T mode h l | Some cs ↦ true ])
 
 -- The same, where no row has a test.
 abbrev pub closes_runs : {K B L : Type 0} → Grammar K B L → Sets L → Ranks B L → (ℕ → Bool) → ℕ → L → Bool

@@ -10,12 +10,12 @@ use Rattle.grammar.specs.sums.Token.{class, token_at, end_token}
 use Rattle.grammar.specs.sums.Tree.{Tree, depth, depth_all}
 use Rattle.grammar.specs.sums.Table.{Text, Exprs, grammar}
 use Rattle.grammar.specs.sums.Build.{source}
-use Rattle.grammar.specs.sums.Sets.{sets, ranks}
+use Rattle.grammar.specs.sums.Sets.{sets, ranks, tests}
 use Rattle.grammar.specs.sums.Reading.{level, of_text, of_pattern, IsExprs, IsText, IsWhole, Fails, round_at}
 use Rattle.grammar.proofs.Facts.{none_some, some_pair}
 use Rattle.grammar.proofs.Counts.{count_step, count_start}
-use Rattle.grammar.proofs.Theorem.{read_forward, read_piece, piece_read, read_run, run_read}
-use Rattle.grammar.proofs.sums.Passes.{pass, close, close_text}
+use Rattle.grammar.proofs.Theorem.{read_forward, read_piece, piece_read, read_run_tests, run_read_tests}
+use Rattle.grammar.proofs.sums.Passes.{pass, close, close_text, declared}
 use Rattle.grammar.proofs.sums.Depths.{deepens}
 
 -- what is read, within the limits, is a closed run
@@ -23,18 +23,18 @@ pub read_is_run : (ts : List Token) (i : ℕ) (t : Tree) (j : ℕ) → level ts 
 unfolding level round_at
 read_is_run ts i t j h within shallow few = record {
   within = within;
-  run = read_run grammar sets ranks pass depth_all (source ts) (deepens ts) (suc (length ts)) of_pattern 12 close 1002 Exprs (t ∷ []) i j refl h (omega (arith, shallow)) few;
+  run = read_run_tests grammar sets ranks pass depth_all (source ts) (deepens ts) (suc (length ts)) tests declared of_pattern 12 close 1002 Exprs (t ∷ []) i j refl refl h (omega (arith, shallow)) few;
 }
 
 -- each closed run of a pattern is read
 pub run_is_read : (ts : List Token) (i : ℕ) (t : Tree) (j : ℕ) → IsExprs of_pattern ts i t j → level ts 1002 Exprs i ≡ Some (t ∷ [], j)
 unfolding level
-run_is_read ts i t j r = run_read grammar sets ranks pass depth_all (source ts) (deepens ts) (suc (length ts)) of_pattern 12 close Exprs (t ∷ []) i j refl refl (λ n. refl) r.run (omega (arith, r.within))
+run_is_read ts i t j r = run_read_tests grammar sets ranks pass depth_all (source ts) (deepens ts) (suc (length ts)) tests declared of_pattern 12 close Exprs (t ∷ []) i j refl refl refl (λ n. refl) r.run (omega (arith, r.within))
 
 -- and each of a text, where texts alone count
 pub text_is_read : (ts : List Token) (i : ℕ) (t : Tree) (j : ℕ) → IsText ts → IsExprs of_text ts i t j → level ts 1002 Exprs i ≡ Some (t ∷ [], j)
 unfolding level class
-text_is_read ts i t j all r = run_read grammar sets ranks pass depth_all (source ts) (deepens ts) (suc (length ts)) of_text 12 close_text Exprs (t ∷ []) i j refl refl all r.run (omega (arith, r.within))
+text_is_read ts i t j all r = run_read_tests grammar sets ranks pass depth_all (source ts) (deepens ts) (suc (length ts)) tests declared of_text 12 close_text Exprs (t ∷ []) i j refl refl refl all r.run (omega (arith, r.within))
 
 pub forward : (ts : List Token) (i : ℕ) (t : Tree) (j : ℕ) → level ts 1002 Exprs i ≡ Some (t ∷ [], j) → i ≤ j
 unfolding level

@@ -10,15 +10,20 @@ use Rattle.grammar.specs.declared.example.reader.ReadFault.{ReadFault}
 use Rattle.grammar.specs.declared.example.reader.ReadFault.TheVariants as faults
 use Rattle.grammar.specs.Rule.{has, IsPiece, IsRun, brackets_round}
 use Rattle.grammar.specs.Reader.{read_level}
+use Rattle.grammar.specs.Tests.{verdict}
 use Rattle.grammar.specs.sums.Token.{class, token_at}
 use Rattle.grammar.specs.sums.Tree.{Tree, view, views, depth_all}
-use Rattle.grammar.specs.sums.Table.{Level, Text, Exprs, table, grammar}
+use Rattle.grammar.specs.sums.Table.{Level, Text, Exprs, table, grammar, automaton}
 use Rattle.grammar.specs.sums.Build.{source, parted, group}
 use Rattle.grammar.specs.sums.Sets.{sets, ranks}
 
 -- the reader of a level, by the table
 unfoldable pub level : List Token → ℕ → Level → ℕ → Option (List Tree × ℕ)
 level ts room l i = read_level (source ts) sets (suc (length ts)) table ranks.top room l i
+
+-- what the test of a cast says in a state before the token at a place, looking at n tokens at most
+unfoldable pub says_at : List Token → ℕ → ℕ → ℕ → Bool
+says_at ts n a i = verdict automaton n a (source ts).cls i
 
 -- the classes that a text may have, and not a pattern alone
 abbrev pub of_text : ℕ → Bool
