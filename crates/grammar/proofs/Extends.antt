@@ -6,7 +6,7 @@ use Rattle.grammar.specs.Sets.{Sets, nul, first, more, first_of, more_of, empty_
 use Rattle.grammar.specs.Tests.{Tests, targets, IsTest, arms}
 use Rattle.grammar.specs.Check.{each, within_set, follows, admits, behind_part, keeps, some_word, hollow, begun, is_word, fruitful}
 use Rattle.grammar.proofs.Facts.{true_false, decide, and_both, or_either, implied, ltb_less, ltb_same, less_or_same, no_some, each_at}
-use Rattle.grammar.proofs.Spelled.{Rel, Other, rounds, Never, Spelled, IsClear, IsGrammar}
+use Rattle.grammar.proofs.Spelled.{Rel, Other, rounds, Never, Spelled, IsGrammar}
 use Rattle.grammar.proofs.Good.{Good, part_none, part_before, part_end, good_rule, good_within, good_rounds}
 use Rattle.grammar.proofs.Meaning.{derived}
 use Rattle.grammar.proofs.Fair.{Same, unlike_moves, admitted, admitted_any, follows_first, follows_end, behind_any, Fair, Fair_loop, fair_seq, fair_around, fair_alt, fair_look, fair_choose, told_parts, fair_opt, fair_must, fair_rep, goes, heads, same_choice}

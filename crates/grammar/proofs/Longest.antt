@@ -1,12 +1,12 @@
 -- A run that the token in hand can't go on with is the longest, in each token list that agrees up to and with that token.
-use Rattle.std.proofs.Common.{◌≡◌, ℕ, zero, suc, ◌<◌, ◌≤◌, List, [], refl, ap, arith, sym, ◌∙◌, inl, inr}
+use Rattle.std.proofs.Common.{◌≡◌, ℕ, zero, suc, ◌<◌, ◌≤◌, List, [], ap, arith, sym, ◌∙◌, inl, inr}
 use Rattle.std.specs.Prelude.{Bool, true, false, cond, Option, Some, None, ◌⊎◌, ltb}
 use Rattle.grammar.specs.Rule.{Rule, done, mark, word, ref, deep, again, seq, around, alt, look, choose, opt, must, rep, make, has, Source, Table, Loop, outside, within, Derives, d_again}
 use Rattle.grammar.specs.Sets.{Sets, nul, first, more, first_of, more_of, empty_of}
 use Rattle.grammar.specs.Tests.{Tests, targets, arms}
 use Rattle.grammar.specs.Check.{each, within_set, follows, admits, behind_part, follow_of, keeps}
 use Rattle.grammar.proofs.Facts.{true_false, and_both, ltb_less, ltb_same, less_or_same, Apart, Within}
-use Rattle.grammar.proofs.Spelled.{Rel, part, Other, rounds, Never, Spelled, Ladder, pick, Level, IsClear, IsGrammar}
+use Rattle.grammar.proofs.Spelled.{Rel, part, Other, rounds, Never, Spelled, Ladder, pick, Level, IsGrammar}
 use Rattle.grammar.proofs.Good.{Good, Seq, Around, Alt, Look, Choose, Must, Opt, Make, part_before, part_end, good_rule, good_never, good_within, good_pick, good_ladder, good_level}
 use Rattle.grammar.proofs.Meaning.{derived, pick_derived, ladder_derived, level_derived}
 use Rattle.grammar.proofs.Fair.{admitted, follows_first, follows_end, Fair, Fair_loop, fair_seq, fair_around, fair_alt, fair_look, fair_choose, fair_opt, fair_must, fair_rep, same_choice}

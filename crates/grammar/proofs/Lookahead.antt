@@ -1,6 +1,6 @@
 -- What a test goes by: states, and the tokens that it looks at.
 use Rattle.std.proofs.Common.{◌≡◌, ℕ, zero, suc, ◌-◌, ◌<◌, ◌≤◌, List, [], ◌∷◌, ◌++◌, refl, ap, arith, sym, ◌∙◌, inl, inr}
-use Rattle.std.specs.Prelude.{Bool, true, false, cond, Option, Some, None, ◌⊎◌, eqb}
+use Rattle.std.specs.Prelude.{Bool, true, false, cond, Option, Some, None, eqb}
 use Rattle.grammar.specs.Rule.{has}
 use Rattle.grammar.specs.Tests.{Move, say, go, Arm, Automaton, Tests, arm_at, step, verdict, looks, targets, arms}
 use Rattle.grammar.specs.Check.{each, apart, within_set, follows, each_of, onto, calm}

@@ -3,7 +3,7 @@ use Rattle.std.specs.Prelude.{ℕ, zero, suc, Bool, true, false, cond, ◌||◌,
 use Rattle.grammar.specs.Rule.{Rule, done, mark, word, ref, deep, again, seq, around, alt, look, choose, opt, must, rep, make, has, Table, Grammar}
 use Rattle.grammar.specs.Sets.{Sets, nul, first, more}
 use Rattle.grammar.specs.Reader.{◌>>=◌}
-use Rattle.grammar.specs.Tests.{Move, say, go, Tests, step, says, looks, targets, no_tests, arms}
+use Rattle.grammar.specs.Tests.{say, go, Tests, step, says, looks, targets, no_tests, arms}
 
 -- whether each of the classes passes the test
 abbrev pub each : (ℕ → Bool) → List ℕ → Bool

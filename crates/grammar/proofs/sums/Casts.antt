@@ -4,7 +4,7 @@ use Rattle.std.specs.Prelude.{Bool, true, false, ◌||◌, eqb}
 use Rattle.grammar.specs.declared.example.token.Token.{Token}
 use Rattle.grammar.specs.declared.example.token.Word.TheVariants.{Name, Number, OpenRound, CloseRound, Times}
 use Rattle.grammar.specs.Rule.{has}
-use Rattle.grammar.specs.Tests.{Move, say, go, verdict, test}
+use Rattle.grammar.specs.Tests.{say, go, verdict, test}
 use Rattle.grammar.specs.sums.Token.{class, token_at}
 use Rattle.grammar.specs.sums.Table.{automaton}
 use Rattle.grammar.specs.sums.Build.{source}

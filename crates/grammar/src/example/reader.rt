@@ -402,7 +402,12 @@ fn unary(alloc: Global, tokens: &[Token], room: u32, at: usize) -> Result<(Node,
 /// `"(" pointer ")" unary`, where the test says so, else `call`
 #[cycle(reader)]
 #[tactic(auto, using(crate::proofs::sums::Steps::cast_step, crate::proofs::sums::Steps::cast_zero, crate::proofs::sums::Casts::cast_test, crate::proofs::sums::Views::list_laws))]
-fn cast(alloc: Global, tokens: &[Token], room: u32, at: usize) -> Result<(Node, usize), ReadFault>
+pub fn cast(
+    alloc: Global,
+    tokens: &[Token],
+    room: u32,
+    at: usize,
+) -> Result<(Node, usize), ReadFault>
     requires { at ≤ length tokens.now }
     ensures within { IfOk result (λ x. x.1 ≤ length tokens.now) }
     ensures gives { Gives result (level tokens.now room Cast at) }

@@ -1,4 +1,4 @@
-use Rattle.std.proofs.Common.{◌≡◌, ◌≤◌, ◌-◌, ◌+◌, suc, length}
+use Rattle.std.proofs.Common.{◌≡◌, ◌≤◌, ◌-◌, ◌+◌, length}
 use Rattle.grammar.specs.sums.Table.{automaton}
 use Rattle.grammar.specs.sums.Reading.{says_at}
 use Rattle.grammar.proofs.example.reader.closes_pointer.Given as goal
