@@ -9,7 +9,8 @@ use Rattle.grammar.proofs.Facts.{true_false, decide, and_both, or_either, implie
 use Rattle.grammar.proofs.Spelled.{Rel, Other, rounds, Never, Spelled, IsGrammar}
 use Rattle.grammar.proofs.Good.{Good, part_none, part_before, part_end, good_rule, good_within, good_rounds}
 use Rattle.grammar.proofs.Meaning.{derived}
-use Rattle.grammar.proofs.Fair.{Same, unlike_moves, admitted, admitted_any, follows_first, follows_end, behind_any, Fair, Fair_loop, fair_seq, fair_around, fair_alt, fair_look, fair_choose, told_parts, fair_opt, fair_must, fair_rep, goes, heads, same_choice}
+use Rattle.grammar.proofs.Fair.{Same, unlike_moves, admitted, admitted_any, follows_first, follows_end, behind_any, Fair, Fair_loop, fair_seq, fair_around, fair_alt, fair_look, fair_choose, told_parts, fair_opt, fair_must, fair_rep, clear_loop, same_choice}
+use Rattle.grammar.proofs.Bounded.{forward, still, head}
 use Rattle.grammar.proofs.Words.{Match, in_row, WordOf, Empty, some_sound, hollow_sound, begun_sound}
 
 -- a word that a table gives, all of the mode
@@ -38,24 +39,24 @@ module _ {K B L : Type 0} (N : Type 0) (S : Sets L) (table : Table K B L) (G : I
   moves t u m (Some q) F (d_again {j = j} d) a k fo sm = let x : _ = moves t u m (Some q) (T.follow q) d a a.0 (admitted F (T.follow q) (t.cls j) k.0 fo) sm in (x.0, d_again x.1)
   moves t u m q F (d_rep {l = l} {r = r} {j = j} d) a k fo sm =
       let p : _ = fair_rep S T C m q F l r k in
-      let x : _ = moves t u m (Some l) (T.follow l) d (p.0, p.2, p.3) p.0 (admitted F (T.follow l) (t.cls j) p.1 fo) sm in (x.0, d_rep x.1)
-  moves t u m q F (d_seq {r = r} {s = s} {j = j} k' ys zs d e eq) a k fo sm =
+      let x : _ = moves t u m (Some l) (T.follow l) d (p.0, p.2, p.3, refl) p.0 (admitted F (T.follow l) (t.cls j) p.1 fo) sm in (x.0, d_rep x.1)
+  moves t u {c = c} m q F (d_seq {r = r} {s = s} {j = j} k' ys zs d e eq) a k fo sm =
       let p : _ = fair_seq S T C m q F r s k in
-      let h : _ = heads S table G T C steady all_fair all_kept t m q F e a p.1 in
-      let next : follows (behind_part S q s F) (t.cls k') ≡ true = elim (less_or_same k' j (goes e)) [
-        | inl lt ↦ follows_first S q s F (t.cls k') (h.0 lt)
-        | inr same ↦ follows_end S q s F (t.cls k') (h.1 same) (ap (λ n. follows F (t.cls n)) same ∙ fo)
+      let loop : _ = clear_loop t S table G T C m c q a in
+      let next : follows (behind_part S q s F) (t.cls k') ≡ true = elim (less_or_same k' j (forward t table S G e)) [
+        | inl lt ↦ follows_first S q s F (t.cls k') (head t table S G e q loop p.1.1 lt)
+        | inr same ↦ follows_end S q s F (t.cls k') (still t table S G e q loop p.1.1 same) (ap (λ n. follows F (t.cls n)) same ∙ fo)
       ] in
-      let x : _ = moves t u m q (behind_part S q s F) d a p.0 next (λ n b c. sm n b (omega (arith, goes d, goes e))) in
-      let y : _ = moves t u m q F e a p.1 fo (λ n b c. sm n (omega (arith, goes d)) c) in
+      let x : _ = moves t u m q (behind_part S q s F) d a p.0 next (λ n b c. sm n b (omega (arith, forward t table S G d, forward t table S G e))) in
+      let y : _ = moves t u m q F e a p.1 fo (λ n b c. sm n (omega (arith, forward t table S G d)) c) in
       in_row k' x.0 y.0 x.1 y.1
   moves t u m q F (d_around {cs = cs} {ds = ds} {r = r} {i = i} k' g d g' s) a k fo sm =
       let x : _ = moves t u m q (Some ds) d a (fair_around S T C m q F cs ds r k) g' (λ n b c. sm n (omega arith) (omega (arith, s))) in
-      (x.0, d_around k' (rw (← sm i (omega arith) (omega (arith, s, goes d))) g) x.1 (rw (← sm k' (omega (arith, goes d)) (omega (arith, s))) g') s)
+      (x.0, d_around k' (rw (← sm i (omega arith) (omega (arith, s, forward t table S G d))) g) x.1 (rw (← sm k' (omega (arith, forward t table S G d)) (omega (arith, s))) g') s)
   moves t u m q F (d_left {r = r} {s = s} d) a k fo sm = let x : _ = moves t u m q F d a (fair_alt S T C m q F r s k).0 fo sm in (x.0, d_left x.1)
   moves t u m q F (d_right {r = r} {s = s} d) a k fo sm = let x : _ = moves t u m q F d a (fair_alt S T C m q F r s k).1 fo sm in (x.0, d_right x.1)
   moves t u m q F (d_seen {w = w} {b = b} {cs = cs} {ds = ds} {r = r} {s = s} {i = i} {j = j} ys g g' d e) a k fo sm =
-      let le : suc (suc i) ≤ j = goes d in
+      let le : suc (suc i) ≤ j = forward t table S G d in
       let x : _ = moves t u m q F d a (fair_look S T C m q F w cs ds b r s k).0 fo (λ n b' c. sm n (omega arith) c) in
       (u.build b i j (u.leaf w i ∷ x.0), d_seen x.0 (rw (← sm i (omega arith) (omega arith)) g) (rw (← sm (suc i) (omega arith) (omega arith)) g') x.1 refl)
   moves t u m q F (d_unseen {w = w} {b = b} {cs = cs} {ds = ds} {r = r} {s = s} {i = i} {j = j} g d) a k fo sm = let x : _ = moves t u m q F d a (fair_look S T C m q F w cs ds b r s k).1 fo sm in (x.0, d_unseen (unlike_moves t u cs ds i j sm g) x.1)
@@ -318,7 +319,7 @@ module _ {K B L : Type 0} (N : Type 0) (S : Sets L) (table : Table K B L) (G : I
         elim (extends_rounds l r (λ Y. Spelled t S m X Y (Some l) r)
         (λ Y yd. derived t table S m X ld r (Some l) (within l r) Y yd)
         (λ Y gy. good_within t (first S (Some l) r) (S.first l) (more S (Some l) r) (S.more l) (nul S (Some l) r) (S.empty l) _ (good_rule t S m X levels r (Some l) Y gy k.1.0) k.1.1.first k.1.1.more k.1.1.empty)
-        (λ Y gy yd yx. extends r (some_word J V None r) (Some l) (within l r) Y gy yd yx (λ w' h. word_again l r w' (some_sound N table J (IsTest T st) js V v r None (within l r) (λ w'' n'. no_some w'' n') k.2 w' h)) (λ h. empty_again l r (hollow_sound N table E e' r (within l r) zero (implied (S.empty l) (hollow E r zero) g.0 h))) (p.0, p.2, p.3) n.0 g.1) m xs i j here d) [
+        (λ Y gy yd yx. extends r (some_word J V None r) (Some l) (within l r) Y gy yd yx (λ w' h. word_again l r w' (some_sound N table J (IsTest T st) js V v r None (within l r) (λ w'' n'. no_some w'' n') k.2 w' h)) (λ h. empty_again l r (hollow_sound N table E e' r (within l r) zero (implied (S.empty l) (hollow E r zero) g.0 h))) (p.0, p.2, p.3, refl) n.0 g.1) m xs i j here d) [
           | inl y ↦ inl y
           | inr y ↦ inr (raise t (within l r) c r (rep l r) i j x (λ u sm e at ys z. (ys, d_rep z)) y)
         ]

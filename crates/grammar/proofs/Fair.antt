@@ -1,5 +1,5 @@
 -- Rules whose tests are settled by the tokens of a piece and the one behind it.
-use Rattle.std.proofs.Common.{◌≡◌, ℕ, zero, suc, ◌<◌, ◌≤◌, List, [], ◌∷◌, ◌++◌, refl, arith, sym, ◌∙◌, inl, inr}
+use Rattle.std.proofs.Common.{◌≡◌, refl, ap, ℕ, zero, suc, ◌<◌, ◌≤◌, List, [], ◌∷◌, ◌++◌, arith, sym, ◌∙◌, inl, inr}
 use Rattle.std.specs.Prelude.{Bool, true, false, cond, ◌&&◌, not, Option, Some, None, ◌⊎◌}
 use Rattle.grammar.specs.Rule.{Rule, seq, around, alt, look, choose, opt, must, rep, has, Source, Table, Unlike, Loop, outside, within, Derives, d_done, d_mark, d_word, d_ref, d_deep, d_again, d_rep, d_seq, d_around, d_left, d_right, d_seen, d_unseen, d_chosen, d_unchosen, d_without, d_with, d_barred, d_taken, d_make}
 use Rattle.grammar.specs.Sets.{Sets, nul, first}
@@ -7,6 +7,7 @@ use Rattle.grammar.specs.Tests.{Tests, targets, tests, IsTest, AllTests, arms}
 use Rattle.grammar.specs.Check.{each, within_set, follows, admits, behind_part, each_of, onto, after, keeps, calm, told, settled}
 use Rattle.grammar.proofs.Facts.{and_true, and_both, not_true, or_left, or_right, less_or_same, has_left, has_right, has_head, skip, each_at, within_holds}
 use Rattle.grammar.proofs.Spelled.{IsClear, IsGrammar, Covers}
+use Rattle.grammar.proofs.Bounded.{Around_clear, forward}
 use Rattle.grammar.proofs.Lookahead.{Comes, split_at, same_place, one_token, has_each_of, has_onto, calm_says, stays, same_verdict}
 
 -- two token lists have the same classes from one place up to another
@@ -111,80 +112,20 @@ module _ {K B L : Type 0} (S : Sets L) (T : Tests L) (C : L → Bool) (m : Optio
       let b : _ = and_both (keeps T (Some l) l r) (settled S T C m (Some l) (T.follow l) r) a.1 in
       ((b.1, h.1.0, h.2), a.0, b.0, h.1.1)
 
--- a derivation goes forward
-pub goes : {K B L N : Type 0} {t : Source K B N} {table : Table K B L} {c : Loop K B L} {r : Rule K B L} {xs : List N} {i j : ℕ} → Derives t table c r xs i j → i ≤ j
-goes (d_done e s) = omega (arith, s)
-goes (d_mark h e s) = omega (arith, s)
-goes (d_word h e s) = omega (arith, s)
-goes (d_ref d) = goes d
-goes (d_deep d) = goes d
-goes (d_again d) = goes d
-goes (d_rep d) = goes d
-goes (d_seq k ys zs d e s) = omega (arith, goes d, goes e)
-goes (d_around k h d g s) = omega (arith, goes d, s)
-goes (d_left d) = goes d
-goes (d_right d) = goes d
-goes (d_seen ys h g d s) = omega (arith, goes d)
-goes (d_unseen h d) = goes d
-goes (d_chosen h d) = goes d
-goes (d_unchosen h d) = goes d
-goes (d_barred h e s) = omega (arith, s)
-goes (d_taken d) = goes d
-goes (d_without e s) = omega (arith, s)
-goes (d_with d) = goes d
-goes (d_make ys d s) = goes d
-
 -- the same of the loop around, where there is one
 abbrev pub Fair_loop : {K B L : Type 0} → Sets L → Tests L → (L → Bool) → Option ℕ → Loop K B L → Option L → Type 0
 Fair_loop S T C m outside q = record {}
 Fair_loop S T C m (within l r) None = record { no : zero ≡ suc zero }
-Fair_loop S T C m (within l r) (Some q) = Fair S T C m (Some q) (T.follow q) r × (keeps T (Some q) q r ≡ true) × Covers S (Some q) q r
+Fair_loop S T C m (within l r) (Some q) = Fair S T C m (Some q) (T.follow q) r × (keeps T (Some q) q r ≡ true) × Covers S (Some q) q r × (q ≡ l)
+
+pub clear_loop : {K B L N : Type 0} (t : Source K B N) (S : Sets L) (table : Table K B L) (G : IsGrammar S table) (T : Tests L) (C : L → Bool) (m : Option ℕ) (c : Loop K B L) (q : Option L) → Fair_loop S T C m c q → Around_clear t table S G c q
+clear_loop t S table G T C m outside q h = record {}
+clear_loop t S table G T C m (within l r) None h = absurd (omega (arith, h.no))
+clear_loop t S table G T C m (within l r) (Some q) h = (ap (λ x. Some x) h.3, rw h.3 at h.0.1, rw h.3 at h.2)
 
 module _ {K B L : Type 0} (S : Sets L) (table : Table K B L) (G : IsGrammar S table) (T : Tests L) (C : L → Bool) (steady : each (λ a. within_set (targets (arms T.automaton a)) T.states) T.states ≡ true)
     (all_fair : (l : L) → C l ≡ true → Fair S T C (T.start l) None (T.follow l) (table l)) (all_kept : (l : L) → C l ≡ true → keeps T None l (table l) ≡ true) where
   module _ {N : Type 0} (t : Source K B N) where
-    -- a piece begins with a class that is declared, or is empty where that is
-    pub heads : {c : Loop K B L} {r : Rule K B L} {xs : List N} {i j : ℕ} (m : Option ℕ) (q : Option L) (F : Option (List ℕ)) → Derives t table c r xs i j → Fair_loop S T C m c q → Fair S T C m q F r → (i < j → has (first S q r) (t.cls i) ≡ true) × (i ≡ j → nul S q r ≡ true)
-    heads m q F (d_done e s) a k = (λ lt. absurd (omega (arith, s, lt)), λ eq. refl)
-    heads m q F (d_mark h e s) a k = (λ lt. h, λ eq. absurd (omega (arith, s, eq)))
-    heads m q F (d_word h e s) a k = (λ lt. h, λ eq. absurd (omega (arith, s, eq)))
-    heads m q F (d_ref {l = l} {i = i} d) a k =
-        let p : _ = and_both (C l) (admits F (T.follow l)) k.0 in
-        let x : _ = heads (T.start l) None (T.follow l) d (record {}) (all_fair l p.0) in
-        (λ lt. (G.covers l).first (t.cls i) (x.0 lt), λ eq. (G.covers l).empty (x.1 eq))
-    heads m q F (d_deep {l = l} {i = i} d) a k =
-        let p : _ = and_both (C l) (admits F (T.follow l)) k.0 in
-        let x : _ = heads (T.start l) None (T.follow l) d (record {}) (all_fair l p.0) in
-        (λ lt. (G.covers l).first (t.cls i) (x.0 lt), λ eq. (G.covers l).empty (x.1 eq))
-    heads m None F (d_again d) a k = absurd (omega (arith, a.no))
-    heads m (Some q) F (d_again {i = i} d) a k = let x : _ = heads m (Some q) (T.follow q) d a a.0 in (λ lt. a.2.first (t.cls i) (x.0 lt), λ eq. a.2.empty (x.1 eq))
-    heads m q F (d_rep {l = l} {r = r} {i = i} d) a k =
-        let p : _ = fair_rep S T C m q F l r k in
-        let x : _ = heads m (Some l) (T.follow l) d (p.0, p.2, p.3) p.0 in
-        (λ lt. p.3.first (t.cls i) (x.0 lt), λ eq. p.3.empty (x.1 eq))
-    heads m q F (d_seq {r = r} {s = s} {i = i} k' ys zs d e eq) a k =
-        let p : _ = fair_seq S T C m q F r s k in
-        let x : _ = heads m q (behind_part S q s F) d a p.0 in
-        let y : _ = heads m q F e a p.1 in (
-          λ lt. elim (less_or_same i k' (goes d)) [
-            | inl l ↦ has_left (first S q r) (cond (nul S q r) (first S q s) []) (t.cls i) (x.0 l)
-            | inr l ↦ skip (nul S q r) (first S q r) (first S q s) (t.cls i) (x.1 l) (rw l (y.0 (rw l at lt)))
-          ],
-          λ h. and_true (nul S q r) (nul S q s) (x.1 (omega (arith, goes d, goes e, h))) (y.1 (omega (arith, goes d, goes e, h))),
-        )
-    heads m q F (d_around k' h d g s) a k = (λ lt. h, λ eq. absurd (omega (arith, goes d, s, eq)))
-    heads m q F (d_left {r = r} {s = s} {i = i} d) a k = let x : _ = heads m q F d a (fair_alt S T C m q F r s k).0 in (λ lt. has_left (first S q r) (first S q s) (t.cls i) (x.0 lt), λ eq. or_left (nul S q r) (nul S q s) (x.1 eq))
-    heads m q F (d_right {r = r} {s = s} {i = i} d) a k = let x : _ = heads m q F d a (fair_alt S T C m q F r s k).1 in (λ lt. has_right (first S q r) (first S q s) (t.cls i) (x.0 lt), λ eq. or_right (nul S q r) (nul S q s) (x.1 eq))
-    heads m q F (d_seen {cs = cs} {s = s} {i = i} ys h g d e) a k = (λ lt. has_left cs (first S q s) (t.cls i) h, λ eq. absurd (omega (arith, goes d, eq)))
-    heads m q F (d_unseen {w = w} {b = b} {cs = cs} {ds = ds} {r = r} {s = s} {i = i} g d) a k = let x : _ = heads m q F d a (fair_look S T C m q F w cs ds b r s k).1 in (λ lt. has_right cs (first S q s) (t.cls i) (x.0 lt), λ eq. x.1 eq)
-    heads m q F (d_chosen {p = p} {r = r} {s = s} {i = i} h d) a k = let x : _ = heads m q F d a (fair_choose S T C m q F p r s k).0 in (λ lt. has_left (first S q r) (first S q s) (t.cls i) (x.0 lt), λ eq. or_left (nul S q r) (nul S q s) (x.1 eq))
-    heads m q F (d_unchosen {p = p} {r = r} {s = s} {i = i} h d) a k = let x : _ = heads m q F d a (fair_choose S T C m q F p r s k).1 in (λ lt. has_right (first S q r) (first S q s) (t.cls i) (x.0 lt), λ eq. or_right (nul S q r) (nul S q s) (x.1 eq))
-    heads m q F (d_without e s) a k = (λ lt. absurd (omega (arith, s, lt)), λ eq. refl)
-    heads m q F (d_with {r = r} d) a k = ((heads m q F d a (fair_opt S T C m q F r k)).0, λ eq. refl)
-    heads m q F (d_barred h e s) a k = (λ lt. absurd (omega (arith, s, lt)), λ eq. refl)
-    heads m q F (d_taken {cs = cs} {r = r} d) a k = ((heads m q F d a (fair_must S T C m q F cs r k).0).0, λ eq. refl)
-    heads m q F (d_make ys d s) a k = heads m q F d a k
-
     -- a test that comes through a piece without being settled is in a state that is declared
     comes_through : {c : Loop K B L} {r : Rule K B L} {xs : List N} {i j : ℕ} (m : Option ℕ) (q : Option L) (F : Option (List ℕ)) → Derives t table c r xs i j → Fair_loop S T C m c q → Fair S T C m q F r → (a b : ℕ) → has T.states a ≡ true → Comes T t.cls a i b j → has (after T q r a) b ≡ true
     comes_through m q F (d_done e s) f k a b h z = has_head a [] b (same_place T t.cls z s)
@@ -200,22 +141,22 @@ module _ {K B L : Type 0} (S : Sets L) (table : Table K B L) (G : IsGrammar S ta
     comes_through m (Some q) F (d_again {r = r} d) f k a b h z = within_holds (after T (Some q) r a) (T.after q a) (each_at (λ c. within_set (after T (Some q) r c) (T.after q c)) T.states f.1 a h) b (comes_through m (Some q) (T.follow q) d f f.0 a b h z)
     comes_through m q F (d_rep {l = l} {r = r} d) f k a b h z =
         let p : _ = fair_rep S T C m q F l r k in
-        within_holds (after T (Some l) r a) (T.after l a) (each_at (λ c. within_set (after T (Some l) r c) (T.after l c)) T.states p.2 a h) b (comes_through m (Some l) (T.follow l) d (p.0, p.2, p.3) p.0 a b h z)
+        within_holds (after T (Some l) r a) (T.after l a) (each_at (λ c. within_set (after T (Some l) r c) (T.after l c)) T.states p.2 a h) b (comes_through m (Some l) (T.follow l) d (p.0, p.2, p.3, refl) p.0 a b h z)
     comes_through m q F (d_seq {r = r} {s = s} k' ys zs d e eq) f k a b h z =
         let p : _ = fair_seq S T C m q F r s k in
-        let y : _ = split_at T t.cls z k' (goes d) (goes e) in
+        let y : _ = split_at T t.cls z k' (forward t table S G d) (forward t table S G e) in
         has_each_of (λ c. after T q s c) (after T q r a) y.0 b (comes_through m q (behind_part S q s F) d f p.0 a y.0 h y.1) (comes_through m q F e f p.1 y.0 b (stays T t.cls steady y.1 h) y.2)
     comes_through m q F (d_around {cs = cs} {ds = ds} {r = r} {i = i} k' g d g' s) f k a b h z =
-        let y : _ = split_at T t.cls z (suc i) (omega arith) (omega (arith, goes d, s)) in
-        let w : _ = split_at T t.cls y.2 k' (goes d) (omega (arith, s)) in
+        let y : _ = split_at T t.cls z (suc i) (omega arith) (omega (arith, forward t table S G d, s)) in
+        let w : _ = split_at T t.cls y.2 k' (forward t table S G d) (omega (arith, s)) in
         has_each_of (λ c. onto T ds c) (each_of (λ c. after T q r c) (onto T cs a)) w.0 b
         (has_each_of (λ c. after T q r c) (onto T cs a) y.0 w.0 (has_onto T cs a (t.cls i) y.0 g (one_token T t.cls y.1 refl)) (comes_through m q (Some ds) d f (fair_around S T C m q F cs ds r k) y.0 w.0 (stays T t.cls steady y.1 h) w.1))
         (has_onto T ds w.0 (t.cls k') b g' (one_token T t.cls w.2 s))
     comes_through m q F (d_left {r = r} {s = s} d) f k a b h z = has_left (after T q r a) (after T q s a) b (comes_through m q F d f (fair_alt S T C m q F r s k).0 a b h z)
     comes_through m q F (d_right {r = r} {s = s} d) f k a b h z = has_right (after T q r a) (after T q s a) b (comes_through m q F d f (fair_alt S T C m q F r s k).1 a b h z)
     comes_through m q F (d_seen {w = w} {b = v} {cs = cs} {ds = ds} {r = r} {s = s} {i = i} ys g g' d e) f k a b h z =
-        let y : _ = split_at T t.cls z (suc i) (omega arith) (omega (arith, goes d)) in
-        let x : _ = split_at T t.cls y.2 (suc (suc i)) (omega arith) (goes d) in
+        let y : _ = split_at T t.cls z (suc i) (omega arith) (omega (arith, forward t table S G d)) in
+        let x : _ = split_at T t.cls y.2 (suc (suc i)) (omega arith) (forward t table S G d) in
         has_left (each_of (λ c. after T q r c) (each_of (λ c. onto T ds c) (onto T cs a))) (after T q s a) b
         (has_each_of (λ c. after T q r c) (each_of (λ c. onto T ds c) (onto T cs a)) x.0 b
         (has_each_of (λ c. onto T ds c) (onto T cs a) y.0 x.0 (has_onto T cs a (t.cls i) y.0 g (one_token T t.cls y.1 refl)) (has_onto T ds y.0 (t.cls (suc i)) x.0 g' (one_token T t.cls x.1 refl)))
@@ -231,7 +172,7 @@ module _ {K B L : Type 0} (S : Sets L) (table : Table K B L) (G : IsGrammar S ta
 
     -- a test that begins a piece of the rule says the same of each list that agrees up to and with the token behind the piece
     same_test : {c : Loop K B L} (r : Rule K B L) {xs : List N} {i j : ℕ} (a : ℕ) (p : (ℕ → ℕ) → ℕ → Bool) (q : Option L) (F : Option (List ℕ)) → Derives t table c r xs i j → Fair_loop S T C (Some a) c q → Fair S T C (Some a) q F r → IsTest T (Some a) p → has T.states a ≡ true → calm T F (after T q r a) ≡ true → follows F (t.cls j) ≡ true → (f : ℕ → ℕ) → ((n : ℕ) → i ≤ n → n ≤ j → t.cls n ≡ f n) → p t.cls i ≡ p f i
-    same_test r {i = i} {j = j} a p q F d f k is h ca fo g ag = is t.cls i ∙ (same_verdict T t.cls g T.automaton.most a i j (goes d) ag (λ b z. calm_says T F (after T q r a) ca b (t.cls j) (comes_through (Some a) q F d f k a b h z) fo) ∙ sym (is g i))
+    same_test r {i = i} {j = j} a p q F d f k is h ca fo g ag = is t.cls i ∙ (same_verdict T t.cls g T.automaton.most a i j (forward t table S G d) ag (λ b z. calm_says T F (after T q r a) ca b (t.cls j) (comes_through (Some a) q F d f k a b h z) fo) ∙ sym (is g i))
 
     pub same_choice : {c : Loop K B L} {xs : List N} {i j : ℕ} (m : Option ℕ) (q : Option L) (F : Option (List ℕ)) (p : (ℕ → ℕ) → ℕ → Bool) (r s : Rule K B L) → Derives t table c r xs i j ⊎ Derives t table c s xs i j → Fair_loop S T C m c q → Fair S T C m q F (choose p r s) → follows F (t.cls j) ≡ true → (f : ℕ → ℕ) → ((n : ℕ) → i ≤ n → n ≤ j → t.cls n ≡ f n) → p t.cls i ≡ p f i
     same_choice None q F p r s d f k fo g ag = let z : _ = fair_choose S T C None q F p r s k in cc

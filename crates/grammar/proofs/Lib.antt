@@ -8,6 +8,7 @@ pub mod Longest
 pub mod Meaning
 pub mod Checked
 pub mod Bounded
+pub mod Pieces
 pub mod Words
 pub mod Stable
 pub mod Extends

@@ -1,5 +1,5 @@
 -- A run that the token in hand can't go on with is the longest, in each token list that agrees up to and with that token.
-use Rattle.std.proofs.Common.{◌≡◌, ℕ, zero, suc, ◌<◌, ◌≤◌, List, [], ap, arith, sym, ◌∙◌, inl, inr}
+use Rattle.std.proofs.Common.{◌≡◌, refl, ap, ℕ, zero, suc, ◌<◌, ◌≤◌, List, [], arith, sym, ◌∙◌, inl, inr}
 use Rattle.std.specs.Prelude.{Bool, true, false, cond, Option, Some, None, ◌⊎◌, ltb}
 use Rattle.grammar.specs.Rule.{Rule, done, mark, word, ref, deep, again, seq, around, alt, look, choose, opt, must, rep, make, has, Source, Table, Loop, outside, within, Derives, d_again}
 use Rattle.grammar.specs.Sets.{Sets, nul, first, more, first_of, more_of, empty_of}
@@ -275,7 +275,7 @@ module _ {K B L N : Type 0} (t u : Source K B N) (S : Sets L) (table : Table K B
         (good_never u (S.first l) (S.empty l) (S.more l), λ o xs i j d. absurd (omega (arith, d.no)))
         (λ X x. (good_within t (first S (Some l) r) (S.first l) (more S (Some l) r) (S.more l) (nul S (Some l) r) (S.empty l) _ (good_rule t S m V levels r (Some l) X x.0 k.1.0) k.1.1.first k.1.1.more k.1.1.empty, λ o xs i j d. d_again (derived t table S m V ld r (Some l) (within l r) X x.1 o xs i j d)))
         (λ X x. (good_within u (first S (Some l) r) (S.first l) (more S (Some l) r) (S.more l) (nul S (Some l) r) (S.empty l) _ (good_rule u S m' V' levels' r (Some l) X x.0 k.1.0) k.1.1.first k.1.1.more k.1.1.empty, λ o xs i j d. d_again (derived u table S m' V' ld' r (Some l) (within l r) X x.1 o xs i j d)))
-        (λ X X' x x' d. longest_rule r st (Some l) (T.follow l) (within l r) X X' x.0 x'.0 x.1 x'.1 (p.0, p.2, p.3) d p.0) m m')
+        (λ X X' x x' d. longest_rule r st (Some l) (T.follow l) (within l r) X X' x.0 x'.0 x.1 x'.1 (p.0, p.2, p.3, refl) d p.0) m m')
     longest_rule (make w r) st q F c A A' a a' ad ad' fl b k =
         let lr : Longest t u F (Spelled t S m V A q r) (Spelled u S m' V' A' q r) = longest_rule r st q F c A A' a a' ad ad' fl b k in
         record {
