@@ -1,11 +1,11 @@
 -- Rules whose tests are settled by the tokens of a piece and the one behind it.
 use Rattle.std.proofs.Common.{◌≡◌, refl, ap, ℕ, zero, suc, ◌<◌, ◌≤◌, List, [], ◌∷◌, ◌++◌, arith, sym, ◌∙◌, inl, inr}
-use Rattle.std.specs.Prelude.{Bool, true, false, cond, ◌&&◌, not, Option, Some, None, ◌⊎◌}
+use Rattle.std.specs.Prelude.{Bool, true, false, ◌&&◌, not, Option, Some, None, ◌⊎◌}
 use Rattle.grammar.specs.Rule.{Rule, seq, around, alt, look, choose, opt, must, rep, has, Source, Table, Unlike, Loop, outside, within, Derives, d_done, d_mark, d_word, d_ref, d_deep, d_again, d_rep, d_seq, d_around, d_left, d_right, d_seen, d_unseen, d_chosen, d_unchosen, d_without, d_with, d_barred, d_taken, d_make}
 use Rattle.grammar.specs.Sets.{Sets, nul, first}
 use Rattle.grammar.specs.Tests.{Tests, targets, tests, IsTest, AllTests, arms}
 use Rattle.grammar.specs.Check.{each, within_set, follows, admits, behind_part, each_of, onto, after, keeps, calm, told, settled}
-use Rattle.grammar.proofs.Facts.{and_true, and_both, not_true, or_left, or_right, less_or_same, has_left, has_right, has_head, skip, each_at, within_holds}
+use Rattle.grammar.proofs.Facts.{and_both, not_true, has_left, has_right, has_head, each_at, within_holds}
 use Rattle.grammar.proofs.Spelled.{IsClear, IsGrammar, Covers}
 use Rattle.grammar.proofs.Bounded.{Around_clear, forward}
 use Rattle.grammar.proofs.Lookahead.{Comes, split_at, same_place, one_token, has_each_of, has_onto, calm_says, stays, same_verdict}

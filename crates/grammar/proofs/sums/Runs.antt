@@ -19,7 +19,6 @@ use Rattle.grammar.proofs.Counts.{count_step, count_start}
 use Rattle.grammar.proofs.Theorem.{read_forward, read_piece, piece_read, read_run_tests, run_read_tests}
 use Rattle.grammar.proofs.sums.Passes.{pass, close, close_text, declared}
 use Rattle.grammar.proofs.sums.Depths.{deepens}
-use Rattle.grammar.proofs.Pieces.{spelled_holds}
 
 -- closed runs are promised of the levels that are read
 shut : (s : Start) → ranks.shut (level_of s) ≡ true
