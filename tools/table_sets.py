@@ -26,7 +26,7 @@ def tokens(text):
 
 class Parser:
     """Terms: (head, [arguments]); infix operators become seq, alt, ∷ and ++."""
-    LEVELS = [('∣', 'alt'), ('·', 'seq'), ('++', '++'), ('∷', '∷')]
+    LEVELS = [('∣', 'alt'), ('·', 'seq'), ('++', '++'), ('∷', '∷'), ('⇒', '⇒')]
 
     def __init__(self, text):
         self.left = tokens(text)
@@ -130,7 +130,7 @@ class Table:
         if head == 'look':
             return (head, self.classes(args[1]), self.classes(args[2]), self.rule(args[4]), self.rule(args[5]))
         if head == 'choose':
-            return (head, self.rule(args[1]), self.rule(args[2]))
+            return (head, self.rule(args[1]), self.rule(args[2]), int(show(args[0][1][1])) if args[0][0] == 'test' else None)
         if head == 'must':
             return (head, self.classes(args[0]), self.rule(args[1]))
         if head == 'rep':
@@ -250,6 +250,134 @@ class Sets:
             yield where, '`must` does not name these that begin it', self.first_of(loop, rule[2]) - rule[1]
 
 
+def listed_names(term):
+    return [show(term[1][0])] + listed_names(term[1][1]) if term[0] == '∷' else []
+
+
+class Tests:
+    """The automaton of a table's tests: in which states they may look on behind each level, and what may follow a level."""
+    ANY = None
+
+    def __init__(self, table, sets):
+        self.table, self.sets, self.moves, self.starts = table, sets, [], {}
+        record = table.names['automaton'][1]
+        for state in listed_names(Parser(re.search(r'states = ([^;}]*)', record)[1]).infix()):
+            self.moves.append(self.arms(table.opened(Parser(table.names[state][1]).infix(), {})))
+        for level, row in table.rows.items():
+            for start in self.chosen(row):
+                self.starts.setdefault(level, set()).add(start)
+        names = list(sets.first)
+        self.after = {l: [set() for _ in self.moves] for l in names}
+        self.fixed(lambda: any(self.widen(self.after[n][a], self.behind(loop, row, {a})) for n, loop, row in self.rows() for a in range(len(self.moves))))
+        promised = table.names.get('promised')
+        anywhere = listed_names(Parser(promised[1]).infix()) if promised else names
+        self.follow = {l: self.ANY if l in anywhere else set() for l in names}
+        self.fixed(lambda: any([self.pass_on(loop, row, self.follow[n]) for n, loop, row in self.rows()]))
+
+    def rows(self):
+        for level, row in self.table.rows.items():
+            yield level, None, row
+        for loop, row in self.table.loops.items():
+            yield loop, loop, row
+
+    def fixed(self, turn):
+        while turn():
+            pass
+
+    def widen(self, known, more):
+        grows = not more <= known
+        known |= more
+        return grows
+
+    def arms(self, term):
+        return [] if term[0] != '∷' else [self.arm(term[1][0])] + self.arms(term[1][1])
+
+    def arm(self, term):
+        move = term[1][1]
+        return (self.table.classes(term[1][0]), int(show(move[1][0])) if move[0] == 'go' else None)
+
+    def chosen(self, rule):
+        if rule[0] == 'choose':
+            yield rule[3]
+        for part in rule[1:]:
+            if isinstance(part, tuple):
+                yield from self.chosen(part)
+
+    def onto(self, classes, states):
+        found = set()
+        for state in states:
+            for c in classes:
+                move = next((to for on, to in self.moves[state] if c in on), None)
+                if move is not None:
+                    found.add(move)
+        return found
+
+    def behind(self, loop, rule, states):
+        kind = rule[0]
+        if kind == 'done':
+            return states
+        if kind == 'mark':
+            return self.onto(rule[1], states)
+        if kind in ('ref', 'deep', 'rep', 'again'):
+            level = loop if kind == 'again' else rule[1]
+            return set().union(*[self.after[level][a] for a in states]) if level else set()
+        if kind == 'seq':
+            return self.behind(loop, rule[2], self.behind(loop, rule[1], states))
+        if kind == 'around':
+            return self.onto(rule[2], self.behind(loop, rule[3], self.onto(rule[1], states)))
+        if kind == 'look':
+            return self.behind(loop, rule[3], self.onto(rule[2], self.onto(rule[1], states))) | self.behind(loop, rule[4], states)
+        if kind == 'opt':
+            return states | self.behind(loop, rule[1], states)
+        if kind == 'must':
+            return states | self.behind(loop, rule[2], states)
+        return self.behind(loop, rule[1], states) | self.behind(loop, rule[2], states)
+
+    def before(self, loop, rule, follow):
+        """What may follow a part that the rule follows."""
+        if not self.sets.can_be_empty(loop, rule):
+            return self.sets.first_of(loop, rule)
+        return self.ANY if follow is self.ANY else self.sets.first_of(loop, rule) | follow
+
+    def may_follow(self, level, follow):
+        known = self.follow[level]
+        if known is self.ANY or (follow is not self.ANY and follow <= known):
+            return False
+        self.follow[level] = self.ANY if follow is self.ANY else known | follow
+        return True
+
+    def pass_on(self, loop, rule, follow):
+        kind = rule[0]
+        if kind in ('ref', 'deep'):
+            return self.may_follow(rule[1], follow)
+        if kind == 'again':
+            return self.may_follow(loop, follow) if loop else False
+        if kind == 'rep':
+            return self.may_follow(rule[1], follow)
+        if kind == 'seq':
+            first = self.pass_on(loop, rule[1], self.before(loop, rule[2], follow))
+            return self.pass_on(loop, rule[2], follow) or first
+        if kind == 'around':
+            return self.pass_on(loop, rule[3], rule[2])
+        return any([self.pass_on(loop, part, follow) for part in rule[1:] if isinstance(part, tuple)])
+
+    def restless(self, loop, rule, follow):
+        """The classes at which a test still looks on behind its piece."""
+        kind = rule[0]
+        if kind == 'rep':
+            return self.restless(rule[1], rule[2], self.follow[rule[1]])
+        if kind == 'seq':
+            return self.restless(loop, rule[1], self.before(loop, rule[2], follow)) | self.restless(loop, rule[2], follow)
+        if kind == 'around':
+            return self.restless(loop, rule[3], rule[2])
+        found = set().union(*[self.restless(loop, part, follow) for part in rule[1:] if isinstance(part, tuple)])
+        if kind == 'choose' and rule[3] is not None:
+            for state in self.behind(loop, rule[1], {rule[3]}) | self.behind(loop, rule[2], {rule[3]}):
+                on = set().union(*[cs for cs, to in self.moves[state] if to is not None])
+                found |= on if follow is self.ANY else on & follow
+        return found
+
+
 def references(rule, kinds):
     if rule[0] in kinds:
         yield rule[1]
@@ -273,12 +401,12 @@ def ranks(table):
     return known
 
 
-def plain_levels(table):
-    """The levels that go by one token in hand, and all that stand in them too."""
+def plain_levels(table, tests):
+    """The levels that go by one token in hand, or by tests that are told by their pieces and the next token; and all that stand in them too."""
     def plain(rule):
-        return rule[0] not in ('choose', 'must') and all(plain(p) for p in rule[1:] if isinstance(p, tuple))
+        return (rule[0] != 'choose' or (tests and rule[3] is not None)) and all(plain(p) for p in rule[1:] if isinstance(p, tuple))
 
-    levels = {l for l, row in table.rows.items() if plain(row)}
+    levels = {l for l, row in table.rows.items() if plain(row) and not (tests and tests.restless(None, row, tests.follow[l]))}
     while True:
         kept = {l for l in levels if set(references(table.rows[l], ('ref', 'deep'))) <= levels}
         if kept == levels:
@@ -305,7 +433,8 @@ def main():
     def clauses(name, kind, value):
         return [f'abbrev pub {name} : Level → {kind}'] + [f'{name} {l} = {value(l)}' for l in table.rows] + ['']
 
-    rank, plain = ranks(table), plain_levels(table)
+    tests = Tests(table, sets) if 'automaton' in table.names else None
+    rank, plain = ranks(table), plain_levels(table, tests)
     truth = lambda b: 'true' if b else 'false'
     levels = ', '.join(table.rows)
     out = ['-- The sets and ranks of the table, made by tools/table_sets.py; the check of the table shows that they are right.',
@@ -320,11 +449,27 @@ def main():
            'abbrev pub sets : Sets Level', 'sets = record { first = first; more = more; empty = empty }', '',
            'abbrev pub ranks : Ranks Builder Level',
            f'ranks = record {{ strong = strong; rank = rank; top = {1 + max(rank.values())}; shut = plain_level }}']
+    if tests:
+        numbers = lambda states: ' ∷ '.join([str(a) for a in sorted(states)] + ['[]'])
+        out[1] = 'use Rattle.std.specs.Prelude.{ℕ, Bool, true, false, List, [], ◌∷◌, Option, Some, None, get_or}'
+        out[out.index('use Rattle.grammar.specs.Sets.{Sets}')] += '\nuse Rattle.grammar.specs.Tests.{Tests}'
+        out = [l.replace(', Builder, strong}', ', Builder, strong, automaton}') for l in out]
+        out += ['', *clauses('start', 'Option ℕ', lambda l: f'Some {min(tests.starts[l])}' if l in tests.starts else 'None'),
+                '-- behind each level, the states in which a test may look on that was in state 0, 1, ..',
+                *clauses('after_states', 'List (List ℕ)', lambda l: ' ∷ '.join([f'({numbers(a)})' if a else '[]' for a in tests.after[l]] + ['[]'])),
+                *clauses('follow', 'Option (List ℕ)', lambda l: 'None' if tests.follow[l] is None else f'Some ({listed(tests.follow[l])})'),
+                'abbrev pub tests : Tests Level',
+                f'tests = record {{ automaton = automaton; states = {numbers(range(len(tests.moves)))}; start = start; after = λ l a. get_or (after_states l) a []; follow = follow }}']
     path.with_name('Sets.antt').write_text('\n'.join(out) + '\n')
     clashes = [c for level, row in table.rows.items() for c in sets.clashes(None, row, level)]
     for where, what, classes in clashes:
         print(f'{where}: {what}: {", ".join(c for c in table.order if c in classes)}')
-    sys.exit(1 if clashes else 0)
+    restless = {l: tests.restless(None, row, tests.follow[l]) for l, row in table.rows.items()} if tests else {}
+    for level in [l for l in restless if restless[l]]:
+        print(f'{level}: a test looks on behind its piece, at: {", ".join(c for c in table.order if c in restless[level])}')
+    for level in [l for l in (tests.starts if tests else ()) if len(tests.starts[l]) > 1]:
+        print(f'{level}: a row has one test; give the other a level of its own')
+    sys.exit(1 if clashes or any(restless.values()) else 0)
 
 
 if __name__ == '__main__':

@@ -3,7 +3,8 @@
 
     tools/table_steps.py crates/NAME/specs/DIR/Table.antt [MODE..]
 
-writes proofs/DIR/Passes.antt, the check of each row by computing (and of closed runs, for each MODE of specs/DIR/Reading.antt),
+writes proofs/DIR/Passes.antt, the check of each row by computing (and of closed runs, for each MODE of specs/DIR/Reading.antt;
+with the tests of Sets.antt, where the table has an `automaton`),
 and proofs/DIR/Steps.antt: for each level what it reads in one step, and for each loop what it still reads in so many rounds.
 It wants `source` and `build` in Build.antt, `sets` and `ranks` in Sets.antt, `level` in Reading.antt and `token_at` in Token.antt
 beside the table. A loop stands in a row as `[make b] (p · rep Loop round)` or `opt (p · rep Loop round)`, where p is a level and `round` an abbreviation of the table;
@@ -72,6 +73,11 @@ def steps_of(level, term):
             f'unfolding {name}_rest', f'{name}_step ts room i h = {step}', '']
 
 
+def declared(rule):
+    count = str(rule).count("'choose'")
+    return ', '.join(['(λ f i. refl'] * count + ['record {}' + ')' * count]) if count else 'record {}'
+
+
 HEAD = '''-- The reader of a level, one step; made by tools/table_steps.py.
 use Rattle.std.proofs.Common.{◌≡◌, ℕ, zero, suc, ◌-◌, ◌<◌, List, [], ◌∷◌, ◌++◌, length, refl, ap, ◌∙◌, arith, Option, Some, None, cond}
 use Rattle.std.specs.Prelude.{Bool}
@@ -120,6 +126,7 @@ def main():
     levels = ', '.join(rows)
     loops = [l for l in rows if l in table.loops]
     shapes = {l: Parser(rows[l]).infix() for l in rows}
+    tested = 'automaton' in table.names
     found = [loop_row(t) for t in shapes.values() if loop_row(t)]
     named = sorted({f[4] for f in found} | {f[1] for f in found if f[1]})
     out = HEAD.replace('TOKENS', '\n'.join(uses)).replace('MODULE', module).replace('PROOFS', proofs).replace('LEVELS', levels)
@@ -134,12 +141,18 @@ def main():
     target.mkdir(parents=True, exist_ok=True)
     (target / 'Steps.antt').write_text('\n'.join(lines).replace('List N ', f'List {node} ').rstrip() + '\n')
     passes = ['-- The table passes the checks; made by tools/table_steps.py.', 'use Rattle.std.specs.Prelude.{◌≡◌, ℕ, Bool, true}',
-              'use Rattle.std.proofs.Common.{refl}', 'use Rattle.grammar.specs.Check.{passes, closes_runs}', f'use {module}.Token.{{class}}',
-              f'use {module}.Table.{{Level, {levels}, grammar}}', f'use {module}.Sets.{{sets, ranks}}']
+              'use Rattle.std.proofs.Common.{refl}', f'use Rattle.grammar.specs.Check.{{passes, {"closes" if tested else "closes_runs"}}}', f'use {module}.Token.{{class}}',
+              f'use {module}.Table.{{Level, {levels}, grammar}}', f'use {module}.Sets.{{sets, ranks{", tests" if tested else ""}}}']
+    if tested:
+        passes.append('use Rattle.grammar.specs.Tests.{Declared}')
     if modes:
         passes.append(f'use {module}.Reading.{{{", ".join(modes)}}}')
-    for name, claim in [('pass', 'passes grammar sets ranks l')] + [(f'close_{m}', f'closes_runs grammar sets ranks {m} {FUEL} l') for m in modes]:
+    closes = 'closes grammar sets ranks tests' if tested else 'closes_runs grammar sets ranks'
+    for name, claim in [('pass', 'passes grammar sets ranks l')] + [(f'close_{m}', f'{closes} {m} {FUEL} l') for m in modes]:
         passes += ['', f'pub {name} : (l : Level) → {claim} ≡ true', 'unfolding class'] + [f'{name} {l} = refl' for l in rows]
+    if tested:
+        passes += ['', '-- each test in a row is the one that is declared of it', 'pub declared : (l : Level) → Declared tests l (grammar.table l)']
+        passes += [f'declared {l} = ' + declared(table.rows[l]) for l in rows]
     (target / 'Passes.antt').write_text('\n'.join(passes) + '\n')
 
 

@@ -2,9 +2,9 @@
 use Rattle.std.proofs.Common.{◌≡◌, ℕ, zero, suc, pred, ◌+◌, ◌-◌, ◌<◌, ◌≤◌, List, [], ◌∷◌, ◌++◌, refl, ap, arith, sym, ◌∙◌, inl, inr}
 use Rattle.std.specs.Prelude.{Bool, true, false, cond, ◌||◌, ◌&&◌, not, Option, Some, None, ◌⊎◌, ltb}
 use Rattle.grammar.specs.Rule.{Rule, done, mark, word, ref, deep, again, seq, around, alt, look, choose, opt, must, rep, make, has, Source, Table, Grammar, Unlike, Loop, outside, within, Derives, d_done, d_mark, d_word, d_ref, d_deep, d_again, d_rep, d_seq, d_around, d_left, d_right, d_seen, d_unseen, d_chosen, d_unchosen, d_without, d_with, d_barred, d_taken, d_make}
-use Rattle.grammar.specs.Sets.{Sets, nul}
+use Rattle.grammar.specs.Sets.{Sets, nul, first}
 use Rattle.grammar.specs.Check.{apart, within_set, Ranks, fit, late, loops}
-use Rattle.grammar.proofs.Facts.{true_false, and_true, and_both, not_true, or_either, or_left, or_right, ltb_true, apart_holds, within_holds}
+use Rattle.grammar.proofs.Facts.{true_false, and_true, and_both, not_true, or_either, or_left, or_right, ltb_true, less_or_same, has_left, has_right, skip, apart_holds, within_holds}
 use Rattle.grammar.proofs.Spelled.{Rel, Other, rounds, Never, Spelled, Ladder, pick, Level, Covers, IsClear, IsGrammar}
 use Rattle.grammar.proofs.Good.{part_none}
 
@@ -59,11 +59,11 @@ module _ {K B L N : Type 0} (t : Source K B N) (table : Table K B L) (S : Sets L
   forward (d_make ys d s) = forward d
 
   -- the loop around, where there is one, is clear
-  abbrev Around_clear : Loop K B L → Option L → Type 0
+  abbrev pub Around_clear : Loop K B L → Option L → Type 0
   Around_clear outside q = record {}
   Around_clear (within l r) q = (q ≡ Some l) × IsClear S (Some l) r × Covers S (Some l) l r
 
-  still : {c : Loop K B L} {r : Rule K B L} {xs : List N} {i j : ℕ} → Derives t table c r xs i j → (q : Option L) → Around_clear c q → IsClear S q r → i ≡ j → nul S q r ≡ true
+  pub still : {c : Loop K B L} {r : Rule K B L} {xs : List N} {i j : ℕ} → Derives t table c r xs i j → (q : Option L) → Around_clear c q → IsClear S q r → i ≡ j → nul S q r ≡ true
   still (d_done e s) q a k h = refl
   still (d_mark g e s) q a k h = absurd (omega (arith, s, h))
   still (d_word g e s) q a k h = absurd (omega (arith, s, h))
@@ -84,6 +84,32 @@ module _ {K B L N : Type 0} (t : Source K B N) (table : Table K B L) (S : Sets L
   still (d_without e s) q a k h = refl
   still (d_with d) q a k h = refl
   still (d_make ys d s) q a k h = still d q a k h
+
+  -- a derivation that takes a token begins with one of those that are declared
+  pub head : {c : Loop K B L} {r : Rule K B L} {xs : List N} {i j : ℕ} → Derives t table c r xs i j → (q : Option L) → Around_clear c q → IsClear S q r → i < j → has (first S q r) (t.cls i) ≡ true
+  head (d_done e s) q a k h = absurd (omega (arith, s, h))
+  head (d_mark g e s) q a k h = g
+  head (d_word g e s) q a k h = g
+  head (d_ref {l = l} {i = i} d) q a k h = (I.covers l).first (t.cls i) (head d None (record {}) (I.clear l) h)
+  head (d_deep {l = l} {i = i} d) q a k h = (I.covers l).first (t.cls i) (head d None (record {}) (I.clear l) h)
+  head (d_again {l = l} {r = r} {i = i} d) q a k h = rw a.0 (a.2.first (t.cls i) (head d (Some l) (refl, a.1, a.2) a.1 h))
+  head (d_rep {l = l} {r = r} {i = i} d) q a k h = k.1.first (t.cls i) (head d (Some l) (refl, k.0, k.1) k.0 h)
+  head (d_seq {r = r} {s = s} {i = i} k' ys zs d e eq) q a k h = elim (less_or_same i k' (forward d)) [
+    | inl l ↦ has_left (first S q r) (cond (nul S q r) (first S q s) []) (t.cls i) (head d q a k.0 l)
+    | inr l ↦ skip (nul S q r) (first S q r) (first S q s) (t.cls i) (still d q a k.0 l) (rw l (head e q a k.1 (rw l at h)))
+  ]
+  head (d_around k' g d g' s) q a k h = g
+  head (d_left {r = r} {s = s} {i = i} d) q a k h = has_left (first S q r) (first S q s) (t.cls i) (head d q a k.0 h)
+  head (d_right {r = r} {s = s} {i = i} d) q a k h = has_right (first S q r) (first S q s) (t.cls i) (head d q a k.1 h)
+  head (d_seen {cs = cs} {s = s} {i = i} ys g g' d e) q a k h = has_left cs (first S q s) (t.cls i) g
+  head (d_unseen {cs = cs} {s = s} {i = i} g d) q a k h = has_right cs (first S q s) (t.cls i) (head d q a k.1 h)
+  head (d_chosen {r = r} {s = s} {i = i} g d) q a k h = has_left (first S q r) (first S q s) (t.cls i) (head d q a k.0 h)
+  head (d_unchosen {r = r} {s = s} {i = i} g d) q a k h = has_right (first S q r) (first S q s) (t.cls i) (head d q a k.1 h)
+  head (d_barred g e s) q a k h = absurd (omega (arith, s, h))
+  head (d_taken d) q a k h = head d q a k.0 h
+  head (d_without e s) q a k h = absurd (omega (arith, s, h))
+  head (d_with d) q a k h = head d q a k.0 h
+  head (d_make ys d s) q a k h = head d q a k h
 
   module _ (G : Grammar K B L) (R : Ranks B L) (base : ℕ) (D : ℕ → ℕ) (up : (i : ℕ) → base ≤ i → has G.opens (t.cls i) ≡ true → D (suc i) ≡ suc (D i)) (down : (i : ℕ) → base ≤ i → has G.opens (t.cls i) ≡ false → has G.closes (t.cls i) ≡ true → D (suc i) ≡ pred (D i)) (along : (i : ℕ) → base ≤ i → has G.opens (t.cls i) ≡ false → has G.closes (t.cls i) ≡ false → D (suc i) ≡ D i)
       (fits : (l : L) → fit G R (R.rank l) false (table l) ≡ true) (ranks : (l : L) → ltb (R.rank l) R.top ≡ true) where

@@ -2,10 +2,13 @@ pub mod Facts
 pub mod Spelled
 pub mod Good
 pub mod Exact
+pub mod Lookahead
+pub mod Fair
 pub mod Longest
 pub mod Meaning
 pub mod Checked
 pub mod Bounded
+pub mod Pieces
 pub mod Words
 pub mod Stable
 pub mod Extends

@@ -2,4 +2,5 @@ pub mod Views
 pub mod Passes
 pub mod Depths
 pub mod Steps
+pub mod Casts
 pub mod Runs

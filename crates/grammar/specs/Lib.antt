@@ -1,5 +1,6 @@
 pub mod Rule
 pub mod Sets
 pub mod Reader
+pub mod Tests
 pub mod Check
 pub mod sums

@@ -7,5 +7,5 @@ mod token;
 
 pub use node::{Kind, Node};
 pub use reader::ReadFault;
-pub use runs::{read_exprs, read_text};
+pub use runs::{Start, read_run, read_text};
 pub use token::{Token, Word};

@@ -1,6 +1,6 @@
 -- The spans of a tree lie in the text.
 use Rattle.std.proofs.Common.{◌≡◌, ℕ, zero, suc, ◌-◌, ◌<◌, ◌≤◌, List, [], ◌∷◌, ◌++◌, length, refl, sym, subst, arith, inl, inr, Bool, true, false}
-use Rattle.std.specs.Prelude.{◌&&◌, ◌||◌, not}
+use Rattle.std.specs.Prelude.{None}
 use Rattle.std.specs.Str.{IsUtf8}
 use Rattle.std.proofs.lemmas.Str.{IsCharBoundary-start, IsCharBoundary-end}
 use Rattle.node_tree.specs.declared.node.Node.{Node, roll-Node}
@@ -11,9 +11,7 @@ use Rattle.node_tree.specs.Span.{LiesIn}
 use Rattle.node_tree.specs.Spans.{SpansLieIn}
 use Rattle.node_tree.proofs.Nodes.{made, made_kids, made_span}
 use Rattle.node_tree.proofs.SpanLaws.{AllLieIn, none_lie, more_lie, node_lies}
-use Rattle.grammar.specs.Rule.{mark, word, ref, deep, seq, around, alt, look, choose, opt, must, rep, make, Loop, outside, within, Derives, d_done, d_mark, d_word, d_ref, d_deep, d_again, d_rep, d_seq, d_around, d_left, d_right, d_seen, d_unseen, d_chosen, d_unchosen, d_without, d_with, d_barred, d_taken, d_make}
-use Rattle.grammar.proofs.Facts.{and_both, or_either}
-use Rattle.grammar.proofs.Bounded.{forward}
+use Rattle.grammar.proofs.Pieces.{filled, Keeps, spelled_holds}
 use Rattle.grammar.proofs.Checked.{is_grammar}
 use Rattle.json_tree.specs.declared.token.Token.{Token}
 use Rattle.json_tree.specs.Table.{Level, Value, Array, Values, ValuesTail, Object, Entries, EntriesTail, Entry, Member, Deep, Leaf, Builder, Row, table, grammar}
@@ -64,44 +62,8 @@ over_lies text kind written kids span lies each =
     node_lies text (roll-Node (made kind written kids span)) (subst (λ (s : Span). LiesIn text s) (sym (made_span kind written kids span)) lies)
     (subst (λ (ns : List Node). AllLieIn text ns) (sym (made_kids kind written kids span)) (all text kids each))
 
--- whether the rule takes a token, beyond doubt
-abbrev takes : Row → Bool
-takes (mark cs) = true
-takes (word k cs) = true
-takes (ref l) = not (sets.empty l)
-takes (deep l) = not (sets.empty l)
-takes (seq r s) = takes r || takes s
-takes (around cs ds r) = true
-takes (alt r s) = takes r && takes s
-takes (make b r) = takes r
-takes _ = false
-
--- whether each node is made of what takes a token, in a rule without lookahead
-abbrev filled : Row → Bool
-filled (seq r s) = filled r && filled s
-filled (around cs ds r) = filled r
-filled (alt r s) = filled r && filled s
-filled (opt r) = filled r
-filled (rep l r) = filled r
-filled (make b r) = takes r && filled r
-filled (look w cs ds b r s) = false
-filled (choose p r s) = false
-filled (must cs r) = false
-filled _ = true
-
-level_takes : (l : Level) → not (sets.empty l) ≡ true → takes (table l) ≡ true
-level_takes Value h = refl
-level_takes Array h = refl
-level_takes Values h = cc
-level_takes ValuesTail h = cc
-level_takes Object h = refl
-level_takes Entries h = cc
-level_takes EntriesTail h = cc
-level_takes Entry h = refl
-level_takes Member h = refl
-level_takes Deep h = refl
-
-level_filled : (l : Level) → filled (table l) ≡ true
+-- each node is made of what takes a token
+level_filled : (l : Level) → filled sets (λ b. true) None (table l) ≡ true
 level_filled Value = refl
 level_filled Array = refl
 level_filled Values = refl
@@ -113,71 +75,18 @@ level_filled Entry = refl
 level_filled Member = refl
 level_filled Deep = refl
 
-abbrev Spelled : List Token → Loop Leaf Builder Level → Row → List Node → ℕ → ℕ → Type 0
-Spelled ts = Derives (source ts) table
-
-onward : (ts : List Token) {c : Loop Leaf Builder Level} {r : Row} {xs : List Node} {i j : ℕ} → Spelled ts c r xs i j → i ≤ j
-onward ts d = forward (source ts) table sets (is_grammar grammar sets ranks pass) d
-
--- what takes a token goes on
-moves : (ts : List Token) {c : Loop Leaf Builder Level} {r : Row} {xs : List Node} {i j : ℕ} → Spelled ts c r xs i j → takes r ≡ true → i < j
-moves ts (d_done e s) h = cc
-moves ts (d_mark g e s) h = omega (arith, s)
-moves ts (d_word g e s) h = omega (arith, s)
-moves ts (d_ref {l = l} d) h = moves ts d (level_takes l h)
-moves ts (d_deep {l = l} d) h = moves ts d (level_takes l h)
-moves ts (d_again d) h = cc
-moves ts (d_rep d) h = cc
-moves ts (d_seq {r = r} {s = s} k ys zs d e q) h = elim (or_either (takes r) (takes s) h) [ inl p ↦ omega (arith, moves ts d p, onward ts e) | inr p ↦ omega (arith, onward ts d, moves ts e p) ]
-moves ts (d_around k g d g' s) h = omega (arith, onward ts d, s)
-moves ts (d_left {r = r} {s = s} d) h = moves ts d (and_both (takes r) (takes s) h).0
-moves ts (d_right {r = r} {s = s} d) h = moves ts d (and_both (takes r) (takes s) h).1
-moves ts (d_seen ys g g' d s) h = cc
-moves ts (d_unseen g d) h = cc
-moves ts (d_chosen g d) h = cc
-moves ts (d_unchosen g d) h = cc
-moves ts (d_without e s) h = cc
-moves ts (d_with d) h = cc
-moves ts (d_barred g e s) h = cc
-moves ts (d_taken d) h = cc
-moves ts (d_make ys d s) h = moves ts d h
-
--- the loop around is filled too
-abbrev Round : Loop Leaf Builder Level → Type 0
-Round outside = Unit {0}
-Round (within l r) = filled r ≡ true
-
--- the nodes that are spelled lie in the text
-lie : (text : List ℕ) (to : ℕ) (ts : List Token) {c : Loop Leaf Builder Level} {r : Row} {xs : List Node} {i j : ℕ} → ArePlaced text 0 ts to → Spelled ts c r xs i j → Round c → filled r ≡ true → j ≤ length ts → Each text xs
-lie text to ts p (d_done e s) a h le = subst (λ (ns : List Node). Each text ns) (sym e) tt
-lie text to ts p (d_mark g e s) a h le = subst (λ (ns : List Node). Each text ns) (sym e) tt
-lie text to ts {i = i} p (d_word g e s) a h le =
-    let t = token_at ts i in
-    subst (λ (ns : List Node). Each text ns) (sym e) (over_lies text (kind_of t.word) (shown t.word t.text) [] t.span (token_lies text 0 to ts i p (omega (arith, s, le))).0 tt, tt)
-lie text to ts p (d_ref {l = l} d) a h le = lie text to ts p d tt (level_filled l) le
-lie text to ts p (d_deep {l = l} d) a h le = lie text to ts p d tt (level_filled l) le
-lie text to ts p (d_again d) a h le = lie text to ts p d a a le
-lie text to ts p (d_rep d) a h le = lie text to ts p d h h le
-lie text to ts p (d_seq {r = r} {s = s} k ys zs d e q) a h le =
-    let f = and_both (filled r) (filled s) h in
-    subst (λ (ns : List Node). Each text ns) (sym q) (both text ys zs (lie text to ts p d a f.0 (omega (arith, onward ts e, le))) (lie text to ts p e a f.1 le))
-lie text to ts p (d_around k g d g' s) a h le = lie text to ts p d a h (omega (arith, s, le))
-lie text to ts p (d_left {r = r} {s = s} d) a h le = lie text to ts p d a (and_both (filled r) (filled s) h).0 le
-lie text to ts p (d_right {r = r} {s = s} d) a h le = lie text to ts p d a (and_both (filled r) (filled s) h).1 le
-lie text to ts p (d_seen ys g g' d s) a h le = cc
-lie text to ts p (d_unseen g d) a h le = cc
-lie text to ts p (d_chosen g d) a h le = cc
-lie text to ts p (d_unchosen g d) a h le = cc
-lie text to ts p (d_without e s) a h le = subst (λ (ns : List Node). Each text ns) (sym e) tt
-lie text to ts p (d_with d) a h le = lie text to ts p d a h le
-lie text to ts p (d_barred g e s) a h le = cc
-lie text to ts p (d_taken d) a h le = cc
-lie text to ts {i = i} {j = j} p (d_make {b = b} {r = r} ys d s) a h le =
-    let f = and_both (takes r) (filled r) h in
-    subst (λ (ns : List Node). Each text ns) (sym s) (over_lies text b [] ys (record { from = (token_at ts i).span.from; to = end_of ts j }) (piece_lies text to ts i j p (moves ts d f.0) le) (lie text to ts p d a f.1 le), tt)
+-- what nodes are made of lies in the text
+keeps : (text : List ℕ) (to : ℕ) (ts : List Token) → ArePlaced text 0 ts to → Keeps (source ts) (λ b. true) (length ts) (λ i j. Each text)
+keeps text to ts p = record {
+  nothing = λ i j le le'. tt;
+  leaf = λ k i lt. (over_lies text (kind_of (token_at ts i).word) (shown (token_at ts i).word (token_at ts i).text) [] (token_at ts i).span (token_lies text 0 to ts i p lt).0 tt, tt);
+  joined = λ i k j ys zs le le' le'' h h'. both text ys zs h h';
+  bracketed = λ i j xs lt lt' h. h;
+  built = λ b i j ys le lt le' h. (over_lies text b [] ys (record { from = (token_at ts i).span.from; to = end_of ts j }) (piece_lies text to ts i j p (lt refl) le') h, tt);
+}
 
 -- a root over the value that tokens spell lies in the text, where the tokens do
 pub root_lies : (text : List ℕ) (ts us : List Token) (n : Node) → IsUtf8 text → ArePlaced text 0 ts (length text) → us ≡ ts → IsValueOf us n → SpansLieIn text (node Root 0 (length text) (n ∷ []))
 root_lies text ts us n utf8 p e v =
     let q = subst (λ (x : List Token). ArePlaced text 0 x (length text)) (sym e) p in
-    over_lies text Root [] (n ∷ []) (record { from = 0; to = length text }) (record { ordered = omega arith; begins = IsCharBoundary-start text utf8; ends = IsCharBoundary-end text }) (lie text (length text) us q v.spelled tt refl (omega arith))
+    over_lies text Root [] (n ∷ []) (record { from = 0; to = length text }) (record { ordered = omega arith; begins = IsCharBoundary-start text utf8; ends = IsCharBoundary-end text }) (spelled_holds (source us) table sets (is_grammar grammar sets ranks pass) (λ b. true) level_filled (length us) (λ i j. Each text) (keeps text (length text) us q) Value (n ∷ []) 0 (length us) v.spelled (omega arith))

@@ -7,7 +7,7 @@ use Rattle.grammar.specs.declared.example.node.Kind.TheVariants as k
 use Rattle.grammar.specs.Rule.{Deepens}
 use Rattle.grammar.specs.sums.Token.{token_at, end_of}
 use Rattle.grammar.specs.sums.Tree.{Tree, node, depth, depth_all}
-use Rattle.grammar.specs.sums.Table.{Builder, Group, Several, Left, Operation, Negation, Arguments, Named, strong}
+use Rattle.grammar.specs.sums.Table.{Builder, Group, Several, Left, Operation, Negation, Conversion, Arguments, Named, strong}
 use Rattle.grammar.specs.sums.Build.{plain, grafted, graft_all, left, group, build, source}
 use Rattle.grammar.proofs.Facts.{true_false}
 
@@ -45,6 +45,7 @@ weak ts Several i j ys = omega (arith, deeper k.List 0 0 0 ys)
 weak ts Left i j ys = left_deep (token_at ts i).from ys
 weak ts Operation i j ys = omega (arith, deeper k.Binary (token_at ts i).text (token_at ts i).from (end_of ts j) ys)
 weak ts Negation i j ys = omega (arith, deeper k.Negative 0 (token_at ts i).from (end_of ts j) ys)
+weak ts Conversion i j ys = omega (arith, deeper k.Cast 0 (token_at ts i).from (end_of ts j) ys)
 weak ts Arguments i j ys = omega (arith, deeper k.Call 0 (token_at ts i).from (end_of ts j) ys)
 weak ts Named i j ys = omega (arith, deeper k.Keyword 0 (token_at ts i).from (end_of ts j) ys)
 
@@ -54,6 +55,7 @@ strict ts Several i j ys h = deeper k.List 0 0 0 ys
 strict ts Left i j ys h = true_false false h refl
 strict ts Operation i j ys h = deeper k.Binary (token_at ts i).text (token_at ts i).from (end_of ts j) ys
 strict ts Negation i j ys h = deeper k.Negative 0 (token_at ts i).from (end_of ts j) ys
+strict ts Conversion i j ys h = deeper k.Cast 0 (token_at ts i).from (end_of ts j) ys
 strict ts Arguments i j ys h = deeper k.Call 0 (token_at ts i).from (end_of ts j) ys
 strict ts Named i j ys h = deeper k.Keyword 0 (token_at ts i).from (end_of ts j) ys
 

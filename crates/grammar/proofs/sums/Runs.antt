@@ -1,58 +1,71 @@
--- What is read of exprs is the closed run, and the closed run is what is read.
-use Rattle.std.proofs.Common.{Option, ◌≡◌, ℕ, suc, ◌+◌, ◌<◌, ◌≤◌, List, [], ◌∷◌, length, refl, arith, sym, ◌∙◌, inl, inr, add-one, Some}
+-- What is read of a level is the closed run, and the closed run is what is read.
+use Rattle.std.proofs.Common.{Option, ◌≡◌, ℕ, suc, ◌+◌, ◌<◌, ◌≤◌, List, [], ◌∷◌, length, refl, arith, sym, ◌∙◌, inl, inr, add-one, Some, None}
 use Rattle.std.proofs.lemmas.List.{get_or_past}
 use Rattle.std.specs.Prelude.{Bool, true, false, leb, ◌⊎◌}
 use Rattle.grammar.specs.declared.example.token.Token.{Token}
 use Rattle.grammar.specs.declared.example.reader.ReadFault.{ReadFault}
 use Rattle.grammar.specs.declared.example.reader.ReadFault.TheVariants as faults
+use Rattle.grammar.specs.declared.example.runs.Start.{Start}
+use Rattle.grammar.specs.declared.example.runs.Start.TheVariants as starts
 use Rattle.grammar.specs.Rule.{has, open_at, behind, smaller}
 use Rattle.grammar.specs.sums.Token.{class, token_at, end_token}
 use Rattle.grammar.specs.sums.Tree.{Tree, depth, depth_all}
-use Rattle.grammar.specs.sums.Table.{Text, Exprs, grammar}
+use Rattle.grammar.specs.sums.Table.{Level, Text, grammar}
 use Rattle.grammar.specs.sums.Build.{source}
-use Rattle.grammar.specs.sums.Sets.{sets, ranks}
-use Rattle.grammar.specs.sums.Reading.{level, of_text, of_pattern, IsExprs, IsText, IsWhole, Fails, round_at}
+use Rattle.grammar.specs.sums.Sets.{sets, ranks, tests}
+use Rattle.grammar.specs.sums.Reading.{level, of_text, of_pattern, level_of, IsRunOf, IsText, IsWhole, Fails, round_at}
 use Rattle.grammar.proofs.Facts.{none_some, some_pair}
 use Rattle.grammar.proofs.Counts.{count_step, count_start}
-use Rattle.grammar.proofs.Theorem.{read_forward, read_piece, piece_read, read_run, run_read}
-use Rattle.grammar.proofs.sums.Passes.{pass, close, close_text}
+use Rattle.grammar.proofs.Theorem.{read_forward, read_piece, piece_read, read_run_tests, run_read_tests}
+use Rattle.grammar.proofs.sums.Passes.{pass, close, close_text, declared}
 use Rattle.grammar.proofs.sums.Depths.{deepens}
 
+-- closed runs are promised of the levels that are read
+shut : (s : Start) → ranks.shut (level_of s) ≡ true
+shut starts.Exprs = refl
+shut starts.Text = refl
+shut starts.Cast = refl
+
+free : (s : Start) → tests.follow (level_of s) ≡ None
+free starts.Exprs = refl
+free starts.Text = refl
+free starts.Cast = refl
+
 -- what is read, within the limits, is a closed run
-pub read_is_run : (ts : List Token) (i : ℕ) (t : Tree) (j : ℕ) → level ts 1002 Exprs i ≡ Some (t ∷ [], j) → j ≤ length ts → depth t ≤ 500 → ((n : ℕ) → i ≤ n → n < j → round_at ts i n ≤ 500) → IsExprs of_pattern ts i t j
+pub read_is_run : (s : Start) (ts : List Token) (i : ℕ) (t : Tree) (j : ℕ) → level ts 1002 (level_of s) i ≡ Some (t ∷ [], j) → j ≤ length ts → depth t ≤ 500 → ((n : ℕ) → i ≤ n → n < j → round_at ts i n ≤ 500) → IsRunOf of_pattern s ts i t j
 unfolding level round_at
-read_is_run ts i t j h within shallow few = record {
+read_is_run s ts i t j h within shallow few = record {
   within = within;
-  run = read_run grammar sets ranks pass depth_all (source ts) (deepens ts) (suc (length ts)) of_pattern 12 close 1002 Exprs (t ∷ []) i j refl h (omega (arith, shallow)) few;
+  run = read_run_tests grammar sets ranks pass depth_all (source ts) (deepens ts) (suc (length ts)) tests declared of_pattern 12 close 1002 (level_of s) (t ∷ []) i j (shut s) (free s) h (omega (arith, shallow)) few;
 }
 
 -- each closed run of a pattern is read
-pub run_is_read : (ts : List Token) (i : ℕ) (t : Tree) (j : ℕ) → IsExprs of_pattern ts i t j → level ts 1002 Exprs i ≡ Some (t ∷ [], j)
+pub run_is_read : (s : Start) (ts : List Token) (i : ℕ) (t : Tree) (j : ℕ) → IsRunOf of_pattern s ts i t j → level ts 1002 (level_of s) i ≡ Some (t ∷ [], j)
 unfolding level
-run_is_read ts i t j r = run_read grammar sets ranks pass depth_all (source ts) (deepens ts) (suc (length ts)) of_pattern 12 close Exprs (t ∷ []) i j refl refl (λ n. refl) r.run (omega (arith, r.within))
+run_is_read s ts i t j r = run_read_tests grammar sets ranks pass depth_all (source ts) (deepens ts) (suc (length ts)) tests declared of_pattern 12 close (level_of s) (t ∷ []) i j (shut s) (free s) refl (λ n. refl) r.run (omega (arith, r.within))
 
 -- and each of a text, where texts alone count
-pub text_is_read : (ts : List Token) (i : ℕ) (t : Tree) (j : ℕ) → IsText ts → IsExprs of_text ts i t j → level ts 1002 Exprs i ≡ Some (t ∷ [], j)
+pub text_is_read : (s : Start) (ts : List Token) (i : ℕ) (t : Tree) (j : ℕ) → IsText ts → IsRunOf of_text s ts i t j → level ts 1002 (level_of s) i ≡ Some (t ∷ [], j)
 unfolding level class
-text_is_read ts i t j all r = run_read grammar sets ranks pass depth_all (source ts) (deepens ts) (suc (length ts)) of_text 12 close_text Exprs (t ∷ []) i j refl refl all r.run (omega (arith, r.within))
+text_is_read s ts i t j all r = run_read_tests grammar sets ranks pass depth_all (source ts) (deepens ts) (suc (length ts)) tests declared of_text 12 close_text (level_of s) (t ∷ []) i j (shut s) (free s) refl all r.run (omega (arith, r.within))
 
-pub forward : (ts : List Token) (i : ℕ) (t : Tree) (j : ℕ) → level ts 1002 Exprs i ≡ Some (t ∷ [], j) → i ≤ j
+pub forward : (s : Start) (ts : List Token) (i : ℕ) (t : Tree) (j : ℕ) → level ts 1002 (level_of s) i ≡ Some (t ∷ [], j) → i ≤ j
 unfolding level
-forward ts i t j h = read_forward grammar sets ranks pass depth_all (source ts) (deepens ts) (suc (length ts)) 1002 Exprs (t ∷ []) i j h
+forward s ts i t j h = read_forward grammar sets ranks pass depth_all (source ts) (deepens ts) (suc (length ts)) 1002 (level_of s) (t ∷ []) i j h
 
 -- two answers of the reader are one
-pub one_answer : (ts : List Token) (from : ℕ) (t u : Tree) (i j : ℕ) → level ts 1002 Exprs from ≡ Some (t ∷ [], i) → level ts 1002 Exprs from ≡ Some (u ∷ [], j) → (t ≡ u) × (i ≡ j)
-one_answer ts from t u i j h k = let p : _ = some_pair (t ∷ []) (u ∷ []) i j (sym h ∙ k) in (head_of p.0, p.1)
+pub one_answer : (l : Level) (ts : List Token) (from : ℕ) (t u : Tree) (i j : ℕ) → level ts 1002 l from ≡ Some (t ∷ [], i) → level ts 1002 l from ≡ Some (u ∷ [], j) → (t ≡ u) × (i ≡ j)
+one_answer l ts from t u i j h k = let p : _ = some_pair (t ∷ []) (u ∷ []) i j (sym h ∙ k) in (head_of p.0, p.1)
   where
     head_of : t ∷ [] ≡ u ∷ [] → t ≡ u
     head_of e = cc
 
-pub is_shallow_run : (mode : ℕ → Bool) (ts : List Token) (i : ℕ) (t : Tree) (j : ℕ) → IsExprs mode ts i t j → depth t ≤ 500
-is_shallow_run mode ts i t j r = omega (arith, r.run.piece.shallow)
+pub is_shallow_run : (mode : ℕ → Bool) (s : Start) (ts : List Token) (i : ℕ) (t : Tree) (j : ℕ) → IsRunOf mode s ts i t j → depth t ≤ 500
+is_shallow_run mode s ts i t j r = omega (arith, r.run.piece.shallow)
 
-pub is_bracketed_run : (mode : ℕ → Bool) (ts : List Token) (i : ℕ) (t : Tree) (j : ℕ) → IsExprs mode ts i t j → (n : ℕ) → i ≤ n → n < j → round_at ts i n ≤ 500
+pub is_bracketed_run : (mode : ℕ → Bool) (s : Start) (ts : List Token) (i : ℕ) (t : Tree) (j : ℕ) → IsRunOf mode s ts i t j → (n : ℕ) → i ≤ n → n < j → round_at ts i n ≤ 500
 unfolding round_at
-is_bracketed_run mode ts i t j r n a b = r.run.piece.few_brackets n a b
+is_bracketed_run mode s ts i t j r n a b = r.run.piece.few_brackets n a b
 
 -- how many brackets are open before a token
 unfoldable pub open_before : List Token → ℕ → ℕ → ℕ
@@ -104,13 +117,6 @@ whole_is_shallow ts t p = omega (arith, p.shallow)
 pub whole_is_bracketed : (ts : List Token) (t : Tree) → IsWhole ts t → (n : ℕ) → 0 ≤ n → n < length ts → round_at ts 0 n ≤ 500
 unfolding round_at
 whole_is_bracketed ts t p n a b = p.few_brackets n a b
-
--- two answers of the reader are one
-pub one_text : (ts : List Token) (t u : Tree) (i j : ℕ) → level ts 1002 Text 0 ≡ Some (t ∷ [], i) → level ts 1002 Text 0 ≡ Some (u ∷ [], j) → (t ≡ u) × (i ≡ j)
-one_text ts t u i j h k = let p : _ = some_pair (t ∷ []) (u ∷ []) i j (sym h ∙ k) in (head_of p.0, p.1)
-  where
-    head_of : t ∷ [] ≡ u ∷ [] → t ≡ u
-    head_of e = cc
 
 -- a fault that comes although something is read is want of memory
 pub fails_still : {X Y : Type 0} (e : ReadFault) (read : Option X) (x : X) (y : Y) → Fails e read → read ≡ Some x → Fails e (Some y)

@@ -6,7 +6,7 @@ use Rattle.grammar.specs.Rule.{has}
 use Rattle.grammar.specs.Reader.{read, choice, turns, ◌>>=◌}
 use Rattle.grammar.specs.sums.Token.{class, token_at}
 use Rattle.grammar.specs.sums.Tree.{Tree}
-use Rattle.grammar.specs.sums.Table.{Level, Text, Exprs, Inside, Sums, Sum, Term, Unary, Call, Args, Arg, Atom, Paren, SumsTail, SumTail, TermTail, CallTail, ArgsTail, table, grammar, sums_round, sum_round, term_round, call_round, args_round, Row}
+use Rattle.grammar.specs.sums.Table.{Level, Text, Exprs, Inside, Sums, Sum, Term, Unary, Cast, Pointer, PointerName, Call, Args, Arg, Atom, Paren, SumsTail, SumTail, TermTail, PointerTail, CallTail, ArgsTail, table, grammar, sums_round, sum_round, term_round, pointer_round, call_round, args_round, Row}
 use Rattle.grammar.specs.sums.Build.{source, left}
 use Rattle.grammar.specs.sums.Sets.{sets, ranks}
 use Rattle.grammar.specs.sums.Reading.{level}
@@ -53,6 +53,18 @@ unary_zero ts room i h = level_zero ts room Unary i h
 
 pub unary_step : (ts : List Token) (room i : ℕ) → zero < room → level ts room Unary i ≡ row ts room (table Unary) i
 unary_step ts room i h = level_row ts room Unary i h
+
+pub cast_zero : (ts : List Token) (room i : ℕ) → room ≡ zero → level ts room Cast i ≡ None
+cast_zero ts room i h = level_zero ts room Cast i h
+
+pub cast_step : (ts : List Token) (room i : ℕ) → zero < room → level ts room Cast i ≡ row ts room (table Cast) i
+cast_step ts room i h = level_row ts room Cast i h
+
+pub pointer_name_zero : (ts : List Token) (room i : ℕ) → room ≡ zero → level ts room PointerName i ≡ None
+pointer_name_zero ts room i h = level_zero ts room PointerName i h
+
+pub pointer_name_step : (ts : List Token) (room i : ℕ) → zero < room → level ts room PointerName i ≡ row ts room (table PointerName) i
+pointer_name_step ts room i h = level_row ts room PointerName i h
 
 pub arg_zero : (ts : List Token) (room i : ℕ) → room ≡ zero → level ts room Arg i ≡ None
 arg_zero ts room i h = level_zero ts room Arg i h
@@ -166,3 +178,22 @@ args_zero ts room i h = level_zero ts room Args i h
 pub args_step : (ts : List Token) (room i : ℕ) → zero < room → level ts room Args i ≡ cond (has (sets.first Arg) (class (token_at ts i).word)) (◌>>=◌ {B = List Tree × ℕ} (level ts room Arg i) (λ x. ◌>>=◌ {B = List Tree × ℕ} (args_rest ts room (suc (length ts)) x.1) (λ y. Some (x.0 ++ y.0, y.1)))) (Some ([], i))
 unfolding args_rest
 args_step ts room i h = level_row ts room Args i h
+
+-- what the loop of pointer still reads, in n rounds
+unfoldable pub pointer_rest : List Token → ℕ → ℕ → ℕ → Option (List Tree × ℕ)
+pointer_rest ts room n = turns (λ i. None) (λ X. read (source ts) sets (suc (length ts)) (rungs ts room) X (Some PointerTail) pointer_round) n
+
+pub pointer_turn : (ts : List Token) (room n i : ℕ) → zero < n → pointer_rest ts room n i ≡ read (source ts) sets (suc (length ts)) (rungs ts room) (pointer_rest ts room (n - 1)) (Some PointerTail) pointer_round i
+unfolding pointer_rest
+pointer_turn ts room n i h = ap (λ f. f i) (turn (λ i. None) (λ X. read (source ts) sets (suc (length ts)) (rungs ts room) X (Some PointerTail) pointer_round) n h)
+
+pub pointer_turned : (ts : List Token) (room n i : ℕ) → n ≡ zero → pointer_rest ts room n i ≡ None
+unfolding pointer_rest
+pointer_turned ts room n i h = ap (λ f. f i) (turned (λ i. None) (λ X. read (source ts) sets (suc (length ts)) (rungs ts room) X (Some PointerTail) pointer_round) n h)
+
+pub pointer_zero : (ts : List Token) (room i : ℕ) → room ≡ zero → level ts room Pointer i ≡ None
+pointer_zero ts room i h = level_zero ts room Pointer i h
+
+pub pointer_step : (ts : List Token) (room i : ℕ) → zero < room → level ts room Pointer i ≡ ◌>>=◌ {B = List Tree × ℕ} (level ts room PointerName i) (λ x. ◌>>=◌ {B = List Tree × ℕ} (pointer_rest ts room (suc (length ts)) x.1) (λ y. Some (x.0 ++ y.0, y.1)))
+unfolding pointer_rest
+pointer_step ts room i h = level_row ts room Pointer i h

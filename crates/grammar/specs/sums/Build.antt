@@ -6,7 +6,7 @@ use Rattle.grammar.specs.declared.example.node.Kind.TheVariants as k
 use Rattle.grammar.specs.Rule.{Source}
 use Rattle.grammar.specs.sums.Token.{class, token_at, end_of}
 use Rattle.grammar.specs.sums.Tree.{Tree, node, more_trees, trees}
-use Rattle.grammar.specs.sums.Table.{Builder, Group, Several, Left, Operation, Negation, Arguments, Named}
+use Rattle.grammar.specs.sums.Table.{Builder, Group, Several, Left, Operation, Negation, Conversion, Arguments, Named}
 
 abbrev pub plain : Kind → ℕ → ℕ → ℕ → List Tree → List Tree
 plain kind text from to xs = node kind text from to (trees xs) ∷ []
@@ -42,6 +42,7 @@ build ts Several i j xs = plain k.List 0 0 0 xs
 build ts Left i j xs = left (token_at ts i).from xs
 build ts Operation i j xs = plain k.Binary (token_at ts i).text (token_at ts i).from (end_of ts j) xs
 build ts Negation i j xs = plain k.Negative 0 (token_at ts i).from (end_of ts j) xs
+build ts Conversion i j xs = plain k.Cast 0 (token_at ts i).from (end_of ts j) xs
 build ts Arguments i j xs = plain k.Call 0 (token_at ts i).from (end_of ts j) xs
 build ts Named i j xs = plain k.Keyword 0 (token_at ts i).from (end_of ts j) xs
 

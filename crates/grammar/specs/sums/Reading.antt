@@ -8,17 +8,24 @@ use Rattle.grammar.specs.declared.example.reader.Inner.{Inner}
 use Rattle.grammar.specs.declared.example.reader.Inner.TheVariants.{One, Several}
 use Rattle.grammar.specs.declared.example.reader.ReadFault.{ReadFault}
 use Rattle.grammar.specs.declared.example.reader.ReadFault.TheVariants as faults
+use Rattle.grammar.specs.declared.example.runs.Start.{Start}
+use Rattle.grammar.specs.declared.example.runs.Start.TheVariants as starts
 use Rattle.grammar.specs.Rule.{has, IsPiece, IsRun, brackets_round}
 use Rattle.grammar.specs.Reader.{read_level}
+use Rattle.grammar.specs.Tests.{verdict}
 use Rattle.grammar.specs.sums.Token.{class, token_at}
 use Rattle.grammar.specs.sums.Tree.{Tree, view, views, depth_all}
-use Rattle.grammar.specs.sums.Table.{Level, Text, Exprs, table, grammar}
+use Rattle.grammar.specs.sums.Table.{Level, Text, Exprs, Cast, table, grammar, automaton}
 use Rattle.grammar.specs.sums.Build.{source, parted, group}
 use Rattle.grammar.specs.sums.Sets.{sets, ranks}
 
 -- the reader of a level, by the table
 unfoldable pub level : List Token → ℕ → Level → ℕ → Option (List Tree × ℕ)
 level ts room l i = read_level (source ts) sets (suc (length ts)) table ranks.top room l i
+
+-- what the test of a cast says in a state before the token at a place, looking at n tokens at most
+unfoldable pub says_at : List Token → ℕ → ℕ → ℕ → Bool
+says_at ts n a i = verdict automaton n a (source ts).cls i
 
 -- the classes that a text may have, and not a pattern alone
 abbrev pub of_text : ℕ → Bool
@@ -53,10 +60,16 @@ GivesInside (Err e) read = Fails e read
 abbrev pub Grouped : ℕ → ℕ → Inner → Tree → Type 0
 Grouped from to inner t = group from to (inner_views inner) ≡ t ∷ []
 
--- The tree of the closed run of exprs between two places of the tokens, in a mode.
-pub record IsExprs (mode : ℕ → Bool) (ts : List Token) (from : ℕ) (t : Tree) (to : ℕ) : Type 0 where
+-- the level whose runs are read
+abbrev pub level_of : Start → Level
+level_of starts.Exprs = Exprs
+level_of starts.Text = Text
+level_of starts.Cast = Cast
+
+-- The tree of the closed run of a level between two places of the tokens, in a mode.
+pub record IsRunOf (mode : ℕ → Bool) (start : Start) (ts : List Token) (from : ℕ) (t : Tree) (to : ℕ) : Type 0 where
   pub within : to ≤ length ts
-  pub run : IsRun grammar mode depth_all (source ts) Exprs (t ∷ []) from to
+  pub run : IsRun grammar mode depth_all (source ts) (level_of start) (t ∷ []) from to
 
 -- the classes of patterns, which are all
 abbrev pub of_pattern : ℕ → Bool

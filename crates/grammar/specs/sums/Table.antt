@@ -1,11 +1,12 @@
 -- The grammar of sums, as a table: a row of a level for each line of the grammar.
-use Rattle.std.specs.Prelude.{Bool, true, false, [], ◌∷◌}
+use Rattle.std.specs.Prelude.{Bool, true, false, List, [], ◌∷◌}
 use Rattle.grammar.specs.declared.example.token.Word.{Word}
 use Rattle.grammar.specs.declared.example.token.Word.TheVariants as w
 use Rattle.grammar.specs.declared.example.node.Kind.{Kind}
 use Rattle.grammar.specs.declared.example.node.Kind.TheVariants as k
 use Rattle.grammar.specs.sums.Token.{class}
-use Rattle.grammar.specs.Rule.{Rule, mark, word, ref, deep, again, around, look, opt, must, rep, make, ◌·◌, ◌∣◌, Grammar}
+use Rattle.grammar.specs.Rule.{Rule, mark, word, ref, deep, again, around, look, choose, opt, must, rep, make, ◌·◌, ◌∣◌, Grammar}
+use Rattle.grammar.specs.Tests.{say, go, ◌⇒◌, State, Automaton, test}
 
 pub data Level : Type 0 where
   Text : Level
@@ -18,6 +19,10 @@ pub data Level : Type 0 where
   Term : Level
   TermTail : Level
   Unary : Level
+  Cast : Level
+  Pointer : Level
+  PointerTail : Level
+  PointerName : Level
   Call : Level
   CallTail : Level
   Args : Level
@@ -32,6 +37,7 @@ pub data Builder : Type 0 where
   Left : Builder
   Operation : Builder
   Negation : Builder
+  Conversion : Builder
   Arguments : Builder
   Named : Builder
 
@@ -42,6 +48,7 @@ strong Several = true
 strong Left = false
 strong Operation = true
 strong Negation = true
+strong Conversion = true
 strong Arguments = true
 strong Named = true
 
@@ -60,6 +67,36 @@ leaf k c = word k (class c ∷ [])
 abbrev pub round : Row → Row
 round = around (class w.OpenRound ∷ []) (class w.CloseRound ∷ [])
 
+-- The tests, a state each. A "(" opens a cast where NAME, one or more "*" and ")" follow it, or NAME, ")" and then a NAME or a NUMBER.
+
+-- 0: before the "("
+abbrev pub cast_bracket : State
+cast_bracket = ((class w.OpenRound ∷ []) ⇒ go 1) ∷ []
+
+-- 1: before the NAME
+abbrev pub cast_name : State
+cast_name = ((class w.Name ∷ []) ⇒ go 2) ∷ []
+
+-- 2: behind it
+abbrev pub cast_behind_name : State
+cast_behind_name = ((class w.Times ∷ []) ⇒ go 3) ∷ ((class w.CloseRound ∷ []) ⇒ go 4) ∷ []
+
+-- 3: behind a "*"
+abbrev pub cast_behind_star : State
+cast_behind_star = ((class w.Times ∷ []) ⇒ go 3) ∷ ((class w.CloseRound ∷ []) ⇒ say true) ∷ []
+
+-- 4: behind NAME and ")"
+abbrev pub cast_operand : State
+cast_operand = ((class w.Name ∷ class w.Number ∷ []) ⇒ say true) ∷ []
+
+-- more tokens than a list has
+abbrev pub automaton : Automaton
+automaton = record { states = cast_bracket ∷ cast_name ∷ cast_behind_name ∷ cast_behind_star ∷ cast_operand ∷ []; most = 36893488147419103232 }
+
+-- the levels whose closed runs are read
+abbrev pub promised : List Level
+promised = Text ∷ Exprs ∷ Cast ∷ []
+
 -- what each loop goes round; a loop is the row of its own name too
 abbrev pub sums_round : Row
 sums_round = opt (tok w.Comma · opt (ref Sum · again))
@@ -69,6 +106,9 @@ sum_round = opt (make Operation (mark (class w.Plus ∷ class w.Minus ∷ []) ·
 
 abbrev pub term_round : Row
 term_round = opt (make Operation (tok w.Times · ref Unary) · again)
+
+abbrev pub pointer_round : Row
+pointer_round = opt (leaf k.Star w.Times · again)
 
 abbrev pub call_round : Row
 call_round = opt (make Arguments (round (deep Args)) · again)
@@ -88,8 +128,13 @@ table Sums = opt (ref Sum · rep SumsTail sums_round)
 table Sum = make Left (ref Term · rep SumTail sum_round)
 -- term = term "*" unary             Binary(*)[a, b] | unary
 table Term = make Left (ref Unary · rep TermTail term_round)
--- unary = "-" unary                 Negative[e] | call
-table Unary = make Negation (tok w.Minus · deep Unary) ∣ ref Call
+-- unary = "-" unary                 Negative[e] | cast
+table Unary = make Negation (tok w.Minus · deep Unary) ∣ ref Cast
+-- cast = "(" pointer ")" unary         Cast[NAME, stars.., e], where the test says so | call
+table Cast = choose (test automaton 0) (make Conversion (round (deep Pointer) · deep Unary)) (ref Call)
+-- pointer = NAME {"*"}
+table Pointer = ref PointerName · rep PointerTail pointer_round
+table PointerName = leaf k.Name w.Name
 -- call = call "(" args ")"          Call[e, args..] | atom
 table Call = make Left (ref Atom · rep CallTail call_round)
 -- args = [arg {"," arg} [","]]
@@ -102,6 +147,7 @@ table Paren = make Group (round (opt (deep Inside)))
 table SumsTail = rep SumsTail sums_round
 table SumTail = rep SumTail sum_round
 table TermTail = rep TermTail term_round
+table PointerTail = rep PointerTail pointer_round
 table CallTail = rep CallTail call_round
 table ArgsTail = rep ArgsTail args_round
 

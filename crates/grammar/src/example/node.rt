@@ -9,6 +9,9 @@ pub enum Kind {
     Tuple,
     Binary,
     Negative,
+    Cast,
+    /// A `*` of a type.
+    Star,
     Call,
     Keyword,
     /// Holds what stands behind the first comma of a list, and stands in no tree.

@@ -1,14 +1,14 @@
 //! The reader of the example: a function for each level, by the token in hand.
 
-ghost use Rattle.std.specs.Prelude.{◌≡◌, ◌≢◌, ℕ, suc, ◌+◌, ◌<◌, ◌≤◌, true, false, List, [], ◌∷◌, length, IfOk, IfErr, Some, eqb, leb};
-ghost use Rattle.grammar.specs.declared.example.token.Word.TheVariants.{End, Plus, Minus};
+ghost use Rattle.std.specs.Prelude.{◌≡◌, ◌≢◌, ℕ, suc, ◌+◌, ◌-◌, ◌<◌, ◌≤◌, true, false, List, [], ◌∷◌, length, IfOk, IfErr, Some, eqb, leb};
+ghost use Rattle.grammar.specs.declared.example.token.Word.TheVariants.{End, Name, Number, Plus, Minus};
 ghost use Rattle.grammar.specs.declared.example.reader.ReadFault.TheVariants.{Memory};
 ghost use Rattle.grammar.specs.Rule.{has};
 ghost use Rattle.grammar.specs.sums.Token.{class, token_at, end_of};
 ghost use Rattle.grammar.specs.sums.Tree.{Tree, view, views, node, trees};
-ghost use Rattle.grammar.specs.sums.Table.{Text, Exprs, Inside, Sums, Sum, Term, Unary, Call, Args, Arg, Atom, Paren};
+ghost use Rattle.grammar.specs.sums.Table.{Text, Exprs, Inside, Sums, Sum, Term, Unary, Cast, Pointer, PointerName, Call, Args, Arg, Atom, Paren, automaton};
 ghost use Rattle.grammar.specs.sums.Sets.{sets};
-ghost use Rattle.grammar.specs.sums.Reading.{level, Gives, GivesAll, GivesInside, Grouped};
+ghost use Rattle.grammar.specs.sums.Reading.{level, says_at, Gives, GivesAll, GivesInside, Grouped};
 
 use crate::example::node::{Kind, Node};
 use crate::example::token::{Token, Word};
@@ -98,6 +98,51 @@ fn starts_sum(tokens: &[Token], at: usize) -> bool
         word_at(tokens, at),
         Word::Minus | Word::OpenRound | Word::Name | Word::Number | Word::Hole
     )
+}
+
+/// Whether a name or a number stands there.
+#[tactic(auto, unfolding(crate::specs::sums::Token::class))]
+fn is_operand(tokens: &[Token], at: usize) -> bool
+    ensures { result ≡ has (class Name ∷ class Number ∷ []) (class (token_at tokens.now at).word) }
+{
+    matches!(word_at(tokens, at), Word::Name | Word::Number)
+}
+
+/// Whether `{"*"} ")"` follows.
+#[tactic(auto, using(crate::proofs::sums::Casts::star_step))]
+fn closes_pointer(tokens: &[Token], at: usize) -> bool
+    requires { at ≤ length tokens.now }
+    ensures { result ≡ says_at tokens.now (automaton.most - 3) 3 at }
+{
+    let mut end = at;
+    for turn in 0..=tokens.len() {
+        if !is(tokens, end, Word::Times) {
+            return is(tokens, end, Word::CloseRound);
+        }
+        end += 1;
+    }
+    false
+}
+
+/// Whether a cast begins there: `"(" NAME "*" {"*"} ")"`, or `"(" NAME ")"` and then a NAME or NUMBER.
+#[tactic(auto, using(crate::proofs::sums::Casts::bracket_step, crate::proofs::sums::Casts::name_step, crate::proofs::sums::Casts::behind_name_step, crate::proofs::sums::Casts::operand_step))]
+fn opens_cast(tokens: &[Token], at: usize) -> bool
+    requires { at ≤ length tokens.now }
+    ensures { result ≡ says_at tokens.now automaton.most 0 at }
+{
+    if !is(tokens, at, Word::OpenRound) {
+        return false;
+    }
+    if !is(tokens, at + 1, Word::Name) {
+        return false;
+    }
+    if is(tokens, at + 2, Word::Times) {
+        return closes_pointer(tokens, at + 3);
+    }
+    if is(tokens, at + 2, Word::CloseRound) {
+        return is_operand(tokens, at + 3);
+    }
+    false
 }
 
 /// Where the token there begins.
@@ -326,7 +371,7 @@ fn term(alloc: Global, tokens: &[Token], room: u32, at: usize) -> Result<(Node, 
     Err(ReadFault::NoTree)
 }
 
-/// `"-" unary | call`
+/// `"-" unary | cast`
 #[cycle(reader)]
 #[tactic(auto, using(crate::proofs::sums::Steps::unary_step, crate::proofs::sums::Steps::unary_zero))]
 fn unary(alloc: Global, tokens: &[Token], room: u32, at: usize) -> Result<(Node, usize), ReadFault>
@@ -351,7 +396,95 @@ fn unary(alloc: Global, tokens: &[Token], room: u32, at: usize) -> Result<(Node,
             end,
         ));
     }
-    call(alloc, tokens, room, at)
+    cast(alloc, tokens, room, at)
+}
+
+/// `"(" pointer ")" unary`, where the test says so, else `call`
+#[cycle(reader)]
+#[tactic(auto, using(crate::proofs::sums::Steps::cast_step, crate::proofs::sums::Steps::cast_zero, crate::proofs::sums::Casts::cast_test, crate::proofs::sums::Views::list_laws))]
+pub fn cast(
+    alloc: Global,
+    tokens: &[Token],
+    room: u32,
+    at: usize,
+) -> Result<(Node, usize), ReadFault>
+    requires { at ≤ length tokens.now }
+    ensures within { IfOk result (λ x. x.1 ≤ length tokens.now) }
+    ensures gives { Gives result (level tokens.now room Cast at) }
+{
+    if room == 0 {
+        return Err(ReadFault::NoTree);
+    }
+    if !opens_cast(tokens, at) {
+        return call(alloc, tokens, room, at);
+    }
+    if !is(tokens, at, Word::OpenRound) {
+        return Err(ReadFault::NoTree);
+    }
+    let (mut kids, close) = pointer(alloc, tokens, room - 1, at + 1)?;
+    if !is(tokens, close, Word::CloseRound) {
+        return Err(ReadFault::NoTree);
+    }
+    let (value, end) = unary(alloc, tokens, room - 1, close + 1)?;
+    kids.push(value)?;
+    Ok((
+        make(
+            Kind::Cast,
+            0,
+            start_at(tokens, at),
+            end_before(tokens, end),
+            kids,
+        ),
+        end,
+    ))
+}
+
+/// `NAME`, of a pointer
+#[tactic(auto, using(crate::proofs::sums::Steps::pointer_name_step, crate::proofs::sums::Steps::pointer_name_zero))]
+fn pointer_name(
+    alloc: Global,
+    tokens: &[Token],
+    room: u32,
+    at: usize,
+) -> Result<(Node, usize), ReadFault>
+    requires { at ≤ length tokens.now }
+    ensures within { IfOk result (λ x. x.1 ≤ length tokens.now) }
+    ensures gives { Gives result (level tokens.now room PointerName at) }
+{
+    if room == 0 {
+        return Err(ReadFault::NoTree);
+    }
+    if !is(tokens, at, Word::Name) {
+        return Err(ReadFault::NoTree);
+    }
+    Ok((leaf(alloc, Kind::Name, tokens, at), at + 1))
+}
+
+/// `NAME {"*"}`
+#[tactic(auto, using(crate::proofs::sums::Steps::pointer_step, crate::proofs::sums::Steps::pointer_zero, crate::proofs::sums::Steps::pointer_turn, crate::proofs::sums::Steps::pointer_turned, crate::proofs::sums::Views::list_laws))]
+fn pointer(
+    alloc: Global,
+    tokens: &[Token],
+    room: u32,
+    at: usize,
+) -> Result<(Vec<Node>, usize), ReadFault>
+    requires { at ≤ length tokens.now }
+    ensures within { IfOk result (λ x. x.1 ≤ length tokens.now) }
+    ensures gives { GivesAll result (level tokens.now room Pointer at) }
+{
+    if room == 0 {
+        return Err(ReadFault::NoTree);
+    }
+    let (first, mut end) = pointer_name(alloc, tokens, room, at)?;
+    let mut kids = vec![in alloc; first]?;
+    for turn in 0..=tokens.len() {
+        if !is(tokens, end, Word::Times) {
+            return Ok((kids, end));
+        }
+        kids.push(leaf(alloc, Kind::Star, tokens, end))?;
+        end += 1;
+    }
+    Err(ReadFault::NoTree)
 }
 
 /// `atom {"(" args ")"}`, from the left.

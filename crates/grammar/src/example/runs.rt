@@ -1,14 +1,14 @@
-//! The public call of the example.
+//! The public calls of the example.
 
 ghost use Rattle.std.specs.Prelude.{◌≡◌, ℕ, ◌<◌, ◌≤◌, true, false, [], ◌∷◌, length, IfOk, Some, leb};
 ghost use Rattle.grammar.specs.Rule.{behind};
 ghost use Rattle.grammar.specs.sums.Token.{class};
 ghost use Rattle.grammar.specs.sums.Tree.{Tree, view, depth};
 ghost use Rattle.grammar.specs.sums.Table.{grammar};
-ghost use Rattle.grammar.specs.sums.Reading.{IsExprs, IsText, of_text, of_pattern, Gives, GivesTree, IsWhole, round_at};
+ghost use Rattle.grammar.specs.sums.Reading.{IsRunOf, IsText, of_text, of_pattern, level, level_of, Gives, GivesTree, IsWhole, round_at};
 
 use crate::example::node::Node;
-use crate::example::reader::{ReadFault, exprs, text};
+use crate::example::reader::{ReadFault, cast, exprs, text};
 use crate::example::token::{Token, Word};
 use std::alloc::Global;
 
@@ -68,20 +68,54 @@ fn is_shallow(node: &Node, most: u32) -> bool
     true
 }
 
-/// The tree of the closed run of `exprs` at the token `from`, and the place behind the run.
+/// The level whose run is read.
+#[derive(Clone, Copy, PartialEq, Eq, Debug)]
+pub enum Start {
+    /// Sums with commas.
+    Exprs,
+    /// The same, with a `;` where one follows.
+    Text,
+    /// A cast, or a call or an atom.
+    Cast,
+}
+
+/// A run of the level, with so much room.
+fn begun(
+    alloc: Global,
+    tokens: &[Token],
+    from: usize,
+    start: Start,
+) -> Result<(Node, usize), ReadFault>
+    requires { from ≤ length tokens.now }
+    ensures within { IfOk result (λ x. x.1 ≤ length tokens.now) }
+    ensures gives { Gives result (level tokens.now 1002 (level_of start) from) }
+{
+    match start {
+        Start::Exprs => exprs(alloc, tokens, ROOM, from),
+        Start::Text => text(alloc, tokens, ROOM, from),
+        Start::Cast => cast(alloc, tokens, ROOM, from),
+    }
+}
+
+/// The tree of the closed run of a level at the token `from`, and the place behind the run.
 ///
 /// Trees have a depth of at most 500, and no token of the run stands inside more than 500 brackets of it.
 #[tactic(auto, using(crate::proofs::sums::Runs::run_is_read, crate::proofs::sums::Runs::read_is_run))]
-pub fn read_exprs(alloc: Global, tokens: &[Token], from: usize) -> Result<(Node, usize), ReadFault>
+pub fn read_run(
+    alloc: Global,
+    tokens: &[Token],
+    from: usize,
+    start: Start,
+) -> Result<(Node, usize), ReadFault>
     requires { from ≤ length tokens.now }
     // What is read is a closed run.
-    ensures found { IfOk result (λ x. IsExprs of_pattern tokens.now from (view x.0) x.1) }
+    ensures found { IfOk result (λ x. IsRunOf of_pattern start tokens.now from (view x.0) x.1) }
     // Each closed run is what is read, unless memory runs out.
-    ensures only { (t : Tree) (to : ℕ) → IsExprs of_pattern tokens.now from t to → Gives result (Some (t ∷ [], to)) }
+    ensures only { (t : Tree) (to : ℕ) → IsRunOf of_pattern start tokens.now from t to → Gives result (Some (t ∷ [], to)) }
     // In a text so is each run that is closed among texts.
-    ensures only_text { IsText tokens.now → (t : Tree) (to : ℕ) → IsExprs of_text tokens.now from t to → Gives result (Some (t ∷ [], to)) }
+    ensures only_text { IsText tokens.now → (t : Tree) (to : ℕ) → IsRunOf of_text start tokens.now from t to → Gives result (Some (t ∷ [], to)) }
 {
-    let (node, end) = exprs(alloc, tokens, ROOM, from)?;
+    let (node, end) = begun(alloc, tokens, from, start)?;
     if !is_shallow(&node, LIMIT) {
         return Err(ReadFault::NoTree);
     }

@@ -9,10 +9,10 @@ use Rattle.grammar.proofs.sums.Steps.{sums_rest, sum_rest, term_rest, call_rest,
 use Rattle.grammar.proofs.example.reader.+reader.Given as goal
 
 abbrev pub decreases-arg : goal.decreases-arg
-decreases-arg l = 16 * l.room + 7
+decreases-arg l = 16 * l.room + 8
 
 abbrev pub decreases-args : goal.decreases-args
-decreases-args l = 16 * l.room + 8
+decreases-args l = 16 * l.room + 9
 
 abbrev pub decreases-atom : goal.decreases-atom
 decreases-atom l = 16 * l.room + 2
@@ -20,23 +20,26 @@ decreases-atom l = 16 * l.room + 2
 abbrev pub decreases-call : goal.decreases-call
 decreases-call l = 16 * l.room + 3
 
+abbrev pub decreases-cast : goal.decreases-cast
+decreases-cast l = 16 * l.room + 4
+
 abbrev pub decreases-inside : goal.decreases-inside
-decreases-inside l = 16 * l.room + 8
+decreases-inside l = 16 * l.room + 9
 
 abbrev pub decreases-paren : goal.decreases-paren
 decreases-paren l = 16 * l.room + 1
 
 abbrev pub decreases-sum : goal.decreases-sum
-decreases-sum l = 16 * l.room + 6
+decreases-sum l = 16 * l.room + 7
 
 abbrev pub decreases-sums : goal.decreases-sums
-decreases-sums l = 16 * l.room + 7
+decreases-sums l = 16 * l.room + 8
 
 abbrev pub decreases-term : goal.decreases-term
-decreases-term l = 16 * l.room + 5
+decreases-term l = 16 * l.room + 6
 
 abbrev pub decreases-unary : goal.decreases-unary
-decreases-unary l = 16 * l.room + 4
+decreases-unary l = 16 * l.room + 5
 
 abbrev pub invariant-sum-loop-turn : goal.invariant-sum-loop-turn
 invariant-sum-loop-turn l = record {
