@@ -130,32 +130,7 @@ fewer_by _ forms ne is = absurd cc
 pub smaller : (lexemes : Lexemes) (mode : Mode) (forms : Forms) (w : ℕ) (cs : List ℕ) → Spells (rules_of lexemes mode forms) w cs → is_f_string (class_of w) ≡ true → count (fewer (class_of w) forms) < count forms
 smaller lexemes mode forms w cs sp is = fewer_by (class_of w) forms (λ same. without_gone w (rules_of lexemes mode forms) cs (subst (λ (rs : List Rule). Spells rs w cs) (sym (left_out lexemes mode forms w is ∙ ap (rules_of lexemes mode) same)) sp)) is
 
--- ---- what was found
-
-found_with : (P : Parting) (rules : List Rule) (at : ℕ) (text : List ℕ) (f : Found) → IsPiece rules text f.word f.text.now f.rest.now → IsUtf8 f.text.now → IsUtf8 f.rest.now
-    → Parted P at (class_of f.word) (chars f.text.now) f.parts → ((xs : List FPart) → Parted P at (class_of f.word) (chars f.text.now) xs → f.parts ≡ xs) → IsFound P rules at text f
-found_with P rules at text f p u v parts only = record {
-  whole = p.parts;
-  begins = such_here (HasSome P at) rules (chars text) f.word (chars f.text.now) (chars f.rest.now) p.begins (f.parts, parts);
-  parts = parts;
-  only = only;
-  some = p.some;
-  sharp = p.sharp;
-  utf8 = u;
-  utf8_rest = v;
-}
-
--- a lexeme that is no f-string
-pub found_plain : (P : Parting) (rules : List Rule) (at : ℕ) (text : List ℕ) (f : Found) → IsPiece rules text f.word f.text.now f.rest.now → IsUtf8 f.text.now → IsUtf8 f.rest.now → is_f_string (class_of f.word) ≡ false → f.parts ≡ [] → IsFound P rules at text f
-found_plain P rules at text f p u v is none =
-    found_with P rules at text f p u v (subst (λ (b : Bool). PartedIf b (P at (class_of f.word) (chars f.text.now) f.parts) f.parts) (sym is) none) (λ xs h. none ∙ sym (subst (λ (b : Bool). PartedIf b (P at (class_of f.word) (chars f.text.now) xs) xs) is h))
-
--- an f-string with its parts
-pub found_parted : (P : Parting) (rules : List Rule) (at : ℕ) (text : List ℕ) (f : Found) → IsPiece rules text f.word f.text.now f.rest.now → IsUtf8 f.text.now → IsUtf8 f.rest.now → is_f_string (class_of f.word) ≡ true
-    → P at (class_of f.word) (chars f.text.now) f.parts → ((xs : List FPart) → P at (class_of f.word) (chars f.text.now) xs → f.parts ≡ xs) → IsFound P rules at text f
-found_parted P rules at text f p u v is parts only =
-    found_with P rules at text f p u v (subst (λ (b : Bool). PartedIf b (P at (class_of f.word) (chars f.text.now) f.parts) f.parts) (sym is) parts)
-    (λ xs h. only xs (subst (λ (b : Bool). PartedIf b (P at (class_of f.word) (chars f.text.now) xs) xs) is h))
+-- ---- looking again
 
 -- an f-string without parts gives way to what is found without its form
 pub passed_over : (P : Parting) (lexemes : Lexemes) (mode : Mode) (forms : Forms) (at : ℕ) (text : List ℕ) (w : ℕ) (front rest : List ℕ) (r : Result Found LexFault) → IsPiece (rules_of lexemes mode forms) text w front rest → is_f_string (class_of w) ≡ true
@@ -175,7 +150,7 @@ passed_over P lexemes mode forms at text w front rest r p is no_parts h = by_res
     by_result (Ok f) g = record {
       whole = g.whole;
       begins = passed (HasSome P at) (rules_of lexemes mode forms) (chars text) w (chars front) (chars rest) f.word (chars f.text.now) (chars f.rest.now) p.begins barred free
-        (subst (λ (rs : List Rule). BeginsWithSuch (HasSome P at) rs (chars text) f.word (chars f.text.now) (chars f.rest.now)) same g.begins);
+          (subst (λ (rs : List Rule). BeginsWithSuch (HasSome P at) rs (chars text) f.word (chars f.text.now) (chars f.rest.now)) same g.begins);
       parts = g.parts;
       only = g.only;
       some = g.some;

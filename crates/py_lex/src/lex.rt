@@ -35,11 +35,26 @@ pub fn tokens(alloc: Global, text: &str, mode: Mode) -> Result<List<PyToken>, Le
         first: true,
     };
     'lexemes: while !rest.is_empty() {
-        let found = match look(alloc, Lexemes::Text, mode, Forms::Both, rest, layout.at, levels) {
+        let found = match look(
+            alloc,
+            Lexemes::Text,
+            mode,
+            Forms::Both,
+            rest,
+            layout.at,
+            levels,
+        ) {
             Ok(found) => found,
             Err(fault) => return Err(fault),
         };
-        step(alloc, &mut all, &mut layout, found.word, found.text, found.parts)?;
+        step(
+            alloc,
+            &mut all,
+            &mut layout,
+            found.word,
+            found.text,
+            found.parts,
+        )?;
         rest = found.rest;
     }
     finish(alloc, &mut all, &mut layout)?;

@@ -230,7 +230,13 @@ fn parts_of(
     let Some(inner) = inside_of(class, text) else {
         return Err(LexFault::NoTokens);
     };
-    parts_within(alloc, mode, inner, at + inside_start(class, text), levels - 1)
+    parts_within(
+        alloc,
+        mode,
+        inner,
+        at + inside_start(class, text),
+        levels - 1,
+    )
 }
 
 /// The parts of a text that stands between the quotes of an f-string, at a place.
@@ -255,7 +261,14 @@ fn parts_within(
             Ok(found) => found,
             Err(fault) => return Err(fault),
         };
-        step(alloc, &mut all, &mut inside, found.word, found.text, found.parts)?;
+        step(
+            alloc,
+            &mut all,
+            &mut inside,
+            found.word,
+            found.text,
+            found.parts,
+        )?;
         rest = found.rest;
     }
     match inside.place {
