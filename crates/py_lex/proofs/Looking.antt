@@ -1,7 +1,7 @@
 -- Looking for the longest lexeme that has parts: where an f-string has none, its form is left out.
-use Rattle.std.proofs.Common.{◌≡◌, ◌≢◌, ℕ, suc, ◌<◌, ◌==◌, Bool, true, false, ◌⊎◌, inl, inr, List, [], ◌∷◌, ◌++◌, length, refl, sym, ap, ◌∙◌, subst, arith, eqb-true, eq-eqb}
+use Rattle.std.proofs.Common.{◌≡◌, ◌≢◌, ℕ, ◌<◌, ◌==◌, Bool, true, false, inl, inr, List, [], ◌∷◌, refl, sym, ap, ◌∙◌, subst, arith, eqb-true, eq-eqb}
 use Rattle.std.specs.Prelude.{Some, if◌then◌else◌, slice_index, Result, Ok, Err}
-use Rattle.std.specs.Str.{chars, IsUtf8}
+use Rattle.std.specs.Str.{chars}
 use Rattle.node_tree.specs.declared.view.Mode.{Mode}
 use Rattle.node_tree.specs.declared.fault.LexFault.{LexFault}
 use Rattle.node_tree.specs.declared.fault.LexFault.TheVariants.{Memory, NoTokens}
@@ -10,10 +10,10 @@ use Rattle.lexing.specs.Rules.{Rule, Spells}
 use Rattle.lexing.specs.Automaton.{Accepts, IsSound, IsPiece}
 use Rattle.lexing.specs.Conditions.{BeginsWithSuch, BeginsWithNoneSuch, without, IsPrefixFree}
 use Rattle.lexing.proofs.Certificate.{find, certified}
-use Rattle.lexing.proofs.Conditions.{closed, such_here, passed, passed_none, prefix_free}
+use Rattle.lexing.proofs.Conditions.{closed, passed, passed_none, prefix_free}
 use Rattle.py_lex.specs.Classes.{class_of, number_of}
 use Rattle.py_lex.specs.Starts.{rules_of, fewer, start_place}
-use Rattle.py_lex.specs.Parts.{Parting, is_f_string, PartedIf, Parted, HasSome, IsFound, Looks}
+use Rattle.py_lex.specs.Parts.{Parting, is_f_string, PartedIf, HasSome, Looks}
 use Rattle.py_lex.specs.declared.class.Class.{Class}
 use Rattle.py_lex.specs.declared.class.Class.TheVariants.{FShort, FLong}
 use Rattle.py_lex.specs.declared.class.Class.TheVariants as classes

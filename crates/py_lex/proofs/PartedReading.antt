@@ -1,5 +1,5 @@
 -- The tokens of a text that has f-strings, read up to a place.
-use Rattle.std.proofs.Common.{◌≡◌, ℕ, ◌<◌, true, false, ◌==◌, List, [], ◌∷◌, ◌++◌, length, refl, sym, ap, ◌∙◌, subst, arith, eqb-true}
+use Rattle.std.proofs.Common.{◌≡◌, ℕ, true, false, ◌==◌, List, [], ◌∷◌, ◌++◌, length, refl, sym, ap, ◌∙◌, subst, arith, eqb-true}
 use Rattle.std.specs.Prelude.{encode_utf8_all, Some, None, Err}
 use Rattle.std.specs.Str.{chars, IsUtf8}
 use Rattle.std.proofs.lemmas.Str.{encodes-chars}
@@ -8,11 +8,9 @@ use Rattle.node_tree.specs.declared.fault.LexFault.TheVariants.{Memory, NoTokens
 use Rattle.lexing.specs.Conditions.{BeginsWithNoneSuch}
 use Rattle.lexing.specs.Reading.{Turn, is_end, HasTokens}
 use Rattle.lexing.proofs.Reading.{Goes, HasOneTurn, starts, goes_on, no_piece, stuck, ended, at_end}
-use Rattle.py_lex.specs.Classes.{class_of}
-use Rattle.py_lex.specs.Parts.{Parting, Parted, HasSome, PartedLanguage, parted, IsFound, Looks}
+use Rattle.py_lex.specs.Parts.{Parting, HasSome, PartedLanguage, parted, IsFound, Looks}
 use Rattle.py_lex.specs.Layout.{Turns}
 use Rattle.py_lex.specs.Lexing.{Gives}
-use Rattle.py_lex.specs.declared.token.FPart.{FPart}
 use Rattle.py_lex.specs.declared.parts.Found.{Found}
 
 -- from the first state on, characters gave these tokens, and the state and the rest of the text decide the others

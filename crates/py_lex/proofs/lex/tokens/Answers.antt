@@ -1,16 +1,14 @@
-use Rattle.std.proofs.Common.{◌≡◌, ℕ, ◌-◌, length, refl, ap, sym, subst, arith, length-append, List, [], true}
+use Rattle.std.proofs.Common.{◌≡◌, ℕ, ◌-◌, length, ap, sym, subst, arith, length-append, List, [], true}
 use Rattle.std.specs.Prelude.{Option, None, Err}
 use Rattle.std.specs.Str.{chars}
 use Rattle.std.proofs.lemmas.Result.{err_from_is_err_and}
 use Rattle.lexing.specs.Mark.{past_mark, mark_len}
-use Rattle.lexing.specs.Reading.{HasTokens}
 use Rattle.node_tree.specs.declared.fault.LexFault.{LexFault}
 use Rattle.node_tree.specs.declared.fault.LexFault.TheVariants.{Memory, NoTokens}
 use Rattle.node_tree.specs.declared.view.Mode.{Mode}
 use Rattle.py_lex.specs.Layout.{Ends}
 use Rattle.py_lex.specs.Lexing.{py_language, first_line, Gives}
-use Rattle.py_lex.specs.Parts.{Parting, parted, HasParts}
-use Rattle.py_lex.specs.declared.layout.Layout.{Layout}
+use Rattle.py_lex.specs.Parts.{Parting}
 use Rattle.py_lex.specs.declared.layout.Line.TheVariants.{Start}
 use Rattle.py_lex.specs.declared.token.PyToken.{PyToken}
 use Rattle.py_lex.proofs.PartedReading.{IsAt, begins, turned, not_found, failed, given, only, unfinished}

@@ -1,15 +1,14 @@
-use Rattle.std.proofs.Common.{◌≡◌, ◌≢◌, ℕ, suc, ◌+◌, ◌*◌, ◌-◌, ◌<◌, true, List, [], length, length-append, refl, sym, ap, ◌∙◌, subst, arith}
+use Rattle.std.proofs.Common.{◌≡◌, ◌≢◌, ℕ, ◌+◌, ◌*◌, ◌-◌, ◌<◌, true, length, length-append, refl, sym, ap, ◌∙◌, subst, arith}
 use Rattle.std.specs.Prelude.{None, Err}
 use Rattle.std.specs.Str.{chars}
 use Rattle.std.proofs.lemmas.List.{append-nil}
 use Rattle.std.proofs.lemmas.Result.{err_from_is_err_and}
-use Rattle.lexing.specs.Rules.{Rule}
 use Rattle.node_tree.specs.declared.fault.LexFault.{LexFault}
 use Rattle.py_lex.specs.Classes.{class_of}
 use Rattle.py_lex.specs.Inside.{finish_at}
 use Rattle.py_lex.specs.Lexing.{Gives}
 use Rattle.py_lex.specs.Starts.{rules_of, fewer}
-use Rattle.py_lex.specs.Parts.{is_f_string, lexemes_at, HasParts, Looks, IsFound}
+use Rattle.py_lex.specs.Parts.{is_f_string, HasParts, Looks, IsFound}
 use Rattle.py_lex.specs.declared.class.Class.{Class}
 use Rattle.py_lex.specs.declared.class.Forms.{Forms}
 use Rattle.py_lex.specs.declared.class.Forms.TheVariants.{Both}

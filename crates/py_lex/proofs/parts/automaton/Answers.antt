@@ -1,4 +1,4 @@
-use Rattle.std.proofs.Common.{◌≡◌, ℕ, sym, subst}
+use Rattle.std.proofs.Common.{ℕ, sym, subst}
 use Rattle.std.specs.Prelude.{slice_index}
 use Rattle.lexing.specs.Automaton.{Started, IsSound, Accepts}
 use Rattle.py_lex.specs.Starts.{rules_of}
