@@ -1,3 +1,6 @@
 pub mod Certificate
 pub mod Closing
 pub mod Endings
+pub mod PartedReading
+pub mod Looking
+pub mod Between

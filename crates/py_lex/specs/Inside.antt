@@ -5,11 +5,10 @@ use Rattle.node_tree.specs.declared.fault.LexFault.{LexFault}
 use Rattle.node_tree.specs.declared.fault.LexFault.TheVariants.{Memory, NoTokens}
 use Rattle.lexing.specs.Reading.{Turn}
 use Rattle.py_lex.specs.Classes.{class_of}
-use Rattle.py_lex.specs.Layout.{word_of, depth_after}
+use Rattle.py_lex.specs.Layout.{word_of, depth_after, written}
 use Rattle.py_lex.specs.declared.class.Class.{Class}
 use Rattle.py_lex.specs.declared.class.Class.TheVariants as classes
 use Rattle.py_lex.specs.declared.token.PyWord.{PyWord}
-use Rattle.py_lex.specs.declared.token.PyToken.{roll-PyToken}
 use Rattle.py_lex.specs.declared.token.FPart.{FPart}
 use Rattle.py_lex.specs.declared.token.FPart.TheVariants as parts
 use Rattle.py_lex.specs.declared.inside.Place.{Place}
@@ -26,8 +25,12 @@ has_backslash (b ∷ bs) = if b == 92 then true else has_backslash bs
 abbrev pub opened : ℕ → Field
 opened from = record { from = from; tokens = []; conversion = [] }
 
+-- the inside of an f-string begins
+abbrev pub first : ℕ → Inside
+first at = record { at = at; place = places.Plain; depth = 0; field = opened 0; format = []; inner = opened 0 }
+
 abbrev pub with_token : Field → PyWord → List ℕ → ℕ → List FPart → Field
-with_token field word text at xs = record field { tokens = field.tokens ++ roll-PyToken (record { word = word; text = text; span = record { from = at; to = at + length text }; parts = xs }) ∷ [] }
+with_token field word text at xs = record field { tokens = field.tokens ++ written word text at xs ∷ [] }
 
 -- blanks and line ends are nothing; a backslash or a comment has no place in a field
 abbrev pub kept_gap : Field → Class → Option Field
@@ -136,11 +139,6 @@ abbrev pub finish : Inside → Option (List FPart)
 finish s = finish_at s.place
 
 -- ---- what functions give
-
-abbrev pub Turns : Option (Turn Inside FPart) → List FPart → List FPart → Inside → Result (Unit {0}) LexFault → Type 0
-Turns turn old new after (Ok l) = (ts : List FPart) × (turn ≡ Some (record { after = after; tokens = ts })) × (new ≡ old ++ ts)
-Turns turn old new after (Err Memory) = Unit {0}
-Turns turn old new after (Err NoTokens) = turn ≡ None
 
 -- numbers that cannot run over
 pub record IsBounded (s : Inside) : Type 0 where

@@ -1,21 +1,17 @@
 -- Lines and their columns: Newline, Indent and Dedent among the tokens of a text in Python.
 use Rattle.std.specs.Prelude.{◌≡◌, ℕ, ◌+◌, ◌-◌, ◌*◌, ◌/◌, ◌≤◌, Bool, true, false, ◌==◌, nat_lt, if◌then◌else◌, List, [], ◌∷◌, ◌++◌, length, Option, Some, None, option_map, Result, Ok, Err}
-use Rattle.std.specs.Str.{chars}
-use Rattle.node_tree.specs.declared.view.Mode.{Mode}
 use Rattle.node_tree.specs.declared.fault.LexFault.{LexFault}
 use Rattle.node_tree.specs.declared.fault.LexFault.TheVariants.{Memory, NoTokens}
-use Rattle.lexing.specs.Mark.{past_mark, mark_len}
-use Rattle.lexing.specs.Reading.{Turn, Language, Lexes}
+use Rattle.lexing.specs.Reading.{Turn}
 use Rattle.py_lex.specs.Keywords.{is_keyword}
 use Rattle.py_lex.specs.Classes.{class_of}
-use Rattle.py_lex.specs.Tokens.{rules}
 use Rattle.py_lex.specs.Columns.{top}
 use Rattle.py_lex.specs.declared.class.Class.{Class}
 use Rattle.py_lex.specs.declared.class.Class.TheVariants.{FShort, FLong, Name, Number, Str, Mark, Opening, Closing, Meta, MetaDots, Blank, LineEnd, Splice}
-use Rattle.py_lex.specs.declared.class.Forms.TheVariants.{Both}
 use Rattle.py_lex.specs.declared.token.PyWord.{PyWord}
 use Rattle.py_lex.specs.declared.token.PyWord.TheVariants as words
 use Rattle.py_lex.specs.declared.token.PyToken.{PyToken, roll-PyToken}
+use Rattle.py_lex.specs.declared.token.FPart.{FPart}
 use Rattle.py_lex.specs.declared.layout.Line.{Line}
 use Rattle.py_lex.specs.declared.layout.Line.TheVariants.{Start, Fixed, Inside}
 use Rattle.py_lex.specs.declared.layout.Layout.{Layout}
@@ -43,6 +39,10 @@ word_of _ text = None
 -- a token at a place
 abbrev pub token : PyWord → List ℕ → ℕ → ℕ → PyToken
 token w text from len = roll-PyToken (record { word = w; text = text; span = record { from = from; to = from + len }; parts = [] })
+
+-- a token that is written, with the parts of an f-string
+abbrev pub written : PyWord → List ℕ → ℕ → List FPart → PyToken
+written w text from xs = roll-PyToken (record { word = w; text = text; span = record { from = from; to = from + length text }; parts = xs })
 
 -- ---- columns of open blocks, the innermost first; below them is column 0
 
@@ -84,11 +84,11 @@ depth_after Opening depth = depth + 1
 depth_after Closing depth = depth - 1
 depth_after _ depth = depth
 
-abbrev pub with_token : Class → PyWord → List ℕ → Turn Layout PyToken → Turn Layout PyToken
-with_token class word text t = record { after = record t.after { depth = depth_after class t.after.depth; at = t.after.at + length text }; tokens = t.tokens ++ token word text t.after.at (length text) ∷ [] }
+abbrev pub with_token : Class → PyWord → List ℕ → List FPart → Turn Layout PyToken → Turn Layout PyToken
+with_token class word text xs t = record { after = record t.after { depth = depth_after class t.after.depth; at = t.after.at + length text }; tokens = t.tokens ++ written word text t.after.at xs ∷ [] }
 
-unfoldable pub token_step : Layout → Class → PyWord → List ℕ → Option (Turn Layout PyToken)
-token_step s class word text = option_map (with_token class word text) (begin s)
+unfoldable pub token_step : Layout → Class → PyWord → List ℕ → List FPart → Option (Turn Layout PyToken)
+token_step s class word text xs = option_map (with_token class word text xs) (begin s)
 
 abbrev pub quiet : Layout → Turn Layout PyToken
 quiet s = record { after = s; tokens = [] }
@@ -122,18 +122,13 @@ gap_step s LineEnd text = end_by s.line s (length text)
 gap_step s Splice text = quiet (splice_by s.line s (length text))
 gap_step s _ text = quiet (moved s (length text))
 
-abbrev pub step_by : Option PyWord → Layout → Class → List ℕ → Option (Turn Layout PyToken)
-step_by (Some word) s class text = token_step s class word text
-step_by None s class text = Some (gap_step s class text)
+abbrev pub step_by : Option PyWord → Layout → Class → List ℕ → List FPart → Option (Turn Layout PyToken)
+step_by (Some word) s class text xs = token_step s class word text xs
+step_by None s class text xs = Some (gap_step s class text)
 
--- f-strings are not read yet: a text that has one has no tokens
-abbrev pub is_f_string : Class → Bool
-is_f_string FShort = true
-is_f_string FLong = true
-is_f_string _ = false
-
-abbrev pub step : Layout → ℕ → List ℕ → Option (Turn Layout PyToken)
-step s number text = if is_f_string (class_of number) then None else step_by (word_of (class_of number) text) s (class_of number) text
+-- a lexeme of the class that has the number; an f-string comes with its parts
+abbrev pub step : Layout → ℕ → List ℕ → List FPart → Option (Turn Layout PyToken)
+step s number text xs = step_by (word_of (class_of number) text) s (class_of number) text xs
 
 -- the last line ends too, and then each open block
 abbrev pub last_newline : Line → ℕ → ℕ → List PyToken
@@ -147,28 +142,11 @@ ending s t = last_newline s.line s.at s.depth ++ t.tokens ++ token words.End [] 
 abbrev pub finish : Layout → Option (List PyToken)
 finish s = option_map (ending s) (close s.at s.columns 0)
 
--- ---- the tokens of a text, which has none where it has an f-string
-
-abbrev pub py_language : Mode → Language Layout PyToken
-py_language mode = record { rules = λ s. rules mode Both; step = step; finish = finish }
-
--- reading begins behind a byte order mark, at the start of the first line
-abbrev pub first_line : List ℕ → Layout
-first_line cs = record { at = mark_len cs; columns = []; depth = 0; column = 0; line = Start; first = true }
-
-abbrev pub IsTokensOf : Mode → List ℕ → List PyToken → Type 0
-IsTokensOf mode text ts = Lexes (py_language mode) (first_line (chars text)) (past_mark (chars text)) ts
-
 -- ---- what functions give
 
-abbrev pub Gives : List PyToken → Result (List PyToken) LexFault → Type 0
-Gives ts (Ok l) = l ≡ ts
-Gives ts (Err Memory) = Unit {0}
-Gives ts (Err NoTokens) = ⊥
-
 -- tokens were pushed and the state is as the turn says
-abbrev pub Turns : {S : Type 0} → Option (Turn S PyToken) → List PyToken → List PyToken → S → Result (Unit {0}) LexFault → Type 0
-Turns turn old new after (Ok l) = (ts : List PyToken) × (turn ≡ Some (record { after = after; tokens = ts })) × (new ≡ old ++ ts)
+abbrev pub Turns : {S T : Type 0} → Option (Turn S T) → List T → List T → S → Result (Unit {0}) LexFault → Type 0
+Turns {T = T} turn old new after (Ok l) = (ts : List T) × (turn ≡ Some (record { after = after; tokens = ts })) × (new ≡ old ++ ts)
 Turns turn old new after (Err Memory) = Unit {0}
 Turns turn old new after (Err NoTokens) = turn ≡ None
 

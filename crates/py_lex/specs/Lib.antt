@@ -4,4 +4,6 @@ pub mod Columns
 pub mod Tokens
 pub mod Layout
 pub mod Inside
+pub mod Starts
 pub mod Parts
+pub mod Lexing

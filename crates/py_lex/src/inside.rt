@@ -1,13 +1,12 @@
 //! Within an f-string: its text and its fields.
-//!
-//! `step` is the first part of the reader of f-strings, which is not written yet; nothing calls it.
 
 ghost use Rattle.std.specs.Prelude.{◌≡◌, ◌≤◌, ◌+◌, ◌<◌, List, [], ◌∷◌, ◌++◌, length, OnOk};
+ghost use Rattle.py_lex.specs.Layout.{Turns};
 ghost use Rattle.py_lex.specs.Inside as spec;
 ghost use Rattle.py_lex.specs.declared.token.FPart.{FPart as part};
 
 use crate::class::{Class, class_at};
-use crate::layout::{depth_after, word_of};
+use crate::layout::{depth_after, push_written, word_of};
 use crate::token::{FPart, PyToken};
 use node_tree::{LexFault, List, Span, Text};
 use std::alloc::Global;
@@ -47,6 +46,22 @@ pub struct Inside {
     pub field: Field,
     pub format: List<FPart>,
     pub inner: Field,
+}
+
+impl Inside {
+    /// The start of an f-string's inside.
+    pub fn first(alloc: Global, at: usize) -> Inside
+        ensures { result ≡ spec.first at }
+    {
+        Inside {
+            at,
+            place: Place::Plain,
+            depth: 0,
+            field: opened(alloc, 0),
+            format: List::new(alloc),
+            inner: opened(alloc, 0),
+        }
+    }
 }
 
 /// Whether a text has a backslash in it.
@@ -111,13 +126,7 @@ fn keep(
     if has_backslash(text) {
         return Err(LexFault::NoTokens);
     }
-    field.tokens.push(PyToken {
-        word,
-        text: Text::from_str(alloc, text)?,
-        span: span(at, at + text.len()),
-        parts,
-    })?;
-    Ok(())
+    push_written(alloc, &mut field.tokens, word, text, at, parts)
 }
 
 /// Ends a field, which is a part.
@@ -129,7 +138,7 @@ fn end_field(
 ) -> Result<(), LexFault>
     requires room { inside.old.at + length text.now ≤ 1000000 }
     requires bounded { spec.IsBounded inside.old }
-    ensures { spec.Turns (spec.field_end inside.old text.now) all.old all.new inside.new result }
+    ensures { Turns (spec.field_end inside.old text.now) all.old all.new inside.new result }
 {
     let field = taken(alloc, &mut inside.field);
     let format = mem::replace(&mut inside.format, List::new(alloc));
@@ -148,7 +157,7 @@ fn end_field(
 fn end_inner(alloc: Global, inside: &mut Inside, text: &str) -> Result<(), LexFault>
     requires room { inside.old.at + length text.now ≤ 1000000 }
     requires bounded { spec.IsBounded inside.old }
-    ensures { spec.Turns (spec.inner_end inside.old text.now) [] [] inside.new result }
+    ensures { Turns (spec.inner_end inside.old text.now) [] [] inside.new result }
 {
     let inner = taken(alloc, &mut inside.inner);
     inside.at += text.len();
@@ -171,7 +180,7 @@ fn plain_step(
     text: &str,
 ) -> Result<(), LexFault>
     requires room { inside.old.at + length text.now ≤ 1000000 }
-    ensures { spec.Turns (spec.plain_step inside.old class text.now) all.old all.new inside.new result }
+    ensures { Turns (spec.plain_step inside.old class text.now) all.old all.new inside.new result }
 {
     let from = inside.at;
     inside.at += text.len();
@@ -201,7 +210,7 @@ fn field_step(
 ) -> Result<(), LexFault>
     requires room { inside.old.at + length text.now ≤ 1000000 }
     requires bounded { spec.IsBounded inside.old }
-    ensures { spec.Turns (spec.field_step inside.old class text.now parts) all.old all.new inside.new result }
+    ensures { Turns (spec.field_step inside.old class text.now parts) all.old all.new inside.new result }
 {
     match class {
         Class::FieldEnd => return end_field(alloc, all, inside, text),
@@ -229,7 +238,7 @@ fn converted_step(
 ) -> Result<(), LexFault>
     requires room { inside.old.at + length text.now ≤ 1000000 }
     requires bounded { spec.IsBounded inside.old }
-    ensures { spec.Turns (spec.converted_step inside.old class text.now) all.old all.new inside.new result }
+    ensures { Turns (spec.converted_step inside.old class text.now) all.old all.new inside.new result }
 {
     match class {
         Class::FieldEnd => end_field(alloc, all, inside, text),
@@ -252,7 +261,7 @@ fn format_step(
 ) -> Result<(), LexFault>
     requires room { inside.old.at + length text.now ≤ 1000000 }
     requires bounded { spec.IsBounded inside.old }
-    ensures { spec.Turns (spec.format_step inside.old class text.now) all.old all.new inside.new result }
+    ensures { Turns (spec.format_step inside.old class text.now) all.old all.new inside.new result }
 {
     let from = inside.at;
     match class {
@@ -284,7 +293,7 @@ fn inner_step(
 ) -> Result<(), LexFault>
     requires room { inside.old.at + length text.now ≤ 1000000 }
     requires bounded { spec.IsBounded inside.old }
-    ensures { spec.Turns (spec.inner_step inside.old class text.now parts) [] [] inside.new result }
+    ensures { Turns (spec.inner_step inside.old class text.now parts) [] [] inside.new result }
 {
     match class {
         Class::FieldEnd => return end_inner(alloc, inside, text),
@@ -314,7 +323,7 @@ pub fn step(
     requires room { inside.old.at + length text.now ≤ 1000000 }
     requires bounded { spec.IsBounded inside.old }
     requires some { 0 < length text.now }
-    ensures turns { spec.Turns (spec.step inside.old number text.now parts) all.old all.new inside.new result }
+    ensures turns { Turns (spec.step inside.old number text.now parts) all.old all.new inside.new result }
     ensures moves { OnOk result (inside.new.at ≡ inside.old.at + length text.now) }
     ensures bounded { OnOk result (spec.IsBounded inside.new) }
 {

@@ -8,7 +8,7 @@ ghost use Rattle.py_lex.specs.declared.token.PyToken.{PyToken};
 use crate::class::{Class, class_at};
 use crate::columns::Columns;
 use crate::keyword::is_keyword;
-use crate::token::{PyToken, PyWord};
+use crate::token::{FPart, PyToken, PyWord};
 use node_tree::{LexFault, List, Span, Text};
 use std::alloc::Global;
 
@@ -54,6 +54,31 @@ fn push(
             to: (from + len) as u32,
         },
         parts: List::new(alloc),
+    })?;
+    Ok(())
+}
+
+/// Pushes a token that is written, with the parts of an f-string.
+pub fn push_written(
+    alloc: Global,
+    all: &mut List<PyToken>,
+    word: PyWord,
+    text: &str,
+    from: usize,
+    parts: List<FPart>,
+) -> Result<(), LexFault>
+    requires { from + length text.now ≤ 1000000 }
+    ensures ok { OnOk result (all.new ≡ all.old ++ spec.written word text.now from parts ∷ []) }
+    ensures memory { result ≢ Err NoTokens }
+{
+    all.push(PyToken {
+        word,
+        text: Text::from_str(alloc, text)?,
+        span: Span {
+            from: from as u32,
+            to: (from + text.len()) as u32,
+        },
+        parts,
     })?;
     Ok(())
 }
@@ -176,16 +201,17 @@ fn token_step(
     class: Class,
     word: PyWord,
     text: &str,
+    parts: List<FPart>,
 ) -> Result<(), LexFault>
     requires room { layout.old.at + length text.now ≤ 1000000 }
     requires bounded { spec.IsBounded layout.old }
     requires some { 0 < length text.now }
-    ensures turns { spec.Turns (spec.token_step layout.old class word text.now) all.old all.new layout.new result }
+    ensures turns { spec.Turns (spec.token_step layout.old class word text.now parts) all.old all.new layout.new result }
     ensures bounded { OnOk result (spec.IsBounded layout.new) }
     ensures moves { OnOk result (layout.new.at ≡ layout.old.at + length text.now) }
 {
     begin(alloc, all, layout)?;
-    push(alloc, all, word, text, layout.at, text.len())?;
+    push_written(alloc, all, word, text, layout.at, parts)?;
     layout.depth = depth_after(class, layout.depth);
     layout.at += text.len();
     Ok(())
@@ -225,34 +251,25 @@ fn gap_step(
     Ok(())
 }
 
-/// Whether a class is one of f-strings.
-fn is_f_string(class: Class) -> bool
-    ensures { result ≡ spec.is_f_string class }
-{
-    matches!(class, Class::FShort | Class::FLong)
-}
-
-/// Reads one lexeme, of the class that has the number.
+/// Reads one lexeme of the class that has the number; an f-string comes with its parts.
 pub fn step(
     alloc: Global,
     all: &mut List<PyToken>,
     layout: &mut Layout,
     number: u16,
     text: &str,
+    parts: List<FPart>,
 ) -> Result<(), LexFault>
     requires room { layout.old.at + length text.now ≤ 1000000 }
     requires bounded { spec.IsBounded layout.old }
     requires some { 0 < length text.now }
-    ensures turns { spec.Turns (spec.step layout.old number text.now) all.old all.new layout.new result }
+    ensures turns { spec.Turns (spec.step layout.old number text.now parts) all.old all.new layout.new result }
     ensures bounded { OnOk result (spec.IsBounded layout.new) }
     ensures moves { OnOk result (layout.new.at ≡ layout.old.at + length text.now) }
 {
     let class = class_at(number);
-    if is_f_string(class) {
-        return Err(LexFault::NoTokens);
-    }
     match word_of(class, text) {
-        Some(word) => token_step(alloc, all, layout, class, word, text),
+        Some(word) => token_step(alloc, all, layout, class, word, text, parts),
         None => gap_step(alloc, all, layout, class, text),
     }
 }

@@ -1,5 +1,6 @@
 use super::*;
 use node_tree::{LexFault, List, Mode};
+use std::alloc::{AllocError, Global};
 use std::test::*;
 
 // A token as a row writes it: its word, its text, and where it begins and ends.
@@ -149,23 +150,280 @@ fn reads_patterns(rt: HostRuntime) {
     assert!(rt; are(tokens, &rows));
 }
 
-// A line at a column between those of two blocks, a stray `$`, a string that does not end, a lone carriage return, a
-// second mark, and f-strings, which are not read yet.
-#[test]
-fn finds_no_tokens(rt: HostRuntime) {
-    for text in [
-        "a:\n  b\n c",
-        "a $ b",
-        "'a\n'",
-        "a\rb",
-        "\u{feff}\u{feff}",
-        "f'a'",
-        "x = rF\"\"\"{a}\"\"\"",
-        "f\"}\"",
-    ] {
-        let result = tokens(rt.alloc(), text, Mode::Text);
-        assert!(rt; matches!(result, Err(LexFault::NoTokens)));
+// Whether the text has no tokens.
+fn has_none(alloc: Global, text: &str) -> bool {
+    text.len() <= 1_000_000 && matches!(tokens(alloc, text, Mode::Text), Err(LexFault::NoTokens))
+}
+
+fn is_plain(part: &FPart, text: &str, from: u32, to: u32) -> bool {
+    match part {
+        FPart::Plain(plain, span) => plain.as_str() == text && span.from == from && span.to == to,
+        FPart::Field(..) => false,
     }
-    let result = tokens(rt.alloc(), "g(f'{$X}')", Mode::Pattern);
-    assert!(rt; matches!(result, Err(LexFault::NoTokens)));
+}
+
+// Whether a part is a field with tokens of these texts, this conversion and so many parts in its format.
+fn is_field(
+    part: &FPart,
+    texts: &[&str],
+    conversion: &str,
+    format: usize,
+    from: u32,
+    to: u32,
+) -> bool {
+    match part {
+        FPart::Plain(..) => false,
+        FPart::Field(tokens, read, parts, span) => {
+            let tokens = tokens.as_slice();
+            tokens.len() == texts.len()
+                && tokens
+                    .iter()
+                    .zip(texts)
+                    .all(|(token, text)| token.text.as_str() == *text)
+                && read.as_str() == conversion
+                && parts.len() == format
+                && span.from == from
+                && span.to == to
+        }
+    }
+}
+
+// The parts of the first token.
+fn parts(tokens: &List<PyToken>) -> &[FPart] {
+    match tokens.get(0) {
+        Some(token) => token.parts.as_slice(),
+        None => &[],
+    }
+}
+
+// The parts of the first token of a field.
+fn inner(part: &FPart) -> &[FPart] {
+    match part {
+        FPart::Plain(..) => &[],
+        FPart::Field(tokens, ..) => parts(tokens),
+    }
+}
+
+// The format of a field.
+fn format(part: &FPart) -> &[FPart] {
+    match part {
+        FPart::Plain(..) => &[],
+        FPart::Field(_, _, format, _) => format.as_slice(),
+    }
+}
+
+// `f` and `r` stand in any order and case.
+#[test]
+fn reads_f_strings_of_every_prefix(rt: HostRuntime) -> Result<(), Fail> {
+    for text in [
+        "f'a{b}'",
+        "F\"a{b}\"",
+        "fr'''a{b}'''",
+        "fR\"\"\"a{b}\"\"\"",
+        "Fr'a{b}'",
+        "FR'a{b}'",
+        "rf'a{b}'",
+        "rF'a{b}'",
+        "Rf'a{b}'",
+        "RF'a{b}'",
+    ] {
+        let tokens = tokens(rt.alloc(), text, Mode::Text)?;
+        let Some(token) = tokens.get(0) else {
+            return Err(Fail::new("a token is missing"));
+        };
+        assert!(rt;
+            token.word == PyWord::FStr && token.text.as_str() == text,
+            "{text}"
+        );
+        assert!(rt; token.parts.len() == 2, "{text}");
+    }
+    Ok(())
+}
+
+#[test]
+fn keeps_doubled_braces(rt: HostRuntime) -> Result<(), Fail> {
+    let tokens = tokens(rt.alloc(), "f'{{{a}}}é{{'", Mode::Text)?;
+    let [open, field, close] = parts(&tokens) else {
+        return Err(Fail::new("three parts were to be read"));
+    };
+    assert!(rt; is_plain(open, "{{", 2, 4));
+    assert!(rt; is_field(field, &["a"], "", 0, 4, 7));
+    assert!(rt; is_plain(close, "}}é{{", 7, 13));
+    Ok(())
+}
+
+// A field in a format has no format, and in a format no brace is doubled.
+#[test]
+fn reads_conversions_and_formats(rt: HostRuntime) -> Result<(), Fail> {
+    let tokens = tokens(rt.alloc(), "f'{a!r}{b!s:>{w}.{p!a}}{c:}'", Mode::Text)?;
+    let [first, second, third] = parts(&tokens) else {
+        return Err(Fail::new("three parts were to be read"));
+    };
+    assert!(rt; is_field(first, &["a"], "!r", 0, 2, 7));
+    assert!(rt; is_field(second, &["b"], "!s", 4, 7, 23));
+    assert!(rt; is_field(third, &["c"], "", 0, 23, 27));
+    let [align, width, point, precision] = format(second) else {
+        return Err(Fail::new("a format of four parts was to be read"));
+    };
+    assert!(rt; is_plain(align, ">", 12, 13));
+    assert!(rt; is_field(width, &["w"], "", 0, 13, 16));
+    assert!(rt; is_plain(point, ".", 16, 17));
+    assert!(rt; is_field(precision, &["p"], "!a", 0, 17, 22));
+    Ok(())
+}
+
+// The `=` behind an expression is its last token; `!=` and brackets end none; `:=` outside brackets is a format.
+#[test]
+fn reads_expressions_of_fields(rt: HostRuntime) -> Result<(), Fail> {
+    let tokens = tokens(
+        rt.alloc(),
+        "f\"{ a = }{b=!r}{c != {':}'}}{d[1:2]}{e:=5}{}\"",
+        Mode::Text,
+    )?;
+    let [a, b, c, d, e, none] = parts(&tokens) else {
+        return Err(Fail::new("six parts were to be read"));
+    };
+    assert!(rt; is_field(a, &["a", "="], "", 0, 2, 9));
+    assert!(rt; is_field(b, &["b", "="], "!r", 0, 9, 15));
+    assert!(rt; is_field(c, &["c", "!=", "{", "':}'", "}"], "", 0, 15, 28));
+    assert!(rt; is_field(d, &["d", "[", "1", ":", "2", "]"], "", 0, 28, 36));
+    assert!(rt; is_field(e, &["e"], "", 1, 36, 42));
+    assert!(rt; is_field(none, &[], "", 0, 42, 44));
+    Ok(())
+}
+
+// A field holds no quotes of an f-string around it, and there are four kinds of quotes.
+#[test]
+fn reads_f_strings_within_one_another(rt: HostRuntime) -> Result<(), Fail> {
+    let text = "f\"\"\"{f\"{f'''{f'{a}'}'''}\"}\"\"\"";
+    let tokens = tokens(rt.alloc(), text, Mode::Text)?;
+    let [first] = parts(&tokens) else {
+        return Err(Fail::new("a part is missing"));
+    };
+    let [second] = inner(first) else {
+        return Err(Fail::new("a part is missing in the second f-string"));
+    };
+    let [third] = inner(second) else {
+        return Err(Fail::new("a part is missing in the third f-string"));
+    };
+    let [fourth] = inner(third) else {
+        return Err(Fail::new("a part is missing in the fourth f-string"));
+    };
+    assert!(rt; is_field(first, &["f\"{f'''{f'{a}'}'''}\""], "", 0, 4, 26));
+    assert!(rt; is_field(fourth, &["a"], "", 0, 15, 18));
+    Ok(())
+}
+
+#[test]
+fn reads_metavariables_in_fields(rt: HostRuntime) -> Result<(), Fail> {
+    let tokens = tokens(rt.alloc(), "f'{$X}{<... $Y ...>!s}'", Mode::Pattern)?;
+    let [first, second] = parts(&tokens) else {
+        return Err(Fail::new("two parts were to be read"));
+    };
+    assert!(rt; is_field(first, &["$X"], "", 0, 2, 6));
+    assert!(rt; is_field(second, &["<...", "$Y", "...>"], "!s", 0, 6, 22));
+    Ok(())
+}
+
+// A lone `}` has no token, so the longest spelling is a name, and then a string.
+#[test]
+fn gives_way_where_a_brace_is_lone(rt: HostRuntime) {
+    let tokens = tokens(rt.alloc(), "f'}'", Mode::Text);
+    let rows = [
+        (PyWord::Name, "f", 0, 1),
+        (PyWord::Str, "'}'", 1, 4),
+        (PyWord::Newline, "", 4, 4),
+        (PyWord::End, "", 4, 4),
+    ];
+    assert!(rt; are(tokens, &rows));
+}
+
+// In three quotes, the next shorter spelling is an empty f-string, and then there are strings.
+#[test]
+fn gives_way_to_a_shorter_f_string(rt: HostRuntime) {
+    let tokens = tokens(rt.alloc(), "f\"\"\"}\"\"\"", Mode::Text);
+    let rows = [
+        (PyWord::FStr, "f\"\"", 0, 3),
+        (PyWord::Str, "\"}\"", 3, 6),
+        (PyWord::Str, "\"\"", 6, 8),
+        (PyWord::Newline, "", 8, 8),
+        (PyWord::End, "", 8, 8),
+    ];
+    assert!(rt; are(tokens, &rows));
+}
+
+// A field that does not end, a backslash, a comment and a nested format have no place in a field.
+#[test]
+fn reads_no_f_string_with_a_malformed_field(rt: HostRuntime) -> Result<(), Fail> {
+    for text in [
+        "f'{a'",
+        "f'{a!r b}'",
+        "f'{a!x}'",
+        "f'{\"\\n\"}'",
+        "f'{a#}'",
+        "f'{a:{b:c}}'",
+        "f'{a:}}'",
+    ] {
+        let tokens = tokens(rt.alloc(), text, Mode::Text)?;
+        let Some(token) = tokens.get(0) else {
+            return Err(Fail::new("a token is missing"));
+        };
+        assert!(rt;
+            token.word == PyWord::Name && token.text.as_str() == "f",
+            "{text}"
+        );
+    }
+    Ok(())
+}
+
+#[test]
+fn refuses_a_string_that_does_not_end(rt: HostRuntime) {
+    for text in ["'a\n'", "\"\"\"a", "f'{a}", "f'''{a}''", "b'\\'"] {
+        assert!(rt; has_none(rt.alloc(), text), "{text}");
+    }
+}
+
+#[test]
+fn refuses_a_stray_dollar(rt: HostRuntime) {
+    assert!(rt; has_none(rt.alloc(), "a $ b"));
+    assert!(rt; has_none(rt.alloc(), "$X"));
+}
+
+#[test]
+fn refuses_a_lone_carriage_return(rt: HostRuntime) {
+    assert!(rt; has_none(rt.alloc(), "a\rb"));
+}
+
+#[test]
+fn refuses_a_second_mark(rt: HostRuntime) {
+    assert!(rt; has_none(rt.alloc(), "\u{feff}\u{feff}"));
+}
+
+#[test]
+fn refuses_a_dedent_to_a_column_between(rt: HostRuntime) {
+    assert!(rt; has_none(rt.alloc(), "a:\n  b\n c"));
+}
+
+fn long_name(alloc: Global, len: usize) -> Result<String, AllocError> {
+    let mut text = String::new(alloc);
+    for _ in 0..len {
+        text.push('a')?;
+    }
+    Ok(text)
+}
+
+#[test]
+fn reads_one_token_of_a_million_bytes(rt: HostRuntime) -> Result<(), Fail> {
+    let text = long_name(rt.alloc(), 1_000_000)?;
+    if text.len() > 1_000_000 {
+        return Err(Fail::new("the text is too long"));
+    }
+    let tokens = tokens(rt.alloc(), text.as_str(), Mode::Text);
+    let rows = [
+        (PyWord::Name, text.as_str(), 0, 1_000_000),
+        (PyWord::Newline, "", 1_000_000, 1_000_000),
+        (PyWord::End, "", 1_000_000, 1_000_000),
+    ];
+    assert!(rt; are(tokens, &rows));
+    Ok(())
 }

@@ -12,7 +12,7 @@ pub enum PyWord {
     Number,
     /// A string with its prefix and quotes.
     Str,
-    /// An f-string. None is read yet.
+    /// An f-string with its prefix and quotes; its parts are beside it.
     FStr,
     /// An operator or a delimiter; in a pattern also `<...` and `...>`.
     Op,
@@ -32,7 +32,8 @@ pub enum PyWord {
 
 /// A token: its word, its text as written, the bytes that it takes in the text, and the parts of an f-string.
 ///
-/// The text of `Newline`, `Indent`, `Dedent` and `End` is empty. A `Newline` takes the bytes of its line end, or none at
+/// Spans are bytes of the whole text, also those of parts and of the tokens in them. Only an `FStr` has parts, and the
+/// empty f-string has none. The text of `Newline`, `Indent`, `Dedent` and `End` is empty. A `Newline` takes the bytes of its line end, or none at
 /// the text's end. An `Indent` or a `Dedent` stands before the first token of its line and takes no bytes.
 #[cycle(token)]
 #[derive(Drop)]
@@ -43,10 +44,18 @@ pub struct PyToken {
     pub parts: List<FPart>,
 }
 
-/// A part of an f-string: plain text, or a field with the tokens of its expression, its conversion and its format.
+/// A part of an f-string, after the Python reference, section "Formatted string literals".
 #[cycle(token)]
 #[derive(Drop)]
 pub enum FPart {
+    /// Text as written, with `{{` and `}}` still doubled; it is never empty, and no other text stands beside it.
     Plain(Text, Span),
+    /// A field from its `{` to its `}`.
+    ///
+    /// - The tokens of its expression: neither an `End` nor a `Newline` is among them. The `=` behind an expression, as
+    ///   in `{a = }`, is the last of them, as an `Op`. A field as `{}` has no tokens.
+    /// - Its conversion `!r`, `!s` or `!a`, or the empty text.
+    /// - Its format, which is the texts and fields behind the `:`; it is empty where there is no `:` or nothing behind
+    ///   it. A field in a format has no format of its own.
     Field(List<PyToken>, Text, List<FPart>, Span),
 }

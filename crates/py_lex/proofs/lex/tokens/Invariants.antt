@@ -1,15 +1,17 @@
 use Rattle.std.proofs.Common.{◌≡◌, ◌+◌, length}
 use Rattle.std.specs.Str.{chars}
 use Rattle.lexing.specs.Mark.{past_mark}
-use Rattle.lexing.proofs.Languages.{IsAt}
-use Rattle.py_lex.specs.Layout.{py_language, first_line, IsBounded}
+use Rattle.py_lex.specs.Layout.{IsBounded}
+use Rattle.py_lex.specs.Lexing.{py_language, first_line}
+use Rattle.py_lex.specs.Parts.{HasParts}
+use Rattle.py_lex.proofs.PartedReading.{IsAt}
 use Rattle.py_lex.proofs.lex.tokens.Given as goal
 
 abbrev pub invariant-lexemes : goal.invariant-lexemes
 invariant-lexemes l = record {
   place : l.layout.at + length l.rest ≡ length l.text;
   bounded : IsBounded l.layout;
-  read : IsAt (py_language l.fn.mode) (first_line (chars l.text)) (past_mark (chars l.text)) l.all l.layout l.rest;
+  read : IsAt (HasParts (length l.text) l.fn.mode) (py_language l.fn.mode) (first_line (chars l.text)) (past_mark (chars l.text)) l.all l.layout l.rest;
 }
 
 abbrev pub decreases-lexemes : goal.decreases-lexemes
