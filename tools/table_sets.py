@@ -4,7 +4,9 @@
     tools/table_sets.py crates/NAME/specs/DIR/Table.antt
 
 reads the table in that file and writes Sets.antt beside it: for each level the classes that begin it, those that can go on
-after it, whether it can be empty, its rank, and whether one token in hand is all that it goes by. Nothing that is made
+after it, whether it can be empty, its rank, and whether one token in hand, and tests that are told by their pieces, are all that
+it goes by. Where the table has an `automaton`, it also writes `tests`: where each row's test begins, in which states it may look on
+behind a level, and what may follow a level; `promised = Level ∷ .. ∷ []` names those that any class may follow. Nothing that is made
 here is trusted: the check of the table, which computes in the proof, refuses what is wrong. Where a row fails that check,
 this script says which part and which classes clash, and ends with status 1.
 
