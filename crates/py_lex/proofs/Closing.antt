@@ -7,12 +7,12 @@ use Rattle.lexing.specs.Reading.{Turn}
 use Rattle.py_lex.specs.Columns.{top}
 use Rattle.py_lex.specs.declared.token.PyWord.TheVariants as words
 use Rattle.py_lex.specs.declared.token.PyToken.{PyToken}
-use Rattle.py_lex.specs.Layout.{token, joined, close}
+use Rattle.py_lex.specs.Layout.{sign, joined, close}
 
 neq_false : (a b : ℕ) → (a ≡ b → ⊥) → (a == b) ≡ false
 neq_false a b h = grind (arith, nat_tests)
 
-pub close_more : (at : ℕ) (cs : List ℕ) (column : ℕ) → column < top cs → close at cs column ≡ joined (token words.Dedent [] at 0 ∷ []) (close at (drop 1 cs) column)
+pub close_more : (at : ℕ) (cs : List ℕ) (column : ℕ) → column < top cs → close at cs column ≡ joined (sign words.Dedent at 0 ∷ []) (close at (drop 1 cs) column)
 unfolding close
 close_more at [] column lt = absurd (omega arith)
 close_more at (c ∷ cs) column lt = rw (lt-ltb column c lt) refl
@@ -43,11 +43,11 @@ pub record Closed (at column : ℕ) (first : List ℕ) (old : List PyToken) (cs 
 pub closed_start : (at column : ℕ) (first : List ℕ) (old : List PyToken) → Closed at column first old first old
 closed_start at column first old = record { done = []; made = sym (append-nil old); total = joined_none (close at first column) }
 
-pub closed_more : (at column : ℕ) (first : List ℕ) (old : List PyToken) (cs cs' : List ℕ) (all all' : List PyToken) → Closed at column first old cs all → column < top cs → cs' ≡ drop 1 cs → all' ≡ all ++ token words.Dedent [] at 0 ∷ [] → Closed at column first old cs' all'
+pub closed_more : (at column : ℕ) (first : List ℕ) (old : List PyToken) (cs cs' : List ℕ) (all all' : List PyToken) → Closed at column first old cs all → column < top cs → cs' ≡ drop 1 cs → all' ≡ all ++ sign words.Dedent at 0 ∷ [] → Closed at column first old cs' all'
 closed_more at column first old cs cs' all all' c lt e a = record {
-  done = c.done ++ token words.Dedent [] at 0 ∷ [];
-  made = a ∙ ap (λ (x : List PyToken). x ++ token words.Dedent [] at 0 ∷ []) c.made ∙ append_assoc old c.done (token words.Dedent [] at 0 ∷ []);
-  total = ap (λ (x : List ℕ). joined (c.done ++ token words.Dedent [] at 0 ∷ []) (close at x column)) e ∙ sym (joined_joined c.done (token words.Dedent [] at 0 ∷ []) (close at (drop 1 cs) column)) ∙ ap (joined c.done) (sym (close_more at cs column lt)) ∙ c.total;
+  done = c.done ++ sign words.Dedent at 0 ∷ [];
+  made = a ∙ ap (λ (x : List PyToken). x ++ sign words.Dedent at 0 ∷ []) c.made ∙ append_assoc old c.done (sign words.Dedent at 0 ∷ []);
+  total = ap (λ (x : List ℕ). joined (c.done ++ sign words.Dedent at 0 ∷ []) (close at x column)) e ∙ sym (joined_joined c.done (sign words.Dedent at 0 ∷ []) (close at (drop 1 cs) column)) ∙ ap (joined c.done) (sym (close_more at cs column lt)) ∙ c.total;
 }
 
 pub closed_done : (at column : ℕ) (first : List ℕ) (old : List PyToken) (cs : List ℕ) (all : List PyToken) → Closed at column first old cs all → top cs ≡ column

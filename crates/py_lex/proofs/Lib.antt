@@ -4,3 +4,4 @@ pub mod Endings
 pub mod PartedReading
 pub mod Looking
 pub mod Between
+pub mod WordLengths

@@ -36,9 +36,9 @@ word_of Meta text = Some words.Meta
 word_of MetaDots text = Some words.MetaDots
 word_of _ text = None
 
--- a token at a place
-abbrev pub token : PyWord → List ℕ → ℕ → ℕ → PyToken
-token w text from len = roll-PyToken (record { word = w; text = text; span = record { from = from; to = from + len }; parts = [] })
+-- the end of a line, of a block or of the text, or the start of a block: a token without text
+abbrev pub sign : PyWord → ℕ → ℕ → PyToken
+sign w from len = roll-PyToken (record { word = w; text = []; span = record { from = from; to = from + len }; parts = [] })
 
 -- a token that is written, with the parts of an f-string
 abbrev pub written : PyWord → List ℕ → ℕ → List FPart → PyToken
@@ -54,10 +54,10 @@ joined ts (Some t) = Some (record { after = t.after; tokens = ts ++ t.tokens })
 unfoldable pub close : ℕ → List ℕ → ℕ → Option (Turn (List ℕ) PyToken)
 close at [] column = if column == 0 then Some (record { after = []; tokens = [] }) else None
 close at (c ∷ cs) column =
-    if nat_lt column c then joined (token words.Dedent [] at 0 ∷ []) (close at cs column) else (if column == c then Some (record { after = c ∷ cs; tokens = [] }) else None)
+    if nat_lt column c then joined (sign words.Dedent at 0 ∷ []) (close at cs column) else (if column == c then Some (record { after = c ∷ cs; tokens = [] }) else None)
 
 abbrev pub open_line : ℕ → List ℕ → ℕ → Option (Turn (List ℕ) PyToken)
-open_line at cs column = if nat_lt (top cs) column then Some (record { after = column ∷ cs; tokens = token words.Indent [] at 0 ∷ [] }) else close at cs column
+open_line at cs column = if nat_lt (top cs) column then Some (record { after = column ∷ cs; tokens = sign words.Indent at 0 ∷ [] }) else close at cs column
 
 -- the column after blanks: a space adds one, a tab goes to the next multiple of 8, a form feed sets zero
 abbrev pub column_after : ℕ → List ℕ → ℕ
@@ -106,7 +106,7 @@ fresh_line s n = record s { at = s.at + n; line = Start; column = 0 }
 
 -- a line end within brackets is nothing; after a token it is a Newline
 abbrev pub end_by : Line → Layout → ℕ → Turn Layout PyToken
-end_by Inside s n = if s.depth == 0 then record { after = fresh_line s n; tokens = token words.Newline [] s.at n ∷ [] } else quiet (moved s n)
+end_by Inside s n = if s.depth == 0 then record { after = fresh_line s n; tokens = sign words.Newline s.at n ∷ [] } else quiet (moved s n)
 end_by Start s n = quiet (fresh_line s n)
 end_by Fixed s n = quiet (fresh_line s n)
 
@@ -132,12 +132,12 @@ step s number text xs = step_by (word_of (class_of number) text) s (class_of num
 
 -- the last line ends too, and then each open block
 abbrev pub last_newline : Line → ℕ → ℕ → List PyToken
-last_newline Inside at depth = if depth == 0 then token words.Newline [] at 0 ∷ [] else []
+last_newline Inside at depth = if depth == 0 then sign words.Newline at 0 ∷ [] else []
 last_newline Start at depth = []
 last_newline Fixed at depth = []
 
 abbrev pub ending : Layout → Turn (List ℕ) PyToken → List PyToken
-ending s t = last_newline s.line s.at s.depth ++ t.tokens ++ token words.End [] s.at 0 ∷ []
+ending s t = last_newline s.line s.at s.depth ++ t.tokens ++ sign words.End s.at 0 ∷ []
 
 abbrev pub finish : Layout → Option (List PyToken)
 finish s = option_map (ending s) (close s.at s.columns 0)

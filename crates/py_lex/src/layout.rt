@@ -34,21 +34,21 @@ pub struct Layout {
     pub first: bool,
 }
 
-fn push(
+/// Pushes a token without text.
+fn push_sign(
     alloc: Global,
     all: &mut List<PyToken>,
     word: PyWord,
-    text: &str,
     from: usize,
     len: usize,
 ) -> Result<(), LexFault>
     requires { from + len ≤ 1000000 }
-    ensures ok { OnOk result (all.new ≡ all.old ++ spec.token word text.now from len ∷ []) }
+    ensures ok { OnOk result (all.new ≡ all.old ++ spec.sign word from len ∷ []) }
     ensures memory { result ≢ Err NoTokens }
 {
     all.push(PyToken {
         word,
-        text: Text::from_str(alloc, text)?,
+        text: Text::new(alloc),
         span: Span {
             from: from as u32,
             to: (from + len) as u32,
@@ -96,7 +96,7 @@ fn close(
 {
     'deeper: while column < columns.top() {
         columns.pop();
-        push(alloc, all, PyWord::Dedent, "", at, 0)?;
+        push_sign(alloc, all, PyWord::Dedent, at, 0)?;
     }
     if columns.top() == column {
         Ok(())
@@ -118,7 +118,7 @@ fn open_line(
 {
     if columns.top() < column {
         columns.push(column)?;
-        push(alloc, all, PyWord::Indent, "", at, 0)
+        push_sign(alloc, all, PyWord::Indent, at, 0)
     } else {
         close(alloc, all, columns, at, column)
     }
@@ -235,7 +235,7 @@ fn gap_step(
         (Class::Blank, Line::Start) => layout.column = column_after(layout.column, text.as_bytes()),
         (Class::LineEnd, Line::Inside) => {
             if layout.depth == 0 {
-                push(alloc, all, PyWord::Newline, "", layout.at, text.len())?;
+                push_sign(alloc, all, PyWord::Newline, layout.at, text.len())?;
                 layout.line = Line::Start;
                 layout.column = 0;
             }
@@ -280,8 +280,8 @@ pub fn finish(alloc: Global, all: &mut List<PyToken>, layout: &mut Layout) -> Re
     ensures { spec.Ends (spec.finish layout.old) all.old all.new result }
 {
     if layout.line == Line::Inside && layout.depth == 0 {
-        push(alloc, all, PyWord::Newline, "", layout.at, 0)?;
+        push_sign(alloc, all, PyWord::Newline, layout.at, 0)?;
     }
     close(alloc, all, &mut layout.columns, layout.at, 0)?;
-    push(alloc, all, PyWord::End, "", layout.at, 0)
+    push_sign(alloc, all, PyWord::End, layout.at, 0)
 }

@@ -43,6 +43,7 @@ look-returns-in-NoTokens t c =
     (λ xs h. subst (λ (e : LexFault). Gives xs (Err e)) c.in-NoTokens.is (c.in-Err.ensures.only xs (subst (λ (k : Class). P c.args.at k (chars c.in-Some.piece.text.now) xs) (sym c.class_at-class.ensures) h)))
     (subst (λ (f : Forms). Looks P (rules_of c.args.lexemes c.args.mode f) c.args.at c.args.text.now c.look.result) forms c.look.ensures)
 
+-- in `parts_of`, `c.requires.0` has a fact on each argument, and the fourth is that the text is UTF-8
 pub parts_of-returns-in_default-clause-only : goal.parts_of-returns-in_default-clause-only
 parts_of-returns-in_default-clause-only t c = λ xs h. c.in_default.ensures.cases (has_between c.args.levels (c.args.levels - 1) c.args.mode c.args.at c.args.class c.args.text.now xs c.requires.0.1.1.1.0 (grind (arith, c.if-levels-eq0.false)) h).0
 
