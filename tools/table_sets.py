@@ -12,6 +12,7 @@ this script says which part and which classes clash, and ends with status 1.
 
 It reads definitions `name arg .. = term` and rows `table Level = term`, where terms are made of the constructors of `Rule`,
 the file's own abbreviations, `·`, `∣`, `∷`, `++`, `[]` and parentheses. A class is whatever `class` is applied to.
+Of a test that is a function it is told by a line `-- NAME begins in state N`.
 """
 import re
 import sys
@@ -83,6 +84,7 @@ def show(term):
 class Table:
     def __init__(self, text):
         self.names, rows = definitions(text)
+        self.begins = {name: int(state) for name, state in re.findall(r'^-- (\S+) begins in state (\d+)$', text, re.M)}
         self.order = []
         self.rows = {level: self.rule(self.opened(Parser(row).infix(), {})) for level, row in rows.items()}
         self.loops = {}
@@ -132,7 +134,7 @@ class Table:
         if head == 'look':
             return (head, self.classes(args[1]), self.classes(args[2]), self.rule(args[4]), self.rule(args[5]))
         if head == 'choose':
-            return (head, self.rule(args[1]), self.rule(args[2]), int(show(args[0][1][1])) if args[0][0] == 'test' else None)
+            return (head, self.rule(args[1]), self.rule(args[2]), int(show(args[0][1][1])) if args[0][0] == 'test' else self.begins.get(args[0][0]))
         if head == 'must':
             return (head, self.classes(args[0]), self.rule(args[1]))
         if head == 'rep':

@@ -75,7 +75,7 @@ def steps_of(level, term):
 
 def declared(rule):
     count = str(rule).count("'choose'")
-    return ', '.join(['(λ f i. refl'] * count + ['record {}' + ')' * count]) if count else 'record {}'
+    return ', '.join(['((automaton.most, omega arith, λ f i. refl)'] * count + ['record {}' + ')' * count]) if count else 'record {}'
 
 
 HEAD = '''-- The reader of a level, one step; made by tools/table_steps.py.
@@ -141,8 +141,8 @@ def main():
     target.mkdir(parents=True, exist_ok=True)
     (target / 'Steps.antt').write_text('\n'.join(lines).replace('List N ', f'List {node} ').rstrip() + '\n')
     passes = ['-- The table passes the checks; made by tools/table_steps.py.', 'use Rattle.std.specs.Prelude.{◌≡◌, ℕ, Bool, true}',
-              'use Rattle.std.proofs.Common.{refl}', f'use Rattle.grammar.specs.Check.{{passes, {"closes" if tested else "closes_runs"}}}', f'use {module}.Token.{{class}}',
-              f'use {module}.Table.{{Level, {levels}, grammar}}', f'use {module}.Sets.{{sets, ranks{", tests" if tested else ""}}}']
+              f'use Rattle.std.proofs.Common.{{refl{", arith" if tested else ""}}}', f'use Rattle.grammar.specs.Check.{{passes, {"closes" if tested else "closes_runs"}}}', f'use {module}.Token.{{class}}',
+              f'use {module}.Table.{{Level, {levels}, grammar{", automaton" if tested else ""}}}', f'use {module}.Sets.{{sets, ranks{", tests" if tested else ""}}}']
     if tested:
         passes.append('use Rattle.grammar.specs.Tests.{Declared}')
     if modes:

@@ -172,7 +172,7 @@ module _ {K B L : Type 0} (S : Sets L) (table : Table K B L) (G : IsGrammar S ta
 
     -- a test that begins a piece of the rule says the same of each list that agrees up to and with the token behind the piece
     same_test : {c : Loop K B L} (r : Rule K B L) {xs : List N} {i j : ℕ} (a : ℕ) (p : (ℕ → ℕ) → ℕ → Bool) (q : Option L) (F : Option (List ℕ)) → Derives t table c r xs i j → Fair_loop S T C (Some a) c q → Fair S T C (Some a) q F r → IsTest T (Some a) p → has T.states a ≡ true → calm T F (after T q r a) ≡ true → follows F (t.cls j) ≡ true → (f : ℕ → ℕ) → ((n : ℕ) → i ≤ n → n ≤ j → t.cls n ≡ f n) → p t.cls i ≡ p f i
-    same_test r {i = i} {j = j} a p q F d f k is h ca fo g ag = is t.cls i ∙ (same_verdict T t.cls g T.automaton.most a i j (forward t table S G d) ag (λ b z. calm_says T F (after T q r a) ca b (t.cls j) (comes_through (Some a) q F d f k a b h z) fo) ∙ sym (is g i))
+    same_test r {i = i} {j = j} a p q F d f k is h ca fo g ag = is.2 t.cls i ∙ (same_verdict T t.cls g is.0 a i j (forward t table S G d) ag (λ b z. calm_says T F (after T q r a) ca b (t.cls j) (comes_through (Some a) q F d f k a b h z) fo) ∙ sym (is.2 g i))
 
     pub same_choice : {c : Loop K B L} {xs : List N} {i j : ℕ} (m : Option ℕ) (q : Option L) (F : Option (List ℕ)) (p : (ℕ → ℕ) → ℕ → Bool) (r s : Rule K B L) → Derives t table c r xs i j ⊎ Derives t table c s xs i j → Fair_loop S T C m c q → Fair S T C m q F (choose p r s) → follows F (t.cls j) ≡ true → (f : ℕ → ℕ) → ((n : ℕ) → i ≤ n → n ≤ j → t.cls n ≡ f n) → p t.cls i ≡ p f i
     same_choice None q F p r s d f k fo g ag = let z : _ = fair_choose S T C None q F p r s k in cc

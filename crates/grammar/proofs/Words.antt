@@ -1,5 +1,5 @@
 -- The words that a table gives are spelled by its rules.
-use Rattle.std.proofs.Common.{◌≡◌, ℕ, zero, suc, List, [], ◌∷◌, ◌++◌, refl, ap, sym, ◌∙◌, inl, inr}
+use Rattle.std.proofs.Common.{◌≡◌, ◌≤◌, arith, ℕ, zero, suc, List, [], ◌∷◌, ◌++◌, refl, ap, sym, ◌∙◌, inl, inr}
 use Rattle.std.specs.Prelude.{Bool, true, false, Option, Some, None, ◌⊎◌}
 use Rattle.grammar.specs.Rule.{Rule, done, mark, word, ref, deep, again, seq, around, alt, look, choose, opt, must, rep, make, has, Source, Table, Loop, outside, within, Derives, d_done, d_mark, d_word, d_ref, d_deep, d_again, d_rep, d_seq, d_around, d_left, d_right, d_seen, d_unseen, d_chosen, d_unchosen, d_without, d_with, d_barred, d_taken, d_make}
 use Rattle.grammar.specs.Reader.{◌>>=◌}
@@ -63,22 +63,23 @@ said_word J b (Some v) w h = by (J b v) refl h
     by false e k = cc
 
 -- what a word tells of a test holds of each list that begins with it
-judge_holds : {K B N L : Type 0} (T : Tests L) (u : Source K B N) (n a : ℕ) (w : List ℕ) (i e : ℕ) (b : Bool) → judge T.automaton n a w ≡ Some b → Match u i w e → verdict T.automaton n a u.cls i ≡ b
+judge_holds : {K B N L : Type 0} (T : Tests L) (u : Source K B N) (n n' a : ℕ) (w : List ℕ) (i e : ℕ) (b : Bool) → n ≤ n' → judge T.automaton n a w ≡ Some b → Match u i w e → verdict T.automaton n' a u.cls i ≡ b
 unfolding verdict
-judge_holds T u zero a w i e b h m = no_some b h
-judge_holds T u (suc n) a [] i e b h m = no_some b h
-judge_holds T u (suc n) a (c ∷ w) i e b h m = ap (λ d. then T.automaton n u.cls i (step T.automaton a d)) m.0 ∙ by (λ a' k. judge_holds T u n a' w (suc i) e b k m.1) (step T.automaton a c) h
+judge_holds T u zero n' a w i e b le h m = no_some b h
+judge_holds T u (suc n) zero a w i e b le h m = absurd (omega arith)
+judge_holds T u (suc n) (suc n') a [] i e b le h m = no_some b h
+judge_holds T u (suc n) (suc n') a (c ∷ w) i e b le h m = ap (λ d. then T.automaton n' u.cls i (step T.automaton a d)) m.0 ∙ by (λ a' k. judge_holds T u n n' a' w (suc i) e b (omega arith) k m.1) (step T.automaton a c) h
   where
     same : (d : Bool) → Some d ≡ Some b → d ≡ b
     same d k = cc
 
-    by : ((a' : ℕ) → judge T.automaton n a' w ≡ Some b → verdict T.automaton n a' u.cls (suc i) ≡ b) → (m : Move) → ◌≡◌ {A = Option Bool} (elim m [ say d ↦ Some d | go a' ↦ judge T.automaton n a' w ]) (Some b) → then T.automaton n u.cls i m ≡ b
+    by : ((a' : ℕ) → judge T.automaton n a' w ≡ Some b → verdict T.automaton n' a' u.cls (suc i) ≡ b) → (m : Move) → ◌≡◌ {A = Option Bool} (elim m [ say d ↦ Some d | go a' ↦ judge T.automaton n a' w ]) (Some b) → then T.automaton n' u.cls i m ≡ b
     by rest (say d) k = same d k
     by rest (go a') k = rest a' k
 
 pub says_holds : {K B N L : Type 0} (T : Tests L) (st : Option ℕ) (p : (ℕ → ℕ) → ℕ → Bool) → IsTest T st p → (b : Bool) (w : List ℕ) → says T.automaton st b w ≡ true → (u : Source K B N) (i e : ℕ) → Match u i w e → p u.cls i ≡ b
 says_holds T None p is b w h u i e m = cc
-says_holds T (Some a) p is b w h u i e m = is u.cls i ∙ judge_holds T u T.automaton.most a w i e b (told b (judge T.automaton T.automaton.most a w) h) m
+says_holds T (Some a) p is b w h u i e m = is.2 u.cls i ∙ judge_holds T u T.automaton.most is.0 a w i e b is.1 (told b (judge T.automaton T.automaton.most a w) h) m
   where
     told : (b : Bool) (o : Option Bool) → is_same b o ≡ true → o ≡ Some b
     told b None k = cc

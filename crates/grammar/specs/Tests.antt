@@ -1,5 +1,5 @@
 -- Tests that look ahead, as data: what a rule with `choose` goes by.
-use Rattle.std.specs.Prelude.{◌≡◌, ℕ, zero, suc, Bool, true, false, cond, List, [], ◌∷◌, ◌++◌, Option, Some, None, get_or}
+use Rattle.std.specs.Prelude.{◌≡◌, ◌≤◌, ℕ, zero, suc, Bool, true, false, cond, List, [], ◌∷◌, ◌++◌, Option, Some, None, get_or}
 use Rattle.grammar.specs.Rule.{Rule, done, mark, word, ref, deep, again, seq, around, alt, look, choose, opt, must, rep, make, has}
 
 -- What a test does at a token: it is settled, or it looks on at the next one, in another state.
@@ -25,7 +25,7 @@ State = List Arm
 pub record Automaton : Type 0 where
   -- its states, numbered from 0 on
   pub states : List State
-  -- at how many tokens a test looks at most; then it says no
+  -- at how many tokens a test looks; then it says no
   pub most : ℕ
 
 -- What is declared of the tests of a table.
@@ -104,10 +104,10 @@ tests (must cs r) = tests r
 tests (rep l r) = tests r
 tests (make b r) = tests r
 
--- a function is the test that begins in this state
+-- a function is the test that begins in this state; it looks at least at as many tokens as the automaton says
 abbrev pub IsTest : {L : Type 0} → Tests L → Option ℕ → ((ℕ → ℕ) → ℕ → Bool) → Type 0
 IsTest T None p = record {}
-IsTest T (Some a) p = (f : ℕ → ℕ) (i : ℕ) → p f i ≡ test T.automaton a f i
+IsTest T (Some a) p = (n : ℕ) × (T.automaton.most ≤ n) × ((f : ℕ → ℕ) (i : ℕ) → p f i ≡ verdict T.automaton n a f i)
 
 abbrev pub AllTests : (((ℕ → ℕ) → ℕ → Bool) → Type 0) → List ((ℕ → ℕ) → ℕ → Bool) → Type 0
 AllTests Q [] = record {}

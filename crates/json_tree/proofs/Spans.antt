@@ -1,5 +1,5 @@
 -- The spans of a tree lie in the text.
-use Rattle.std.proofs.Common.{◌≡◌, ℕ, zero, suc, ◌-◌, ◌<◌, ◌≤◌, List, [], ◌∷◌, ◌++◌, length, refl, sym, subst, arith, inl, inr, Bool, true, false}
+use Rattle.std.proofs.Common.{◌≡◌, ℕ, zero, suc, ◌-◌, ◌<◌, ◌≤◌, List, [], ◌∷◌, ◌++◌, length, refl, sym, subst, arith, true}
 use Rattle.std.specs.Prelude.{None}
 use Rattle.std.specs.Str.{IsUtf8}
 use Rattle.std.proofs.lemmas.Str.{IsCharBoundary-start, IsCharBoundary-end}
@@ -14,7 +14,7 @@ use Rattle.node_tree.proofs.SpanLaws.{AllLieIn, none_lie, more_lie, node_lies}
 use Rattle.grammar.proofs.Pieces.{filled, Keeps, spelled_holds}
 use Rattle.grammar.proofs.Checked.{is_grammar}
 use Rattle.json_tree.specs.declared.token.Token.{Token}
-use Rattle.json_tree.specs.Table.{Level, Value, Array, Values, ValuesTail, Object, Entries, EntriesTail, Entry, Member, Deep, Leaf, Builder, Row, table, grammar}
+use Rattle.json_tree.specs.Table.{Level, Value, Array, Values, ValuesTail, Object, Entries, EntriesTail, Entry, Member, Deep, table, grammar}
 use Rattle.json_tree.specs.Build.{token_at, end_of, node, source}
 use Rattle.json_tree.specs.Lexing.{ArePlaced}
 use Rattle.json_tree.specs.Words.{kind_of, shown}

@@ -1,10 +1,10 @@
 -- The table of sums passes the checks.
 use Rattle.std.specs.Prelude.{◌≡◌, true}
-use Rattle.std.proofs.Common.{refl}
+use Rattle.std.proofs.Common.{refl, arith}
 use Rattle.grammar.specs.Tests.{Declared}
 use Rattle.grammar.specs.Check.{passes, closes}
 use Rattle.grammar.specs.sums.Token.{class}
-use Rattle.grammar.specs.sums.Table.{Level, Text, Exprs, Inside, Sums, Sum, Term, Unary, Cast, Pointer, PointerName, Call, Args, Arg, Atom, Paren, SumsTail, SumTail, TermTail, PointerTail, CallTail, ArgsTail, grammar}
+use Rattle.grammar.specs.sums.Table.{Level, Text, Exprs, Inside, Sums, Sum, Term, Unary, Cast, Pointer, PointerName, Call, Args, Arg, Atom, Paren, SumsTail, SumTail, TermTail, PointerTail, CallTail, ArgsTail, grammar, automaton}
 use Rattle.grammar.specs.sums.Sets.{sets, ranks, tests}
 use Rattle.grammar.specs.sums.Reading.{of_text, of_pattern}
 
@@ -90,7 +90,7 @@ declared Sums = record {}
 declared Sum = record {}
 declared Term = record {}
 declared Unary = record {}
-declared Cast = (λ f i. refl, record {})
+declared Cast = ((automaton.most, omega arith, λ f i. refl), record {})
 declared Pointer = record {}
 declared PointerName = record {}
 declared Call = record {}
