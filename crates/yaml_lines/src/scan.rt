@@ -168,7 +168,7 @@ pub fn is_open(scan: Scan) -> bool
 }
 
 /// Whether a byte begins a comment, where `gap` says whether a blank or nothing stands before it.
-fn begins_comment(gap: bool, place: Place, byte: u8) -> bool
+pub fn begins_comment(gap: bool, place: Place, byte: u8) -> bool
     ensures { result ≡ spec.begins_comment gap place byte }
 {
     gap && byte == b'#' && matches!(place, Place::Begin | Place::Inside)
