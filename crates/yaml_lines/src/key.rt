@@ -81,8 +81,7 @@ fn may_end(place: Place) -> bool
 
 /// How many bytes are left of a quoted scalar that goes on at a place, the quote that ends it with them.
 pub fn quoted_end(start: Scan, text: &[u8]) -> Option<usize>
-    requires depth { start.depth ≤ 2 ^ 62 }
-    requires short { length text.now ≤ 2 ^ 62 }
+    requires { start.depth < 2 ^ 63 }
     ensures len { result ≡ spec.quoted_at start text.now }
     ensures within { IfSome result (λ n. n ≤ length text.now) }
 {
@@ -102,7 +101,6 @@ pub fn quoted_end(start: Scan, text: &[u8]) -> Option<usize>
 
 /// How many bytes a quoted scalar takes, its quotes with it.
 fn quoted_len(text: &[u8]) -> Option<usize>
-    requires { length text.now ≤ 2 ^ 62 }
     ensures len { result ≡ spec.quoted_len text.now }
     ensures within { IfSome result (λ n. n ≤ length text.now) }
 {

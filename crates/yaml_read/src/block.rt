@@ -1,7 +1,10 @@
 //! Block scalars.
 
+ghost use Rattle.std.specs.Prelude.{◌≡◌, ◌+◌, ◌<◌, ◌^◌, ◌++◌, IfOk, OnOk, None, Some};
+ghost use Rattle.yaml_read.specs.Block as spec;
+
 use crate::fold::push_breaks;
-use node_tree::{List, Memory, Text};
+use node_tree::{Memory, Text};
 use std::alloc::Global;
 use std::str::from_utf8;
 use yaml_lines::head::{indentation, is_blank_line};
@@ -25,73 +28,116 @@ pub struct Header {
     pub chomp: Chomp,
 }
 
+/// What becomes of the last line ends, by what follows `|` or `>`.
+fn chomp_of(rest: &[u8]) -> Option<Chomp>
+    ensures { result ≡ spec.chomp_of rest.now }
+{
+    match rest {
+        [] => Some(Chomp::Clip),
+        [b'-'] => Some(Chomp::Strip),
+        [b'+'] => Some(Chomp::Keep),
+        _ => None,
+    }
+}
+
 /// What a header says.
-pub fn header(text: &[u8]) -> Option<Header> {
-    let (folds, chomp) = match text {
-        b"|" => (false, Chomp::Clip),
-        b"|-" => (false, Chomp::Strip),
-        b"|+" => (false, Chomp::Keep),
-        b">" => (true, Chomp::Clip),
-        b">-" => (true, Chomp::Strip),
-        b">+" => (true, Chomp::Keep),
+pub fn header_of(text: &[u8]) -> Option<Header>
+    ensures { result ≡ spec.header_of text.now }
+{
+    let (first, rest) = text.split_first()?;
+    let folds = match *first {
+        b'|' => false,
+        b'>' => true,
         _ => return None,
     };
+    let chomp = chomp_of(rest)?;
     Some(Header { folds, chomp })
 }
 
-/// The column of a block scalar: that of its first line that isn't blank.
-fn column_of(body: &[Text]) -> usize {
-    for line in body {
+/// The column of a block scalar: that of its first line that isn't blank, if there is one.
+fn column_of(body: &[Text]) -> Option<usize>
+    ensures { result ≡ spec.column_of body.now }
+{
+    let mut rest = body;
+    'lines: while let Some((line, more)) = rest.split_first() {
         let line = line.as_str().as_bytes();
         if !is_blank_line(line) {
-            return indentation(line);
+            return Some(indentation(line));
         }
+        rest = more;
     }
-    0
+    None
 }
 
-/// A line from a column on.
-fn past_column(line: &[u8], column: usize) -> &[u8] {
-    if column <= line.len() {
-        &line[column..]
+/// A line from a column on. Without a column a line says nothing.
+fn past_column(line: &[u8], column: Option<usize>) -> &[u8]
+    ensures { result.now ≡ spec.past_column column line.now }
+{
+    match column {
+        Some(column) => {
+            if column <= line.len() {
+                &line[column..]
+            } else {
+                &[]
+            }
+        }
+        None => &[],
+    }
+}
+
+/// Adds what stands between two lines that fold, with so many empty ones between them.
+fn push_fold(content: &mut Text, gap: usize) -> Result<(), Memory>
+    ensures { OnOk result (content.new ≡ content.old ++ spec.fold_breaks gap) }
+{
+    if gap == 0 {
+        content.push(" ")
     } else {
-        &[]
+        push_breaks(content, gap)
     }
 }
 
-/// How far a block scalar has come.
-#[derive(Drop)]
-struct Block {
-    content: Text,
-    /// Whether the line end after the last line that isn't empty stays, if there is one.
-    kept: Option<bool>,
-    /// How many empty lines follow that.
+/// Adds what stands before a line after so many empty ones.
+fn push_before(
+    content: &mut Text,
+    last: Option<bool>,
+    kept: bool,
     gap: usize,
-}
-
-/// Adds a line that isn't empty.
-fn push_row(block: &mut Block, kept: bool, row: &str) -> Result<(), Memory> {
-    match block.kept {
-        None => push_breaks(&mut block.content, block.gap)?,
+) -> Result<(), Memory>
+    ensures { OnOk result (content.new ≡ content.old ++ spec.before_row last kept gap) }
+{
+    match last {
+        None => push_breaks(content, gap),
         Some(before) => {
             if before || kept {
-                push_breaks(&mut block.content, block.gap)?;
-                block.content.push("\n")?;
-            } else if block.gap == 0 {
-                block.content.push(" ")?;
+                push_breaks(content, gap)?;
+                content.push("\n")
             } else {
-                push_breaks(&mut block.content, block.gap)?;
+                push_fold(content, gap)
             }
         }
     }
-    block.content.push(row)?;
-    block.kept = Some(kept);
-    block.gap = 0;
-    Ok(())
 }
 
-/// How many line ends stay at the end, of those that are there.
-fn last_breaks(chomp: Chomp, text: bool, ends: usize) -> usize {
+/// Whether a line doesn't fold.
+fn is_kept(header: Header, first: u8) -> bool
+    ensures { result ≡ spec.is_kept header first }
+{
+    !header.folds || is_blank(first)
+}
+
+/// How many line ends there are at the end.
+fn ends_of(text: bool, gap: usize, ended: bool) -> usize
+    requires { gap + 1 < 2 ^ 64 }
+    ensures { result ≡ spec.ends_of text gap ended }
+{
+    let all = if text { gap + 1 } else { gap };
+    if ended { all } else { all.saturating_sub(1) }
+}
+
+/// How many of the line ends at the end stay.
+fn last_breaks(chomp: Chomp, text: bool, ends: usize) -> usize
+    ensures { result ≡ spec.last_breaks chomp text ends }
+{
     match chomp {
         Chomp::Strip => 0,
         Chomp::Clip => {
@@ -105,39 +151,39 @@ fn last_breaks(chomp: Chomp, text: bool, ends: usize) -> usize {
     }
 }
 
-/// The block scalar with this header and these lines, where `ended` says that the last line has a line end.
-pub fn block(
+/// What a block scalar says, with these lines, where `ended` says that the last line has a line end.
+pub fn block_of(
     alloc: Global,
     header: Header,
     body: &[Text],
     ended: bool,
-) -> Result<Option<Text>, Memory> {
+) -> Result<Option<Text>, Memory>
+    ensures { IfOk result (λ t. t ≡ spec.block_of header ended body.now) }
+{
     let column = column_of(body);
-    let mut block = Block {
-        content: Text::new(alloc),
-        kept: None,
-        gap: 0,
-    };
-    for line in body {
+    let mut content = Text::new(alloc);
+    let mut last = None;
+    let mut gap = 0;
+    for (at, line) in body.iter().enumerate() {
         let row = past_column(line.as_str().as_bytes(), column);
         match row.first() {
-            None => block.gap = block.gap.saturating_add(1),
+            None => gap += 1,
             Some(first) => {
+                let kept = is_kept(header, *first);
                 let Ok(text) = from_utf8(row) else {
                     return Ok(None);
                 };
-                push_row(&mut block, !header.folds || is_blank(*first), text)?;
+                push_before(&mut content, last, kept, gap)?;
+                content.push(text)?;
+                last = Some(kept);
+                gap = 0;
             }
         }
     }
-    let text = block.kept.is_some();
-    let ends = ends_of(text, block.gap, ended);
-    push_breaks(&mut block.content, last_breaks(header.chomp, text, ends))?;
-    Ok(Some(block.content))
-}
-
-/// How many line ends stand at the end of a block scalar.
-fn ends_of(text: bool, gap: usize, ended: bool) -> usize {
-    let all = if text { gap.saturating_add(1) } else { gap };
-    if ended { all } else { all.saturating_sub(1) }
+    let text = last.is_some();
+    push_breaks(
+        &mut content,
+        last_breaks(header.chomp, text, ends_of(text, gap, ended)),
+    )?;
+    Ok(Some(content))
 }

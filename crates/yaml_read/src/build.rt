@@ -1,6 +1,14 @@
 //! The value that cells build.
 
-use crate::cell::{Cell, First, first_of};
+ghost use Rattle.std.specs.Prelude.{◌≡◌, ◌+◌, ◌<◌, ◌≤◌, ◌^◌, reverse, map, IfOk};
+ghost use Rattle.yaml_read.specs.Building.{Leaves, IsMapping};
+ghost use Rattle.yaml_read.specs.Cells.{scalar_at};
+ghost use Rattle.yaml_read.specs.Building as spec;
+ghost use Rattle.yaml_read.specs.Keys.{is_distinct as distinct};
+
+use crate::cell::{
+    Cell, First, first_of, is_close, is_comma, is_dash, is_item, skip, take_key, take_scalar,
+};
 use crate::value::YValue;
 use node_tree::{List, Memory, Text};
 use std::alloc::Global;
@@ -8,7 +16,9 @@ use std::collections::BTreeSet;
 use yaml_lines::YFault;
 
 /// Whether each key stands once.
-fn is_distinct(alloc: Global, entries: &[(Text, YValue)]) -> Result<bool, Memory> {
+fn is_distinct(alloc: Global, entries: &[(Text, YValue)]) -> Result<bool, Memory>
+    ensures { IfOk result (λ b. b ≡ distinct (map (λ e. e.0) entries.now)) }
+{
     let mut seen: BTreeSet<&str> = BTreeSet::new(alloc);
     for entry in entries {
         if !seen.insert(entry.0.as_str())? {
@@ -18,41 +28,47 @@ fn is_distinct(alloc: Global, entries: &[(Text, YValue)]) -> Result<bool, Memory
     Ok(true)
 }
 
-/// Takes a scalar.
-fn scalar(cells: &mut List<Cell>) -> Result<YValue, YFault> {
-    match cells.pop() {
-        Some(Cell::Scalar(_, value)) => Ok(value),
-        _ => Err(YFault::NoValue),
-    }
-}
-
-/// Takes the key at a column, if one stands there.
-fn key(cells: &mut List<Cell>, column: u32) -> Option<Text> {
-    if first_of(cells, 0) != First::Key(column) {
-        return None;
-    }
-    match cells.pop() {
-        Some(Cell::Key(_, key)) => Some(key),
-        _ => None,
-    }
-}
-
 /// The least column of a value below a key: a block sequence may stand at the key's own column.
-fn below_key(cells: &List<Cell>, column: u32) -> u32 {
-    match first_of(cells, 0) {
-        First::Dash(_) => column,
-        _ => column.saturating_add(1),
+fn below_key(cells: &List<Cell>, column: u32) -> u64
+    ensures { result ≡ spec.below_key column (reverse cells.now) }
+{
+    match cells.as_slice().last() {
+        Some(Cell::Dash(_)) => column as u64,
+        _ => column as u64 + 1,
     }
 }
 
-/// Takes the value that stands at least at a column, with so many levels of depth at most.
+/// Takes the scalar that comes first.
+fn scalar(cells: &mut List<Cell>) -> Result<YValue, YFault>
+    ensures { Leaves (scalar_at (reverse cells.old)) result (reverse cells.new) }
+{
+    match take_scalar(cells) {
+        Some(value) => Ok(value),
+        None => Err(YFault::NoValue),
+    }
+}
+
+/// The mapping with these entries, if each key stands once.
+fn mapping(alloc: Global, entries: List<(Text, YValue)>) -> Result<YValue, YFault>
+    ensures { IsMapping entries result }
+{
+    if is_distinct(alloc, entries.as_slice())? {
+        Ok(YValue::Map(entries))
+    } else {
+        Err(YFault::NoValue)
+    }
+}
+
+/// Takes the value that stands at a column or deeper, with so many levels at most.
 #[cycle(build)]
 pub fn node(
     alloc: Global,
     cells: &mut List<Cell>,
     room: u32,
-    least: u32,
-) -> Result<YValue, YFault> {
+    least: u64,
+) -> Result<YValue, YFault>
+    ensures { Leaves (spec.node_at room least (reverse cells.old)) result (reverse cells.new) }
+{
     if room == 0 {
         return Err(YFault::NoValue);
     }
@@ -61,7 +77,10 @@ pub fn node(
         First::Dash(column) => items(alloc, cells, room - 1, column),
         First::Key(column) => entries(alloc, cells, room - 1, column),
         First::Scalar => scalar(cells),
-        First::Open => flow(alloc, cells, room - 1),
+        First::Open => {
+            skip(cells);
+            flow(alloc, cells, room - 1)
+        }
         First::Close => Ok(YValue::Null),
         First::Comma => Ok(YValue::Null),
     }
@@ -74,14 +93,18 @@ fn items(
     cells: &mut List<Cell>,
     room: u32,
     column: u32,
-) -> Result<YValue, YFault> {
+) -> Result<YValue, YFault>
+    ensures { Leaves (spec.sequence_at (spec.node_at room) column (reverse cells.old)) result (reverse cells.new) }
+{
     let mut all = List::new(alloc);
-    for _turn in 0..=cells.len() {
-        if first_of(cells, 0) != First::Dash(column) {
+    let most = cells.len();
+    for turn in 0..=most {
+        if !is_dash(cells, column) {
             return Ok(YValue::Seq(all));
         }
-        let _dash = cells.pop();
-        all.push(node(alloc, cells, room, column.saturating_add(1))?)?;
+        skip(cells);
+        let item = node(alloc, cells, room, column as u64 + 1)?;
+        all.push(item)?;
     }
     Ok(YValue::Seq(all))
 }
@@ -93,50 +116,44 @@ fn entries(
     cells: &mut List<Cell>,
     room: u32,
     column: u32,
-) -> Result<YValue, YFault> {
+) -> Result<YValue, YFault>
+    ensures { Leaves (spec.mapping_at (spec.node_at room) column (reverse cells.old)) result (reverse cells.new) }
+{
     let mut all = List::new(alloc);
-    for _turn in 0..=cells.len() {
-        let Some(name) = key(cells, column) else {
-            break;
+    let most = cells.len();
+    for turn in 0..=most {
+        let Some(key) = take_key(cells, column) else {
+            return mapping(alloc, all);
         };
         let least = below_key(cells, column);
-        all.push((name, node(alloc, cells, room, least)?))?;
+        let value = node(alloc, cells, room, least)?;
+        all.push((key, value))?;
     }
-    if is_distinct(alloc, all.as_slice())? {
-        Ok(YValue::Map(all))
-    } else {
-        Err(YFault::NoValue)
-    }
+    mapping(alloc, all)
 }
 
-/// Takes the items of a flow sequence, and its brackets.
+/// Takes the items of a flow sequence, and its closing bracket.
 #[cycle(build)]
-fn flow(alloc: Global, cells: &mut List<Cell>, room: u32) -> Result<YValue, YFault> {
-    let _open = cells.pop();
+fn flow(alloc: Global, cells: &mut List<Cell>, room: u32) -> Result<YValue, YFault>
+    ensures { Leaves (spec.bracketed_at (spec.node_at room) (reverse cells.old)) result (reverse cells.new) }
+{
     let mut all = List::new(alloc);
-    for _turn in 0..=cells.len() {
-        if first_of(cells, 0) == First::Close {
-            let _close = cells.pop();
+    let most = cells.len();
+    for turn in 0..=most {
+        if is_close(cells) {
+            skip(cells);
             return Ok(YValue::Seq(all));
         }
-        all.push(flow_item(alloc, cells, room)?)?;
-        match first_of(cells, 0) {
-            First::Comma => {
-                let _comma = cells.pop();
-            }
-            First::Close => {}
-            _ => return Err(YFault::NoValue),
+        if !is_item(cells) {
+            return Err(YFault::NoValue);
+        }
+        let item = node(alloc, cells, room, 0)?;
+        all.push(item)?;
+        if is_comma(cells) {
+            skip(cells);
+        } else if !is_close(cells) {
+            return Err(YFault::NoValue);
         }
     }
     Err(YFault::NoValue)
-}
-
-/// Takes an item of a flow sequence.
-#[cycle(build)]
-fn flow_item(alloc: Global, cells: &mut List<Cell>, room: u32) -> Result<YValue, YFault> {
-    match first_of(cells, 0) {
-        First::Scalar => node(alloc, cells, room, 0),
-        First::Open => node(alloc, cells, room, 0),
-        _ => Err(YFault::NoValue),
-    }
 }

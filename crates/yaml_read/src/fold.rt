@@ -1,5 +1,8 @@
 //! How the lines of plain and quoted scalars fold.
 
+ghost use Rattle.std.specs.Prelude.{◌≡◌, ◌++◌, IfOk, OnOk};
+ghost use Rattle.yaml_read.specs.Fold as spec;
+
 use node_tree::{Memory, Text};
 use std::alloc::Global;
 
@@ -15,40 +18,53 @@ pub enum Line {
 }
 
 /// Adds so many line feeds.
-pub fn push_breaks(content: &mut Text, count: usize) -> Result<(), Memory> {
-    for _ in 0..count {
+pub fn push_breaks(content: &mut Text, count: usize) -> Result<(), Memory>
+    ensures { OnOk result (content.new ≡ content.old ++ spec.breaks count) }
+{
+    for turn in 0..count {
         content.push("\n")?;
     }
     Ok(())
 }
 
-/// Adds a line's text behind so many blank lines. Where there is none, `glue` stands between the lines.
-fn push_line(content: &mut Text, gap: usize, glue: &str, text: &Text) -> Result<(), Memory> {
+/// Adds what stands between two lines with so many blank ones between them: where there is none, a space or nothing.
+fn push_between(content: &mut Text, gap: usize, spaced: bool) -> Result<(), Memory>
+    ensures { OnOk result (content.new ≡ content.old ++ spec.between gap spaced) }
+{
     if gap == 0 {
-        content.push(glue)?;
+        content.push(if spaced { " " } else { "" })
     } else {
-        push_breaks(content, gap)?;
+        push_breaks(content, gap)
     }
+}
+
+/// Adds a line's text behind so many blank lines.
+fn push_line(content: &mut Text, gap: usize, spaced: bool, text: &Text) -> Result<(), Memory>
+    ensures { OnOk result (content.new ≡ content.old ++ (spec.between gap spaced ++ text.now)) }
+{
+    push_between(content, gap, spaced)?;
     content.push(text.as_str())
 }
 
 /// What the lines of a scalar say: one line end is a space, and n blank lines are n line feeds.
-pub fn fold(alloc: Global, lines: &[Line]) -> Result<Text, Memory> {
+pub fn fold(alloc: Global, lines: &[Line]) -> Result<Text, Memory>
+    ensures { IfOk result (λ t. t ≡ spec.folded lines.now) }
+{
     let mut content = Text::new(alloc);
     let mut gap = 0;
-    let mut glue = "";
-    for line in lines {
+    let mut spaced = false;
+    for (at, line) in lines.iter().enumerate() {
         match line {
             Line::Blank => gap += 1,
             Line::Text(text) => {
-                push_line(&mut content, gap, glue, text)?;
+                push_line(&mut content, gap, spaced, text)?;
                 gap = 0;
-                glue = " ";
+                spaced = true;
             }
             Line::Joined(text) => {
-                push_line(&mut content, gap, glue, text)?;
+                push_line(&mut content, gap, spaced, text)?;
                 gap = 0;
-                glue = "";
+                spaced = false;
             }
         }
     }

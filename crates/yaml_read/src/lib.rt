@@ -14,6 +14,7 @@ mod fold;
 mod leaf;
 mod quoted;
 mod read;
+mod scalar;
 mod value;
 mod word;
 

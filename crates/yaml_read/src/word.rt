@@ -1,16 +1,22 @@
 //! Plain scalars.
 
+ghost use Rattle.std.specs.Prelude.{◌≡◌, ◌≤◌, length, IfOk};
+ghost use Rattle.yaml_lines.specs.Body.{texts};
+ghost use Rattle.yaml_read.specs.Word as spec;
+
 use crate::fold::{Line, fold};
 use node_tree::{List, Memory, Text};
 use std::alloc::Global;
 use std::str::from_utf8;
-use yaml_lines::head::{before_blanks, past_blanks};
+use yaml_lines::head::{before_blanks, is_skipped, past_blanks};
 use yaml_lines::key::is_indicator;
-use yaml_lines::scan::{Place, Scan, is_blank, scan_line};
+use yaml_lines::scan::{Place, Scan, Scanned, is_blank, scan_line};
 
-/// Whether a sign stands alone before this rest: before a blank, or at the end of a line. `closed` says that `,` or `]` of a
-/// flow sequence follows the rest.
-fn is_alone(rest: &[u8], closed: bool) -> bool {
+/// Whether a sign stands alone before this rest of a line: before a blank, or at the line's end. `closed` says that `,` or
+/// `]` of a flow sequence follows the rest.
+fn is_alone(rest: &[u8], closed: bool) -> bool
+    ensures { result ≡ spec.is_alone closed rest.now }
+{
     match rest.first() {
         None => !closed,
         Some(byte) => is_blank(*byte),
@@ -18,7 +24,9 @@ fn is_alone(rest: &[u8], closed: bool) -> bool {
 }
 
 /// Whether a plain scalar begins so: with no indicator, or with `-`, `?` or `:` that doesn't stand alone.
-pub fn begins_word(text: &[u8], closed: bool) -> bool {
+fn begins_word(text: &[u8], closed: bool) -> bool
+    ensures { result ≡ spec.begins_word closed text.now }
+{
     let Some((first, rest)) = text.split_first() else {
         return false;
     };
@@ -29,27 +37,41 @@ pub fn begins_word(text: &[u8], closed: bool) -> bool {
     }
 }
 
+/// Whether a byte is a `:` that stands alone before this rest.
+fn is_colon(byte: u8, rest: &[u8], closed: bool) -> bool
+    ensures { result ≡ spec.is_colon closed byte rest.now }
+{
+    byte == b':' && is_alone(rest, closed)
+}
+
 /// Whether a `:` stands alone somewhere.
-fn holds_colon(text: &[u8], closed: bool) -> bool {
-    for (at, byte) in text.iter().enumerate() {
-        if *byte == b':' && is_alone(&text[at + 1..], closed) {
+fn holds_colon(text: &[u8], closed: bool) -> bool
+    ensures { result ≡ spec.holds_colon closed text.now }
+{
+    let mut rest = text;
+    'bytes: while let Some((byte, more)) = rest.split_first() {
+        if is_colon(*byte, more, closed) {
             return true;
         }
+        rest = more;
     }
     false
 }
 
 /// A text with these bytes, if they are UTF-8.
-pub fn text_of(alloc: Global, bytes: &[u8]) -> Result<Option<Text>, Memory> {
+fn text_of(alloc: Global, bytes: &[u8]) -> Result<Option<Text>, Memory>
+    ensures { IfOk result (λ t. t ≡ spec.text_of bytes.now) }
+{
     match from_utf8(bytes) {
         Ok(text) => Ok(Some(Text::from_str(alloc, text)?)),
         Err(_) => Ok(None),
     }
 }
 
-/// A line of a plain scalar that says this.
-fn row_of(alloc: Global, text: &[u8]) -> Result<Option<Line>, Memory> {
-    let text = before_blanks(past_blanks(text));
+/// What a line says that has this text between blanks.
+fn said(alloc: Global, text: &[u8]) -> Result<Option<Line>, Memory>
+    ensures { IfOk result (λ l. l ≡ spec.said text.now) }
+{
     if text.is_empty() {
         return Ok(Some(Line::Blank));
     }
@@ -59,13 +81,17 @@ fn row_of(alloc: Global, text: &[u8]) -> Result<Option<Line>, Memory> {
     }
 }
 
-/// A line of a plain scalar: a comment may end the last one alone.
-fn row(alloc: Global, line: &[u8], last: bool, closed: bool) -> Result<Option<Line>, Memory> {
-    let start = Scan {
-        place: Place::Inside,
-        depth: 0,
-    };
-    let scanned = scan_line(start, line);
+/// What a line of a plain scalar says up to its comment, which only the last one may have.
+fn row_to(
+    alloc: Global,
+    scanned: Scanned,
+    line: &[u8],
+    last: bool,
+    closed: bool,
+) -> Result<Option<Line>, Memory>
+    requires { scanned.len ≤ length line.now }
+    ensures { IfOk result (λ l. l ≡ spec.row_to scanned last closed line.now) }
+{
     if scanned.comment && !last {
         return Ok(None);
     }
@@ -73,23 +99,74 @@ fn row(alloc: Global, line: &[u8], last: bool, closed: bool) -> Result<Option<Li
     if holds_colon(text, closed && last && !scanned.comment) {
         return Ok(None);
     }
-    row_of(alloc, text)
+    said(alloc, before_blanks(past_blanks(text)))
 }
 
-/// The plain scalar that these lines say, where they say one.
-pub fn word(alloc: Global, lines: &[&[u8]], closed: bool) -> Result<Option<Text>, Memory> {
-    let Some(first) = lines.first() else {
-        return Ok(None);
+/// What a line of a plain scalar says.
+fn row(alloc: Global, line: &[u8], last: bool, closed: bool) -> Result<Option<Line>, Memory>
+    ensures { IfOk result (λ l. l ≡ spec.row last closed line.now) }
+{
+    let start = Scan {
+        place: Place::Inside,
+        depth: 0,
     };
-    if !begins_word(past_blanks(*first), closed && lines.len() == 1) {
-        return Ok(None);
-    }
+    row_to(alloc, scan_line(start, line), line, last, closed)
+}
+
+/// What the lines of a plain scalar say.
+fn rows(alloc: Global, lines: &[&[u8]], closed: bool) -> Result<Option<List<Line>>, Memory>
+    ensures { IfOk result (λ ls. ls ≡ spec.rows closed (texts lines.now)) }
+{
     let mut rows = List::new(alloc);
-    for (at, line) in lines.iter().enumerate() {
-        match row(alloc, *line, at + 1 == lines.len(), closed)? {
+    let mut rest = lines;
+    'lines: while let Some((line, more)) = rest.split_first() {
+        match row(alloc, *line, more.is_empty(), closed)? {
             Some(row) => rows.push(row)?,
             None => return Ok(None),
         }
+        rest = more;
     }
-    Ok(Some(fold(alloc, rows.as_slice())?))
+    Ok(Some(rows))
+}
+
+/// How many lines there are up to the last one that isn't blank and no comment.
+fn kept_len(lines: &[&[u8]]) -> usize
+    ensures len { result ≡ spec.kept_len (texts lines.now) }
+    ensures within { result ≤ length lines.now }
+{
+    let mut len = 0;
+    for (at, line) in lines.iter().enumerate() {
+        if !is_skipped(*line) {
+            len = at + 1;
+        }
+    }
+    len
+}
+
+/// What the lines of a plain scalar say, the last of which has text.
+fn word_of(alloc: Global, lines: &[&[u8]], closed: bool) -> Result<Option<Text>, Memory>
+    ensures { IfOk result (λ t. t ≡ spec.word_of closed (texts lines.now)) }
+{
+    let Some((first, more)) = lines.split_first() else {
+        return Ok(None);
+    };
+    if !begins_word(past_blanks(*first), closed && more.is_empty()) {
+        return Ok(None);
+    }
+    match rows(alloc, lines, closed)? {
+        Some(rows) => Ok(Some(fold(alloc, rows.as_slice())?)),
+        None => Ok(None),
+    }
+}
+
+/// What a plain scalar says that stands on these lines alone, but for blank lines and comments below it. `closed` says that
+/// `,` or `]` of a flow sequence follows the last line.
+pub fn word(alloc: Global, lines: &[&[u8]], closed: bool) -> Result<Option<Text>, Memory>
+    ensures { IfOk result (λ t. t ≡ spec.word closed (texts lines.now)) }
+{
+    let Some((_, more)) = lines.split_first() else {
+        return Ok(None);
+    };
+    let len = kept_len(more);
+    word_of(alloc, &lines[..len + 1], closed && len == more.len())
 }

@@ -1,0 +1,10 @@
+use Rattle.std.proofs.Common.{◌≡◌, length}
+use Rattle.yaml_read.specs.Quoted.{are_skipped}
+use Rattle.yaml_lines.specs.Body.{texts}
+use Rattle.yaml_read.proofs.quoted.are_skipped.Given as goal
+
+abbrev pub invariant-lines : goal.invariant-lines
+invariant-lines l = are_skipped (texts l.initial.rest) ≡ are_skipped (texts l.rest)
+
+abbrev pub decreases-lines : goal.decreases-lines
+decreases-lines l = length l.rest
