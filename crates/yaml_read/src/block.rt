@@ -97,12 +97,7 @@ fn push_fold(content: &mut Text, gap: usize) -> Result<(), Memory>
 }
 
 /// Adds what stands before a line after so many empty ones.
-fn push_before(
-    content: &mut Text,
-    last: Option<bool>,
-    kept: bool,
-    gap: usize,
-) -> Result<(), Memory>
+fn push_before(content: &mut Text, last: Option<bool>, kept: bool, gap: usize) -> Result<(), Memory>
     ensures { OnOk result (content.new ≡ content.old ++ spec.before_row last kept gap) }
 {
     match last {
@@ -140,13 +135,7 @@ fn last_breaks(chomp: Chomp, text: bool, ends: usize) -> usize
 {
     match chomp {
         Chomp::Strip => 0,
-        Chomp::Clip => {
-            if text && ends > 0 {
-                1
-            } else {
-                0
-            }
-        }
+        Chomp::Clip => { if text && ends > 0 { 1 } else { 0 } }
         Chomp::Keep => ends,
     }
 }

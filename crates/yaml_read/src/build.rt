@@ -61,12 +61,7 @@ fn mapping(alloc: Global, entries: List<(Text, YValue)>) -> Result<YValue, YFaul
 
 /// Takes the value that stands at a column or deeper, with so many levels at most.
 #[cycle(build)]
-pub fn node(
-    alloc: Global,
-    cells: &mut List<Cell>,
-    room: u32,
-    least: u64,
-) -> Result<YValue, YFault>
+pub fn node(alloc: Global, cells: &mut List<Cell>, room: u32, least: u64) -> Result<YValue, YFault>
     ensures { Leaves (spec.node_at room least (reverse cells.old)) result (reverse cells.new) }
 {
     if room == 0 {
@@ -88,12 +83,7 @@ pub fn node(
 
 /// Takes the items of a block sequence, whose marks stand at a column.
 #[cycle(build)]
-fn items(
-    alloc: Global,
-    cells: &mut List<Cell>,
-    room: u32,
-    column: u32,
-) -> Result<YValue, YFault>
+fn items(alloc: Global, cells: &mut List<Cell>, room: u32, column: u32) -> Result<YValue, YFault>
     ensures { Leaves (spec.sequence_at (spec.node_at room) column (reverse cells.old)) result (reverse cells.new) }
 {
     let mut all = List::new(alloc);
@@ -111,12 +101,7 @@ fn items(
 
 /// Takes the entries of a block mapping, whose keys stand at a column.
 #[cycle(build)]
-fn entries(
-    alloc: Global,
-    cells: &mut List<Cell>,
-    room: u32,
-    column: u32,
-) -> Result<YValue, YFault>
+fn entries(alloc: Global, cells: &mut List<Cell>, room: u32, column: u32) -> Result<YValue, YFault>
     ensures { Leaves (spec.mapping_at (spec.node_at room) column (reverse cells.old)) result (reverse cells.new) }
 {
     let mut all = List::new(alloc);

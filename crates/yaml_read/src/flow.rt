@@ -85,14 +85,12 @@ fn split(alloc: Global, piece: &[u8]) -> Result<Vec<&[u8]>, Memory>
 fn past_skipped<'s, 't>(lines: &'s [&'t [u8]]) -> &'s [&'t [u8]]
     ensures { texts result.now ≡ spec.past_skipped (texts lines.now) }
 {
-    let mut rest = lines;
-    'lines: while let Some((line, more)) = rest.split_first() {
+    for (at, line) in lines.iter().enumerate() {
         if !is_skipped(*line) {
-            return rest;
+            return &lines[at..];
         }
-        rest = more;
     }
-    rest
+    &[]
 }
 
 /// The lines from the first that isn't blank and no comment. In the first line a comment has a blank before it.
@@ -112,11 +110,7 @@ fn from_content<'s, 't>(lines: &'s [&'t [u8]]) -> &'s [&'t [u8]]
 }
 
 /// Adds a scalar, if there is one.
-pub fn push_scalar(
-    cells: &mut List<Cell>,
-    column: u64,
-    value: Option<YValue>,
-) -> Result<(), YFault>
+pub fn push_scalar(cells: &mut List<Cell>, column: u64, value: Option<YValue>) -> Result<(), YFault>
     ensures { Adds (spec.scalar_cell column value) result cells.old cells.new }
 {
     match value {

@@ -84,10 +84,7 @@ fn single_row(alloc: Global, text: &str) -> Result<Option<Line>, Memory>
     ensures { IfOk result (λ l. l ≡ spec.single_row (chars text.now)) }
 {
     let content = undoubled(alloc, text)?;
-    Ok(Some(Line::Text(Text::from_str(
-        alloc,
-        content.as_str(),
-    )?)))
+    Ok(Some(Line::Text(Text::from_str(alloc, content.as_str())?)))
 }
 
 /// What a line between such quotes says, where `next` is the blank behind it.
@@ -138,16 +135,15 @@ pub fn is_rest(rest: &[u8]) -> bool
     ends_sign(rest) && is_skipped(rest)
 }
 
-/// Whether each line is blank or a comment.
-fn are_skipped(lines: &[&[u8]]) -> bool
-    ensures { result ≡ spec.are_skipped (texts lines.now) }
+/// Whether each line from a place on is blank or a comment.
+fn are_skipped(lines: &[&[u8]], from: usize) -> bool
+    requires { from ≤ length lines.now }
+    ensures { result ≡ spec.are_skipped (texts (drop from lines.now)) }
 {
-    let mut rest = lines;
-    'lines: while let Some((line, more)) = rest.split_first() {
-        if !is_skipped(*line) {
+    for at in from..lines.len() {
+        if !is_skipped(lines[at]) {
             return false;
         }
-        rest = more;
     }
     true
 }
@@ -190,12 +186,11 @@ fn rows(alloc: Global, quote: u8, lines: &[&[u8]]) -> Result<Option<List<Line>>,
     ensures { IfOk result (λ ls. ls ≡ spec.rows quote true (texts lines.now)) }
 {
     let mut rows = List::new(alloc);
-    let mut rest = lines;
     let mut first = true;
-    'lines: while let Some((line, more)) = rest.split_first() {
+    for (at, line) in lines.iter().enumerate() {
         let text = part(*line, first);
         if let Some(len) = quoted_end(inside(quote), text) {
-            if !are_skipped(more) {
+            if !are_skipped(lines, at + 1) {
                 return Ok(None);
             }
             let Some(row) = last_row(alloc, quote, text, len)? else {
@@ -209,7 +204,6 @@ fn rows(alloc: Global, quote: u8, lines: &[&[u8]]) -> Result<Option<List<Line>>,
         };
         rows.push(row)?;
         first = false;
-        rest = more;
     }
     Ok(None)
 }

@@ -1,6 +1,6 @@
 //! Plain scalars.
 
-ghost use Rattle.std.specs.Prelude.{◌≡◌, ◌≤◌, length, IfOk};
+ghost use Rattle.std.specs.Prelude.{◌≡◌, ◌≤◌, ◌<◌, ◌+◌, length, drop, IfOk};
 ghost use Rattle.yaml_lines.specs.Body.{texts};
 ghost use Rattle.yaml_read.specs.Word as spec;
 
@@ -113,18 +113,24 @@ fn row(alloc: Global, line: &[u8], last: bool, closed: bool) -> Result<Option<Li
     row_to(alloc, scan_line(start, line), line, last, closed)
 }
 
+/// Whether no line follows the one at a place.
+fn is_last(lines: &[&[u8]], at: usize) -> bool
+    requires { at < length lines.now }
+    ensures { result ≡ spec.is_empty (texts (drop (at + 1) lines.now)) }
+{
+    lines.len() == at + 1
+}
+
 /// What the lines of a plain scalar say.
 fn rows(alloc: Global, lines: &[&[u8]], closed: bool) -> Result<Option<List<Line>>, Memory>
     ensures { IfOk result (λ ls. ls ≡ spec.rows closed (texts lines.now)) }
 {
     let mut rows = List::new(alloc);
-    let mut rest = lines;
-    'lines: while let Some((line, more)) = rest.split_first() {
-        match row(alloc, *line, more.is_empty(), closed)? {
+    for (at, line) in lines.iter().enumerate() {
+        match row(alloc, *line, is_last(lines, at), closed)? {
             Some(row) => rows.push(row)?,
             None => return Ok(None),
         }
-        rest = more;
     }
     Ok(Some(rows))
 }

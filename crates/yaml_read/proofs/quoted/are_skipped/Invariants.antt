@@ -1,10 +1,7 @@
-use Rattle.std.proofs.Common.{◌≡◌, length}
+use Rattle.std.proofs.Common.{◌≡◌, drop}
 use Rattle.yaml_read.specs.Quoted.{are_skipped}
 use Rattle.yaml_lines.specs.Body.{texts}
 use Rattle.yaml_read.proofs.quoted.are_skipped.Given as goal
 
-abbrev pub invariant-lines : goal.invariant-lines
-invariant-lines l = are_skipped (texts l.initial.rest) ≡ are_skipped (texts l.rest)
-
-abbrev pub decreases-lines : goal.decreases-lines
-decreases-lines l = length l.rest
+abbrev pub invariant-loop-at : goal.invariant-loop-at
+invariant-loop-at l = are_skipped (texts (drop l.from l.lines)) ≡ are_skipped (texts (drop l.at l.lines))
