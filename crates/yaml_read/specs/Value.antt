@@ -1,8 +1,9 @@
 -- The value of a YAML text.
-use Rattle.std.specs.Prelude.{◌≡◌, ℕ, ◌+◌, ◌-◌, List, [], ◌∷◌, ◌++◌, ◌==◌, ◌||◌, nat_lt, if◌then◌else◌, Bool, false, Option, Some, None, Result, Ok, Err, length, map, get_or}
+use Rattle.std.specs.Prelude.{◌≡◌, ℕ, ◌+◌, ◌-◌, List, [], ◌∷◌, ◌++◌, ◌==◌, ◌||◌, nat_lt, if◌then◌else◌, Bool, false, Option, Some, None, Result, Ok, Err, length, map, get_or, reverse}
 use Rattle.std.specs.Option.{option_map, option_and_then}
 use Rattle.std.specs.Str.Lines.{lines}
 use Rattle.yaml_lines.specs.Lines.{lines_of, past_order_mark, is_some}
+use Rattle.yaml_lines.specs.Feature.{begins_with}
 use Rattle.yaml_lines.specs.declared.line.YLine.{YLine}
 use Rattle.yaml_lines.specs.declared.fault.YFault.{YFault}
 use Rattle.yaml_lines.specs.declared.fault.YFault.TheVariants.{Memory, NoValue}
@@ -55,9 +56,7 @@ IsCells wanted (Err e) = (e ≡ NoValue) × (wanted ≡ None)
 
 -- the last byte is a line feed
 abbrev pub ends_line : List ℕ → Bool
-ends_line [] = false
-ends_line (b ∷ []) = b == 10
-ends_line (a ∷ b ∷ bs) = ends_line (b ∷ bs)
+ends_line bytes = begins_with 10 (reverse bytes)
 
 -- the value, if no cells are left
 abbrev pub whole : Built → Option YValue

@@ -113,8 +113,8 @@ fn cells_of(
 fn ends_line(bytes: &[u8]) -> bool
     ensures { result ≡ spec.ends_line bytes.now }
 {
-    match bytes.split_last() {
-        Some((byte, _)) => *byte == b'\n',
+    match bytes.last() {
+        Some(byte) => *byte == b'\n',
         None => false,
     }
 }
