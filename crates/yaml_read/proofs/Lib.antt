@@ -1,2 +1,5 @@
 pub mod Steps
 pub mod Cells
+pub mod Utf8
+pub mod Lasts
+pub mod Rows

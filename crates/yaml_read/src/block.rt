@@ -155,9 +155,9 @@ pub fn block_of(
     let mut gap = 0;
     for (at, line) in body.iter().enumerate() {
         let row = past_column(line.as_str().as_bytes(), column);
-        match row.first() {
+        match row.split_first() {
             None => gap += 1,
-            Some(first) => {
+            Some((first, _)) => {
                 let kept = is_kept(header, *first);
                 let Ok(text) = from_utf8(row) else {
                     return Ok(None);

@@ -78,7 +78,8 @@ fn step(scan: Scan, gap: bool, byte: u8) -> Scan
 fn split(alloc: Global, piece: &[u8]) -> Result<Vec<&[u8]>, Memory>
     ensures { IfOk result (λ ls. texts ls.items ≡ slice_split (λ b. b == 10) piece.now) }
 {
-    Ok(piece.split(|byte| *byte == b'\n').collect(alloc)?)
+    let lines = piece.split(|byte| *byte == b'\n').collect(alloc)?;
+    Ok(lines)
 }
 
 /// The lines from the first that isn't blank and no comment.

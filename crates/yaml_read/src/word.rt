@@ -1,6 +1,6 @@
 //! Plain scalars.
 
-ghost use Rattle.std.specs.Prelude.{◌≡◌, ◌≤◌, ◌<◌, ◌+◌, length, drop, IfOk};
+ghost use Rattle.std.specs.Prelude.{◌≡◌, ◌≤◌, ◌<◌, ◌+◌, ◌==◌, ◌&&◌, length, drop, IfOk};
 ghost use Rattle.yaml_lines.specs.Body.{texts};
 ghost use Rattle.yaml_read.specs.Word as spec;
 
@@ -165,6 +165,13 @@ fn word_of(alloc: Global, lines: &[&[u8]], closed: bool) -> Result<Option<Text>,
     }
 }
 
+/// Whether `,` or `]` follows the last of so many lines, where `closed` says it of the last of all.
+fn is_closed(closed: bool, len: usize, lines: &[&[u8]]) -> bool
+    ensures { result ≡ (closed && (len == length lines.now)) }
+{
+    closed && len == lines.len()
+}
+
 /// What a plain scalar says that stands on these lines alone, but for blank lines and comments below it. `closed` says that
 /// `,` or `]` of a flow sequence follows the last line.
 pub fn word(alloc: Global, lines: &[&[u8]], closed: bool) -> Result<Option<Text>, Memory>
@@ -174,5 +181,5 @@ pub fn word(alloc: Global, lines: &[&[u8]], closed: bool) -> Result<Option<Text>
         return Ok(None);
     };
     let len = kept_len(more);
-    word_of(alloc, &lines[..len + 1], closed && len == more.len())
+    word_of(alloc, &lines[..len + 1], is_closed(closed, len, more))
 }
