@@ -3,3 +3,5 @@ pub mod Cells
 pub mod Utf8
 pub mod Lasts
 pub mod Rows
+pub mod Readings
+pub mod Signs

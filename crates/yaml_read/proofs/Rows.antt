@@ -28,3 +28,15 @@ module _ (h : Header) (column : Option ℕ) (ended : Bool) (kept : Option Bool) 
 pub before-before : (a b : List ℕ) (rest : Option (List ℕ)) → before a (before b rest) ≡ before (a ++ b) rest
 before-before a b None = refl
 before-before a b (Some r) = ap Some (sym (append_assoc a b r))
+
+pub empty : (row : List ℕ) → length row ≡ 0 → row ≡ []
+empty [] e = refl
+empty (b ∷ bs) e = absurd (omega (arith, e))
+
+-- a row is pushed behind what stands before it
+pub row_pushed : (h : Header) (column : Option ℕ) (ended : Bool) (kept : Option Bool) (gap : ℕ) (rest : List (List ℕ)) (b : ℕ) (content mid new row t : List ℕ) (k : Bool) → k ≡ is_kept h b → mid ≡ content ++ before_row kept k gap → new ≡ mid ++ t → t ≡ row → before content (before (before_row kept (is_kept h b) gap ++ row) (block_from h column ended (Some (is_kept h b)) 0 rest)) ≡ before new (block_from h column ended (Some k) 0 rest)
+row_pushed h column ended kept gap rest b content mid new row t k ke m n te =
+    let all : content ++ (before_row kept k gap ++ row) ≡ new = sym (append_assoc content (before_row kept k gap) row) ∙ ap (λ (x : List ℕ). x ++ row) (sym m) ∙ ap (λ (x : List ℕ). mid ++ x) (sym te) ∙ sym n in
+    ap (λ (y : Bool). before content (before (before_row kept y gap ++ row) (block_from h column ended (Some y) 0 rest))) (sym ke)
+    ∙ before-before content (before_row kept k gap ++ row) (block_from h column ended (Some k) 0 rest)
+    ∙ ap (λ (x : List ℕ). before x (block_from h column ended (Some k) 0 rest)) all

@@ -50,16 +50,20 @@ entry_at node more column ts (Some k) = option_and_then (with_entry more k.key) 
 
 -- the entries of a block mapping whose keys stand at a column, at most so many
 abbrev pub entries_at : (ℕ → List Cell → Option Built) → ℕ → ℕ → List Cell → Option EntriesBuilt
-entries_at node zero column ts = Some ([], ts)
+entries_at node zero column ts = None
 entries_at node (suc n) column ts = entry_at node (entries_at node n column) column ts (key_at column ts)
 
 -- an item of a flow sequence
 abbrev pub flow_item : (List Cell → Option Built) → List Cell → Option Built
 flow_item node ts = if is_item ts then node ts else None
 
--- the items of a flow sequence after one of them, behind which a comma or the closing bracket stands
+-- the cells of a flow sequence behind an item: past a comma, or from the closing bracket on
+abbrev pub go_on : List Cell → Option (List Cell)
+go_on ts = if is_comma ts then Some (cells_past ts) else (if is_close ts then Some ts else None)
+
+-- the items of a flow sequence after one of them
 abbrev pub after_item : (List Cell → Option AllBuilt) → Built → Option AllBuilt
-after_item more b = if is_comma b.1 then with_item (λ rest. more (cells_past rest)) b else (if is_close b.1 then with_item more b else None)
+after_item more b = option_and_then (λ rest. option_map (λ r. (b.0 ∷ r.0, r.1)) (more rest)) (go_on b.1)
 
 -- the items of a flow sequence, and its closing bracket, in so many steps
 abbrev pub flow_at : (List Cell → Option Built) → ℕ → List Cell → Option AllBuilt
@@ -72,7 +76,7 @@ as_seq r = option_map (λ b. (Seq b.0, b.1)) r
 
 -- a mapping, if each key stands once
 abbrev pub as_map : EntriesBuilt → Option Built
-as_map b = if is_distinct (map (λ e. e.0) b.0) then Some (Map b.0, b.1) else None
+as_map b = if is_distinct b.0 then Some (Map b.0, b.1) else None
 
 -- more steps than cells
 abbrev pub steps : List Cell → ℕ
@@ -116,3 +120,8 @@ abbrev pub IsMapping : List (List ℕ × YValue) → Result YValue YFault → Ty
 IsMapping es (Ok v) = (rest : List Cell) → as_map (es, rest) ≡ Some (v, rest)
 IsMapping es (Err Memory) = Unit {0}
 IsMapping es (Err e) = (e ≡ NoValue) × ((rest : List Cell) → as_map (es, rest) ≡ None)
+
+-- it went on behind an item of a flow sequence, if it could
+abbrev pub WentOn : List Cell → Bool → List Cell → Type 0
+WentOn old true new = go_on old ≡ Some new
+WentOn old false new = go_on old ≡ None

@@ -1,31 +1,61 @@
 //! The value that cells build.
 
-ghost use Rattle.std.specs.Prelude.{◌≡◌, ◌+◌, ◌<◌, ◌≤◌, ◌^◌, reverse, map, IfOk};
-ghost use Rattle.yaml_read.specs.Building.{Leaves, IsMapping};
+ghost use Rattle.std.specs.Prelude.{◌≡◌, ◌+◌, ◌<◌, ◌≤◌, reverse, length, drop};
+ghost use Rattle.yaml_read.specs.Building.{Leaves, IsMapping, WentOn};
 ghost use Rattle.yaml_read.specs.Cells.{scalar_at};
 ghost use Rattle.yaml_read.specs.Building as spec;
-ghost use Rattle.yaml_read.specs.Keys.{is_distinct as distinct};
+ghost use Rattle.yaml_read.specs.Keys as keys;
 
 use crate::cell::{
     Cell, First, first_of, is_close, is_comma, is_dash, is_item, skip, take_key, take_scalar,
 };
 use crate::value::YValue;
-use node_tree::{List, Memory, Text};
+use node_tree::{List, Text};
 use std::alloc::Global;
-use std::collections::BTreeSet;
 use yaml_lines::YFault;
 
-/// Whether each key stands once.
-fn is_distinct(alloc: Global, entries: &[(Text, YValue)]) -> Result<bool, Memory>
-    ensures { IfOk result (λ b. b ≡ distinct (map (λ e. e.0) entries.now)) }
+/// Whether two texts have the same bytes.
+fn is_same(a: &[u8], b: &[u8]) -> bool
+    ensures { result ≡ keys.is_same a.now b.now }
 {
-    let mut seen: BTreeSet<&str> = BTreeSet::new(alloc);
-    for entry in entries {
-        if !seen.insert(entry.0.as_str())? {
-            return Ok(false);
+    let mut xs = a;
+    let mut ys = b;
+    'bytes: while let Some((x, more)) = xs.split_first() {
+        let Some((y, others)) = ys.split_first() else {
+            return false;
+        };
+        if *x != *y {
+            return false;
+        }
+        xs = more;
+        ys = others;
+    }
+    ys.is_empty()
+}
+
+/// Whether a key is that of an entry from a place on.
+fn is_among(key: &Text, entries: &[(Text, YValue)], from: usize) -> bool
+    requires { from ≤ length entries.now }
+    ensures { result ≡ keys.is_among key.now (drop from entries.now) }
+{
+    for at in from..entries.len() {
+        if is_same(key.as_str().as_bytes(), entries[at].0.as_str().as_bytes()) {
+            return true;
         }
     }
-    Ok(true)
+    false
+}
+
+/// Whether each key stands once.
+fn is_distinct(entries: &[(Text, YValue)]) -> bool
+    ensures { result ≡ keys.is_distinct entries.now }
+{
+    for (at, entry) in entries.iter().enumerate() {
+        if is_among(&entry.0, entries, at + 1) {
+            return false;
+        }
+    }
+    true
 }
 
 /// The least column of a value below a key: a block sequence may stand at the key's own column.
@@ -49,13 +79,25 @@ fn scalar(cells: &mut List<Cell>) -> Result<YValue, YFault>
 }
 
 /// The mapping with these entries, if each key stands once.
-fn mapping(alloc: Global, entries: List<(Text, YValue)>) -> Result<YValue, YFault>
+fn mapping(entries: List<(Text, YValue)>) -> Result<YValue, YFault>
     ensures { IsMapping entries result }
 {
-    if is_distinct(alloc, entries.as_slice())? {
+    if is_distinct(entries.as_slice()) {
         Ok(YValue::Map(entries))
     } else {
         Err(YFault::NoValue)
+    }
+}
+
+/// Goes on behind an item of a flow sequence, if it can: past a comma, or at the closing bracket.
+fn go_on(cells: &mut List<Cell>) -> bool
+    ensures { WentOn (reverse cells.old) result (reverse cells.new) }
+{
+    if is_comma(cells) {
+        skip(cells);
+        true
+    } else {
+        is_close(cells)
     }
 }
 
@@ -108,13 +150,13 @@ fn entries(alloc: Global, cells: &mut List<Cell>, room: u32, column: u32) -> Res
     let most = cells.len();
     for turn in 0..=most {
         let Some(key) = take_key(cells, column) else {
-            return mapping(alloc, all);
+            return mapping(all);
         };
         let least = below_key(cells, column);
         let value = node(alloc, cells, room, least)?;
         all.push((key, value))?;
     }
-    mapping(alloc, all)
+    Err(YFault::NoValue)
 }
 
 /// Takes the items of a flow sequence, and its closing bracket.
@@ -134,9 +176,7 @@ fn flow(alloc: Global, cells: &mut List<Cell>, room: u32) -> Result<YValue, YFau
         }
         let item = node(alloc, cells, room, 0)?;
         all.push(item)?;
-        if is_comma(cells) {
-            skip(cells);
-        } else if !is_close(cells) {
+        if !go_on(cells) {
             return Err(YFault::NoValue);
         }
     }

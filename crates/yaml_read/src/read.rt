@@ -124,7 +124,7 @@ fn built(alloc: Global, mut cells: List<Cell>) -> Result<YValue, YFault>
     ensures { Gives (spec.or_none (spec.built (reverse cells))) result }
 {
     let value = node(alloc, &mut cells, 100, 0)?;
-    if cells.is_empty() {
+    if cells.len() == 0 {
         Ok(value)
     } else {
         Err(YFault::NoValue)
