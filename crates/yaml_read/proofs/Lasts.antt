@@ -23,9 +23,9 @@ length-texts : (all : List (Bor (List ℕ))) → length (texts all) ≡ length a
 length-texts [] = refl
 length-texts (l ∷ ls) = ap suc (length-texts ls)
 
-front : (n : ℕ) → n + 1 - 0 ≡ 1 + n
+front : (n : ℕ) → n + 1 ≡ 1 + n
 front n = omega arith
 
-pub word_is : (closed end : Bool) (lines more : List (Bor (List ℕ))) (first : Bor (List ℕ)) (len : ℕ) → lines ≡ first ∷ more → len ≡ kept_len (texts more) → end ≡ (closed && (eqb len (length more))) → word_of end (texts (take (len + 1 - 0) lines)) ≡ word closed (texts lines)
+pub word_is : (closed end : Bool) (lines more : List (Bor (List ℕ))) (first : Bor (List ℕ)) (len : ℕ) → lines ≡ first ∷ more → len ≡ kept_len (texts more) → end ≡ (closed && (eqb len (length more))) → word_of end (texts (take (len + 1) lines)) ≡ word closed (texts lines)
 word_is closed end lines more first len e k f =
     rw (e, f, k, front (kept_len (texts more)), ← (length-texts more), ← (take-map (λ (l : Bor (List ℕ)). l.now) (1 + kept_len (texts more)) (first ∷ more))) refl

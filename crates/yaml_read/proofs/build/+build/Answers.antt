@@ -83,9 +83,11 @@ node-returns-in-Open t c =
     subst P (sym (node_open c.args.room c.args.least (reverse c.args.cells.now) (reverse c.skip.new.cells) c.if-room-eq0.false c.in-Open.ensures c.skip.ensures)) c.flow.ensures
 
 pub flow-returns-then-not-go_on : goal.flow-returns-then-not-go_on
-flow-returns-then-not-go_on t c =
-    (refl, bracketed_broken (node_at c.args.room) c.len-most.result c.loop-turn.turn (reverse c.args.cells.now) (reverse c.loop-turn.cells) (reverse c.node.new.cells) c.loop-turn.all c.in_ok-item.item
-    c.loop-turn.invariant.most c.loop-turn.invariant.rest c.loop-turn-test.true (sym c.if-is_close.ensures) (sym c.if-not-is_item.ensures) c.in_ok-item.ensures c.if-not-go_on.ensures)
+flow-returns-then-not-go_on t c = (
+  refl,
+  bracketed_broken (node_at c.args.room) c.len-most.result c.loop-turn.turn (reverse c.args.cells.now) (reverse c.loop-turn.cells) (reverse c.node.new.cells) c.loop-turn.all c.in_ok-item.item
+      c.loop-turn.invariant.most c.loop-turn.invariant.rest c.loop-turn-test.true (sym c.if-is_close.ensures) (sym c.if-not-is_item.ensures) c.in_ok-item.ensures c.if-not-go_on.ensures,
+)
 
 pub flow-loop-turn-preserved : goal.flow-loop-turn-preserved
 flow-loop-turn-preserved t c = record {
