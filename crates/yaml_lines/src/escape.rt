@@ -102,7 +102,7 @@ fn escape_step(c: char) -> Step
 }
 
 /// What the next character does.
-fn next_step(reading: Reading, c: char) -> Step
+pub fn next_step(reading: Reading, c: char) -> Step
     ensures { result ≡ spec.step_of reading c }
 {
     match reading {
@@ -119,7 +119,7 @@ fn next_step(reading: Reading, c: char) -> Step
 }
 
 /// The first character of a text, and what follows it.
-fn first_char(text: &str) -> Option<(char, &str)>
+pub fn first_char(text: &str) -> Option<(char, &str)>
     ensures { MatchOption result (chars text.now ≡ []) (λ x. chars text.now ≡ x.0 ∷ chars x.1.now) }
 {
     let mut rest = text.chars();

@@ -14,7 +14,7 @@ use std::alloc::Global;
 use std::str::from_utf8;
 
 /// Whether a byte begins no plain scalar.
-fn is_indicator(byte: u8) -> bool
+pub fn is_indicator(byte: u8) -> bool
     ensures { result ≡ spec.is_indicator byte }
 {
     b",[]{}#&*!|>'\"%@`"
@@ -79,16 +79,13 @@ fn may_end(place: Place) -> bool
     matches!(place, Place::Inside | Place::SingleEnd)
 }
 
-/// How many bytes a quoted scalar takes, its quotes with it.
-fn quoted_len(text: &[u8]) -> Option<usize>
-    requires { length text.now ≤ 2 ^ 62 }
-    ensures len { result ≡ spec.quoted_len text.now }
+/// How many bytes are left of a quoted scalar that goes on at a place, the quote that ends it with them.
+pub fn quoted_end(start: Scan, text: &[u8]) -> Option<usize>
+    requires { start.depth < 2 ^ 63 }
+    ensures len { result ≡ spec.quoted_at start text.now }
     ensures within { IfSome result (λ n. n ≤ length text.now) }
 {
-    let mut scan = Scan {
-        place: Place::Begin,
-        depth: 0,
-    };
+    let mut scan = start;
     for (at, byte) in text.iter().enumerate() {
         if has_ended(scan.place, *byte) {
             return Some(at);
@@ -100,6 +97,20 @@ fn quoted_len(text: &[u8]) -> Option<usize>
     } else {
         None
     }
+}
+
+/// How many bytes a quoted scalar takes, its quotes with it.
+fn quoted_len(text: &[u8]) -> Option<usize>
+    ensures len { result ≡ spec.quoted_len text.now }
+    ensures within { IfSome result (λ n. n ≤ length text.now) }
+{
+    quoted_end(
+        Scan {
+            place: Place::Begin,
+            depth: 0,
+        },
+        text,
+    )
 }
 
 /// A key and what follows its `:`.

@@ -6,18 +6,18 @@
 #![tactic(auto)]
 
 mod body;
-mod escape;
+pub mod escape;
 mod fault;
 mod feature;
-mod head;
-mod key;
+pub mod head;
+pub mod key;
 mod line;
 mod read;
-mod scan;
+pub mod scan;
 
 pub use fault::{Feature, YFault};
 pub use line::YLine;
-pub use read::lines;
+pub use read::{Head, lines, past_order_mark, read_head};
 
 #[cfg(test)]
 mod tests;

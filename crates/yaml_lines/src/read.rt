@@ -38,8 +38,8 @@ pub struct Head<'t> {
     pub value: &'t [u8],
 }
 
-/// What a line says by itself.
-fn read_head<'t>(alloc: Global, line: &'t [u8]) -> Result<Head<'t>, Memory>
+/// What a line says by itself: its marks, its key, and its value up to a comment.
+pub fn read_head<'t>(alloc: Global, line: &'t [u8]) -> Result<Head<'t>, Memory>
     requires utf8 { IsUtf8 line.now }
     requires short { length line.now ≤ 2 ^ 20 }
     ensures head { IfOk result (IsHead line.now) }
@@ -211,7 +211,7 @@ fn read_all(alloc: Global, all: &[&str]) -> Result<List<YLine>, YFault>
 }
 
 /// Bytes without the byte order mark at their start.
-fn past_order_mark(bytes: &[u8]) -> &[u8]
+pub fn past_order_mark(bytes: &[u8]) -> &[u8]
     ensures rest { result.now ≡ spec.past_order_mark bytes.now }
     ensures len { length result.now ≤ length bytes.now }
 {

@@ -63,7 +63,7 @@ fn after_inside(depth: u64, byte: u8) -> Scan
 
 /// The place after a byte that stands where a scalar may begin.
 fn after_begin(depth: u64, byte: u8) -> Scan
-    requires { depth < 2 ^ 63 }
+    requires { depth + 1 < 2 ^ 64 }
     ensures { result ≡ spec.after_begin depth byte }
 {
     if is_blank(byte) {
@@ -91,7 +91,7 @@ fn after_begin(depth: u64, byte: u8) -> Scan
 
 /// The place after one more byte.
 pub fn after(scan: Scan, byte: u8) -> Scan
-    requires { scan.depth < 2 ^ 63 }
+    requires { scan.depth + 1 < 2 ^ 64 }
     ensures next { result ≡ spec.after scan byte }
     ensures depth { result.depth ≤ scan.depth + 1 }
 {
@@ -168,7 +168,7 @@ pub fn is_open(scan: Scan) -> bool
 }
 
 /// Whether a byte begins a comment, where `gap` says whether a blank or nothing stands before it.
-fn begins_comment(gap: bool, place: Place, byte: u8) -> bool
+pub fn begins_comment(gap: bool, place: Place, byte: u8) -> bool
     ensures { result ≡ spec.begins_comment gap place byte }
 {
     gap && byte == b'#' && matches!(place, Place::Begin | Place::Inside)
@@ -184,8 +184,7 @@ pub struct Scanned {
 
 /// Scans a line from a place on. A `#` at the start or after a blank begins a comment, unless it is quoted.
 pub fn scan_line(start: Scan, line: &[u8]) -> Scanned
-    requires depth { start.depth < 2 ^ 62 }
-    requires short { length line.now ≤ 2 ^ 62 }
+    requires { start.depth < 2 ^ 63 }
     ensures scanned { result ≡ spec.scan_line start line.now }
     ensures within { result.len ≤ length line.now }
     ensures comment { result.len < length line.now → slice_index line.now result.len ≡ 35 }

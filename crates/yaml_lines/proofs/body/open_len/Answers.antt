@@ -7,9 +7,6 @@ pub returns-then-not-is_open-clause-len : goal.returns-then-not-is_open-clause-l
 returns-then-not-is_open-clause-len c =
     sym (c.loop-at.invariant.rest ∙ open_stops c.args.lines.now c.loop-at.at c.loop-at.scan (record { ref_ptr = (0, 0); now = [] }) c.loop-at-test.true (sym c.if-not-is_open.ensures))
 
-pub scan_line-requires-clause-short : goal.scan_line-requires-clause-short
-scan_line-requires-clause-short c = let h = short_at c.args.lines.now c.loop-at.at _ c.as_bytes.result.now c.loop-at-test.true c.as_bytes.ensures.value c.requires.short in omega arith
-
 pub loop-at-preserved : goal.loop-at-preserved
 loop-at-preserved c =
     let h = short_at c.args.lines.now c.loop-at.at _ c.as_bytes.result.now c.loop-at-test.true c.as_bytes.ensures.value c.requires.short in

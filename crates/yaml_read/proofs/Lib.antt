@@ -1,0 +1,7 @@
+pub mod Steps
+pub mod Cells
+pub mod Utf8
+pub mod Lasts
+pub mod Rows
+pub mod Readings
+pub mod Signs
