@@ -231,11 +231,8 @@ fn reads_f_strings_of_every_prefix(rt: HostRuntime) -> Result<(), Fail> {
         let Some(token) = tokens.get(0) else {
             return Err(Fail::new("a token is missing"));
         };
-        assert!(rt;
-            token.word == PyWord::FStr && token.text.as_str() == text,
-            "{text}"
-        );
-        assert!(rt; token.parts.len() == 2, "{text}");
+        assert!(rt; token.word == PyWord::FStr && token.text.as_str() == text);
+        assert!(rt; token.parts.len() == 2);
     }
     Ok(())
 }
