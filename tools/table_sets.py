@@ -8,7 +8,7 @@ after it, whether it can be empty, its rank, and whether one token in hand is al
 here is trusted: the check of the table, which computes in the proof, refuses what is wrong. Where a row fails that check,
 this script says which part and which classes clash, and ends with status 1.
 
-It reads definitions `name arg .. = term` and rows `table Level = term`, where terms are made of the constructors of `Rule`,
+It reads definitions `name arg .. = term`, also of the files beside it that the table uses, and rows `table Level = term`, where terms are made of the constructors of `Rule`,
 the file's own abbreviations, `·`, `∣`, `∷`, `++`, `[]` and parentheses. A class is whatever `class` is applied to.
 """
 import re
@@ -71,6 +71,15 @@ def definitions(text):
         else:
             names[name] = (parameters, term)
     return names, rows
+
+
+def written(path):
+    """The file, and behind it the files beside it that it uses."""
+    text = path.read_text()
+    module = str(path.resolve()).split('/specs/')[1].removesuffix('Table.antt').replace('/', '.')
+    beside = re.findall(r'^use Rattle\.\w+\.specs\.' + re.escape(module) + r'(\w+)\.\{', text, re.M)
+    files = [path.with_name(name + '.antt') for name in beside]
+    return text + ''.join('\n' + f.read_text() for f in files if f.exists())
 
 
 def show(term):
@@ -289,7 +298,7 @@ def plain_levels(table):
 def main():
     path = Path(sys.argv[1])
     text = path.read_text()
-    table = Table(text)
+    table = Table(written(path))
     for loop in table.loops:
         if loop not in table.rows:
             sys.exit('the loop ' + loop + ' has no row of its own')

@@ -14,7 +14,7 @@ import re
 import sys
 from pathlib import Path
 
-from table_sets import Parser, Table, definitions, show
+from table_sets import Parser, Table, definitions, show, written
 
 FUEL = 30
 BIND = '◌>>=◌ {B = List N × ℕ}'
@@ -107,7 +107,7 @@ level_row ts room l i h = room_step (source ts) sets (suc (length ts)) grammar r
 def main():
     path, modes = Path(sys.argv[1]).resolve(), sys.argv[2:]
     text = path.read_text()
-    table, rows = Table(text), definitions(text)[1]
+    table, rows = Table(written(path)), definitions(text)[1]
     crate = re.search(r'crates/([^/]+)/specs/', str(path))[1]
     place = str(path).split('/specs/')[1].removesuffix('/Table.antt')
     module = f'Rattle.{crate}.specs.{place.replace("/", ".")}'

@@ -1,0 +1,280 @@
+//! Declarators, and the parameters of functions.
+
+use crate::lists::{Listed, list};
+use crate::look::{is, is_among, span_at, start_at, text_at};
+use crate::make::{absent, graft_one, id, leaf, over_one, over_two};
+use crate::operators::assign;
+use crate::part::Part;
+use crate::settle::{NAMES, SPEC_WORDS, opens_declarator};
+use crate::types::{Spelt, maybe_declarator, spec, spell};
+use crate::word::{Token, Word};
+use node_tree::{Kind, ReadFault, Text};
+use std::alloc::Global;
+
+/// Whether a declarator has a name.
+#[derive(Clone, Copy, Debug, PartialEq, Eq)]
+pub enum Naming {
+    Named,
+    Nameless,
+    Maybe,
+}
+
+const NAMED_STARTS: [Word; 4] = [Word::Star, Word::Name, Word::Meta, Word::OpenRound];
+
+const NAMELESS_STARTS: [Word; 3] = [Word::Star, Word::OpenRound, Word::OpenSquare];
+
+const MAYBE_STARTS: [Word; 5] = [
+    Word::Star,
+    Word::OpenRound,
+    Word::Name,
+    Word::Meta,
+    Word::OpenSquare,
+];
+
+/// What begins the size of an array.
+const SIZE_STARTS: [Word; 16] = [
+    Word::Name,
+    Word::Meta,
+    Word::Number,
+    Word::Char,
+    Word::Str,
+    Word::StrAny,
+    Word::OpenRound,
+    Word::Ampersand,
+    Word::Star,
+    Word::Sign,
+    Word::Flip,
+    Word::Step,
+    Word::Sizeof,
+    Word::MetaDots,
+    Word::Dots,
+    Word::DeepOpen,
+];
+
+/// What stands in the place of parameters.
+const DOTS: [Word; 2] = [Word::Dots, Word::MetaDots];
+
+/// The words that a declarator begins with.
+fn starts(naming: Naming) -> &'static [Word] {
+    match naming {
+        Naming::Named => &NAMED_STARTS,
+        Naming::Nameless => &NAMELESS_STARTS,
+        Naming::Maybe => &MAYBE_STARTS,
+    }
+}
+
+/// Whether a declarator begins there.
+pub fn starts_declarator(tokens: &[Token<'_>], naming: Naming, at: usize) -> bool {
+    is_among(tokens, at, starts(naming))
+}
+
+/// `"*" words declr | direct`
+#[cycle(reader)]
+pub fn declarator(
+    alloc: Global,
+    tokens: &[Token<'_>],
+    naming: Naming,
+    room: u32,
+    at: usize,
+) -> Result<(Part, usize), ReadFault> {
+    if room == 0 {
+        return Err(ReadFault::NoTree);
+    }
+    if !is(tokens, at, Word::Star) {
+        return direct(alloc, tokens, naming, room, at);
+    }
+    let (text, end) = words(alloc, tokens, room, at + 1)?;
+    let (kid, end) = pointed(alloc, tokens, naming, room - 1, start_at(tokens, at), end)?;
+    let span = span_at(tokens, at, end);
+    let part = over_one(alloc, Kind::Ptr, text, span, kid)?;
+    Ok((part, end))
+}
+
+/// What a pointer points to, which may be left out with the name.
+#[cycle(reader)]
+fn pointed(
+    alloc: Global,
+    tokens: &[Token<'_>],
+    naming: Naming,
+    room: u32,
+    from: u32,
+    at: usize,
+) -> Result<(Part, usize), ReadFault> {
+    match naming {
+        Naming::Named => declarator(alloc, tokens, naming, room, at),
+        Naming::Nameless | Naming::Maybe => {
+            maybe_declarator(alloc, tokens, naming, room, from, at)
+        }
+    }
+}
+
+/// The words behind a `*`, with a space between two.
+fn words(
+    alloc: Global,
+    tokens: &[Token<'_>],
+    room: u32,
+    at: usize,
+) -> Result<(Text, usize), ReadFault> {
+    if room == 0 {
+        return Err(ReadFault::NoTree);
+    }
+    let mut spelt = Spelt {
+        text: Text::new(alloc),
+        kids: Vec::new(alloc),
+    };
+    let mut end = at;
+    for turn in 0..=tokens.len() {
+        if !is_among(tokens, end, &SPEC_WORDS) {
+            let Spelt { text, kids } = spelt;
+            return Ok((text, end));
+        }
+        spelt = spell(tokens, spelt, end)?;
+        end += 1;
+    }
+    Err(ReadFault::NoTree)
+}
+
+/// `Id | "(" declr ")"` and the brackets behind it, or these alone where there is no name
+#[cycle(reader)]
+fn direct(
+    alloc: Global,
+    tokens: &[Token<'_>],
+    naming: Naming,
+    room: u32,
+    at: usize,
+) -> Result<(Part, usize), ReadFault> {
+    if room == 0 {
+        return Err(ReadFault::NoTree);
+    }
+    let from = start_at(tokens, at);
+    let nests = match naming {
+        Naming::Named => is(tokens, at, Word::OpenRound),
+        Naming::Nameless | Naming::Maybe => opens_declarator(tokens, at),
+    };
+    if nests {
+        let (inner, close) = declarator(alloc, tokens, naming, room - 1, at + 1)?;
+        if !is(tokens, close, Word::CloseRound) {
+            return Err(ReadFault::NoTree);
+        }
+        return brackets(alloc, tokens, room, from, inner, close + 1);
+    }
+    if naming != Naming::Nameless {
+        if is_among(tokens, at, &NAMES) {
+            let name = id(alloc, tokens, at)?;
+            return brackets(alloc, tokens, room, from, name, at + 1);
+        }
+    }
+    if naming == Naming::Named {
+        return Err(ReadFault::NoTree);
+    }
+    let (part, end) = bracket(alloc, tokens, room, from, absent(alloc, from), at)?;
+    brackets(alloc, tokens, room, from, part, end)
+}
+
+/// `{"[" [assign] "]" | "(" [params] ")"}`, put over what stands before it
+#[cycle(reader)]
+fn brackets(
+    alloc: Global,
+    tokens: &[Token<'_>],
+    room: u32,
+    from: u32,
+    first: Part,
+    at: usize,
+) -> Result<(Part, usize), ReadFault> {
+    if room == 0 {
+        return Err(ReadFault::NoTree);
+    }
+    let mut part = first;
+    let mut end = at;
+    for turn in 0..=tokens.len() {
+        if !is_among(tokens, end, &[Word::OpenSquare, Word::OpenRound]) {
+            return Ok((part, end));
+        }
+        (part, end) = bracket(alloc, tokens, room, from, part, end)?;
+    }
+    Err(ReadFault::NoTree)
+}
+
+/// `"[" [assign] "]" | "(" [params] ")"`, put over what stands before it
+#[cycle(reader)]
+fn bracket(
+    alloc: Global,
+    tokens: &[Token<'_>],
+    room: u32,
+    from: u32,
+    left: Part,
+    at: usize,
+) -> Result<(Part, usize), ReadFault> {
+    if room == 0 {
+        return Err(ReadFault::NoTree);
+    }
+    if is(tokens, at, Word::OpenSquare) {
+        let (size, close) = array_size(alloc, tokens, room - 1, start_at(tokens, at), at + 1)?;
+        if !is(tokens, close, Word::CloseSquare) {
+            return Err(ReadFault::NoTree);
+        }
+        let span = span_at(tokens, at, close + 1);
+        let part = graft_one(alloc, from, left, Kind::ArrayOf, Text::new(alloc), span, size)?;
+        return Ok((part, close + 1));
+    }
+    if !is(tokens, at, Word::OpenRound) {
+        return Err(ReadFault::NoTree);
+    }
+    let (params, close) = list(alloc, tokens, Listed::Params, Kind::List, room - 1, at + 1)?;
+    if !is(tokens, close, Word::CloseRound) {
+        return Err(ReadFault::NoTree);
+    }
+    let span = span_at(tokens, at, close + 1);
+    let part = graft_one(alloc, from, left, Kind::FuncOf, Text::new(alloc), span, params)?;
+    Ok((part, close + 1))
+}
+
+/// The size of an array, which may be left out.
+#[cycle(reader)]
+fn array_size(
+    alloc: Global,
+    tokens: &[Token<'_>],
+    room: u32,
+    from: u32,
+    at: usize,
+) -> Result<(Part, usize), ReadFault> {
+    if !is_among(tokens, at, &SIZE_STARTS) {
+        return Ok((absent(alloc, from), at));
+    }
+    assign(alloc, tokens, room, at)
+}
+
+/// `spec [declr] | "..."`
+#[cycle(reader)]
+pub fn parameter(
+    alloc: Global,
+    tokens: &[Token<'_>],
+    room: u32,
+    at: usize,
+) -> Result<(Part, usize), ReadFault> {
+    if room == 0 {
+        return Err(ReadFault::NoTree);
+    }
+    if is_among(tokens, at, &DOTS) {
+        return Ok((leaf(alloc, tokens, at)?, at + 1));
+    }
+    let from = start_at(tokens, at);
+    if is(tokens, at, Word::Ellipsis) {
+        let text = Text::from_str(alloc, text_at(tokens, at))?;
+        let span = span_at(tokens, at, at + 1);
+        let part = over_two(
+            alloc,
+            Kind::ParamC,
+            text,
+            span,
+            absent(alloc, from),
+            absent(alloc, from),
+        )?;
+        return Ok((part, at + 1));
+    }
+    let (base, end) = spec(alloc, tokens, room, at)?;
+    let (name, end) = maybe_declarator(alloc, tokens, Naming::Maybe, room, from, end)?;
+    let span = span_at(tokens, at, end);
+    let part = over_two(alloc, Kind::ParamC, Text::new(alloc), span, base, name)?;
+    Ok((part, end))
+}

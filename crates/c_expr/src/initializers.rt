@@ -1,0 +1,153 @@
+//! Variables and their values.
+
+use crate::declarators::{Naming, declarator};
+use crate::lists::{Listed, items};
+use crate::look::{is, is_among, span_at, start_at};
+use crate::make::{absent, id, over, over_one, over_two};
+use crate::operators::{assign, conditional};
+use crate::part::Part;
+use crate::settle::NAMES;
+use crate::word::{Token, Word};
+use node_tree::{Kind, ReadFault, Text};
+use std::alloc::Global;
+
+/// What a designator begins with.
+const DESIGNATOR_STARTS: [Word; 2] = [Word::Dot, Word::OpenSquare];
+
+/// `declr ["=" init]`
+#[cycle(reader)]
+pub fn variable(
+    alloc: Global,
+    tokens: &[Token<'_>],
+    room: u32,
+    at: usize,
+) -> Result<(Part, usize), ReadFault> {
+    if room == 0 {
+        return Err(ReadFault::NoTree);
+    }
+    let (name, end) = declarator(alloc, tokens, Naming::Named, room, at)?;
+    let (value, end) = maybe_value(alloc, tokens, room, start_at(tokens, at), end)?;
+    let span = span_at(tokens, at, end);
+    let part = over_two(alloc, Kind::Var, Text::new(alloc), span, name, value)?;
+    Ok((part, end))
+}
+
+/// `["=" init]`
+#[cycle(reader)]
+pub fn maybe_value(
+    alloc: Global,
+    tokens: &[Token<'_>],
+    room: u32,
+    from: u32,
+    at: usize,
+) -> Result<(Part, usize), ReadFault> {
+    if !is(tokens, at, Word::Equals) {
+        return Ok((absent(alloc, from), at));
+    }
+    value(alloc, tokens, room, at + 1)
+}
+
+/// `assign | "{" [initializer {"," initializer} [","]] "}"`
+#[cycle(reader)]
+fn value(
+    alloc: Global,
+    tokens: &[Token<'_>],
+    room: u32,
+    at: usize,
+) -> Result<(Part, usize), ReadFault> {
+    if room == 0 {
+        return Err(ReadFault::NoTree);
+    }
+    if !is(tokens, at, Word::OpenCurly) {
+        return assign(alloc, tokens, room, at);
+    }
+    let (parts, close) = items(alloc, tokens, Listed::Initializers, room - 1, at + 1)?;
+    if !is(tokens, close, Word::CloseCurly) {
+        return Err(ReadFault::NoTree);
+    }
+    let span = span_at(tokens, at, close + 1);
+    let part = over(alloc, Kind::InitList, Text::new(alloc), span, parts)?;
+    Ok((part, close + 1))
+}
+
+/// `init | designator {designator} "=" init`
+#[cycle(reader)]
+pub fn initializer(
+    alloc: Global,
+    tokens: &[Token<'_>],
+    room: u32,
+    at: usize,
+) -> Result<(Part, usize), ReadFault> {
+    if room == 0 {
+        return Err(ReadFault::NoTree);
+    }
+    if !is_among(tokens, at, &DESIGNATOR_STARTS) {
+        return value(alloc, tokens, room, at);
+    }
+    let (parts, end) = designators(alloc, tokens, room, at)?;
+    let span = span_at(tokens, at, end);
+    let place = over(alloc, Kind::List, Text::new(alloc), span, parts)?;
+    if !is(tokens, end, Word::Equals) {
+        return Err(ReadFault::NoTree);
+    }
+    let (item, end) = value(alloc, tokens, room, end + 1)?;
+    let span = span_at(tokens, at, end);
+    let part = over_two(alloc, Kind::Designated, Text::new(alloc), span, place, item)?;
+    Ok((part, end))
+}
+
+/// `designator {designator}`
+#[cycle(reader)]
+fn designators(
+    alloc: Global,
+    tokens: &[Token<'_>],
+    room: u32,
+    at: usize,
+) -> Result<(Vec<Part>, usize), ReadFault> {
+    if room == 0 {
+        return Err(ReadFault::NoTree);
+    }
+    let (first, mut end) = designator(alloc, tokens, room, at)?;
+    let mut parts = vec![in alloc; first]?;
+    for turn in 0..=tokens.len() {
+        if !is_among(tokens, end, &DESIGNATOR_STARTS) {
+            return Ok((parts, end));
+        }
+        let (part, next) = designator(alloc, tokens, room, end)?;
+        parts.push(part)?;
+        end = next;
+    }
+    Err(ReadFault::NoTree)
+}
+
+/// `"." NAME | "[" cond "]"`
+#[cycle(reader)]
+fn designator(
+    alloc: Global,
+    tokens: &[Token<'_>],
+    room: u32,
+    at: usize,
+) -> Result<(Part, usize), ReadFault> {
+    if room == 0 {
+        return Err(ReadFault::NoTree);
+    }
+    if is(tokens, at, Word::Dot) {
+        if !is_among(tokens, at + 1, &NAMES) {
+            return Err(ReadFault::NoTree);
+        }
+        let name = id(alloc, tokens, at + 1)?;
+        let span = span_at(tokens, at, at + 2);
+        let part = over_one(alloc, Kind::DesField, Text::new(alloc), span, name)?;
+        return Ok((part, at + 2));
+    }
+    if !is(tokens, at, Word::OpenSquare) {
+        return Err(ReadFault::NoTree);
+    }
+    let (index, close) = conditional(alloc, tokens, room - 1, at + 1)?;
+    if !is(tokens, close, Word::CloseSquare) {
+        return Err(ReadFault::NoTree);
+    }
+    let span = span_at(tokens, at, close + 1);
+    let part = over_one(alloc, Kind::DesIndex, Text::new(alloc), span, index)?;
+    Ok((part, close + 1))
+}

@@ -1,0 +1,23 @@
+//! The expressions, types and declarators of C, read into trees.
+#![tactic(auto)]
+
+mod classify;
+mod declarators;
+mod initializers;
+mod limits;
+mod lists;
+mod look;
+mod make;
+mod members;
+mod operators;
+mod part;
+mod primaries;
+mod read;
+mod settle;
+mod types;
+mod word;
+
+pub use part::Part;
+pub use read::{CLevel, read_c};
+pub use word::{Token, Word};
+

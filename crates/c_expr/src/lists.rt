@@ -1,0 +1,167 @@
+//! Lists with commas.
+
+use crate::declarators::parameter;
+use crate::initializers::initializer;
+use crate::look::{is, is_among, span_at};
+use crate::make::over;
+use crate::members::{enumerator, member};
+use crate::part::Part;
+use crate::primaries::argument;
+use crate::word::{Token, Word};
+use node_tree::{Kind, ReadFault, Text};
+use std::alloc::Global;
+
+/// What stands in a list.
+#[derive(Clone, Copy, Debug, PartialEq, Eq)]
+pub enum Listed {
+    Args,
+    Params,
+    Members,
+    Enumerators,
+    Initializers,
+}
+
+const ARG_STARTS: [Word; 19] = [
+    Word::Name,
+    Word::Meta,
+    Word::Number,
+    Word::Char,
+    Word::Str,
+    Word::StrAny,
+    Word::OpenRound,
+    Word::Ampersand,
+    Word::Star,
+    Word::Sign,
+    Word::Flip,
+    Word::Step,
+    Word::Sizeof,
+    Word::TypeWord,
+    Word::Tag,
+    Word::Qualifier,
+    Word::MetaDots,
+    Word::Dots,
+    Word::DeepOpen,
+];
+
+const PARAM_STARTS: [Word; 8] = [
+    Word::Name,
+    Word::Meta,
+    Word::TypeWord,
+    Word::Tag,
+    Word::Qualifier,
+    Word::MetaDots,
+    Word::Dots,
+    Word::Ellipsis,
+];
+
+const MEMBER_STARTS: [Word; 4] = [Word::Star, Word::Name, Word::Meta, Word::OpenRound];
+
+const ENUMERATOR_STARTS: [Word; 2] = [Word::Name, Word::Meta];
+
+const INITIALIZER_STARTS: [Word; 19] = [
+    Word::Name,
+    Word::Meta,
+    Word::Number,
+    Word::Char,
+    Word::Str,
+    Word::StrAny,
+    Word::OpenRound,
+    Word::OpenCurly,
+    Word::Dot,
+    Word::OpenSquare,
+    Word::Ampersand,
+    Word::Star,
+    Word::Sign,
+    Word::Flip,
+    Word::Step,
+    Word::Sizeof,
+    Word::MetaDots,
+    Word::Dots,
+    Word::DeepOpen,
+];
+
+/// The words that a part of a list begins with.
+fn starts(listed: Listed) -> &'static [Word] {
+    match listed {
+        Listed::Args => &ARG_STARTS,
+        Listed::Params => &PARAM_STARTS,
+        Listed::Members => &MEMBER_STARTS,
+        Listed::Enumerators => &ENUMERATOR_STARTS,
+        Listed::Initializers => &INITIALIZER_STARTS,
+    }
+}
+
+/// Whether a comma may stand behind the last part.
+fn trails(listed: Listed) -> bool {
+    match listed {
+        Listed::Args | Listed::Params | Listed::Members => false,
+        Listed::Enumerators | Listed::Initializers => true,
+    }
+}
+
+/// A node over a list, without the brackets round it.
+#[cycle(reader)]
+pub fn list(
+    alloc: Global,
+    tokens: &[Token<'_>],
+    listed: Listed,
+    kind: Kind,
+    room: u32,
+    at: usize,
+) -> Result<(Part, usize), ReadFault> {
+    let (parts, end) = items(alloc, tokens, listed, room, at)?;
+    let span = span_at(tokens, at, end);
+    let part = over(alloc, kind, Text::new(alloc), span, parts)?;
+    Ok((part, end))
+}
+
+/// `[part {"," part} [","]]`
+#[cycle(reader)]
+pub fn items(
+    alloc: Global,
+    tokens: &[Token<'_>],
+    listed: Listed,
+    room: u32,
+    at: usize,
+) -> Result<(Vec<Part>, usize), ReadFault> {
+    if room == 0 {
+        return Err(ReadFault::NoTree);
+    }
+    if !is_among(tokens, at, starts(listed)) {
+        return Ok((Vec::new(alloc), at));
+    }
+    let (first, mut end) = item(alloc, tokens, listed, room, at)?;
+    let mut parts = vec![in alloc; first]?;
+    for turn in 0..=tokens.len() {
+        if !is(tokens, end, Word::Comma) {
+            return Ok((parts, end));
+        }
+        if trails(listed) {
+            if !is_among(tokens, end + 1, starts(listed)) {
+                return Ok((parts, end + 1));
+            }
+        }
+        let (part, next) = item(alloc, tokens, listed, room, end + 1)?;
+        parts.push(part)?;
+        end = next;
+    }
+    Err(ReadFault::NoTree)
+}
+
+/// A part of a list.
+#[cycle(reader)]
+fn item(
+    alloc: Global,
+    tokens: &[Token<'_>],
+    listed: Listed,
+    room: u32,
+    at: usize,
+) -> Result<(Part, usize), ReadFault> {
+    match listed {
+        Listed::Args => argument(alloc, tokens, room, at),
+        Listed::Params => parameter(alloc, tokens, room, at),
+        Listed::Members => member(alloc, tokens, room, at),
+        Listed::Enumerators => enumerator(alloc, tokens, room, at),
+        Listed::Initializers => initializer(alloc, tokens, room, at),
+    }
+}

@@ -1,0 +1,206 @@
+//! Type names and specs.
+
+use crate::declarators::{Naming, declarator, starts_declarator};
+use crate::look::{is, is_among, span_at, start_at, text_at};
+use crate::make::{absent, leaf, over, over_two};
+use crate::members::body;
+use crate::part::Part;
+use crate::word::{Token, Word};
+use node_tree::{Kind, Memory, ReadFault, Text};
+use std::alloc::Global;
+
+/// The words that say a type alone.
+const BARE_WORDS: [Word; 2] = [Word::Name, Word::TypeWord];
+
+/// The words that may follow them.
+const LATER_WORDS: [Word; 2] = [Word::TypeWord, Word::Qualifier];
+
+/// What goes on with words that say a type.
+const TYPED_STARTS: [Word; 3] = [Word::TypeWord, Word::Qualifier, Word::Tag];
+
+/// What goes on with a spec that has no type yet.
+const SPEC_GOES_ON: [Word; 4] = [Word::Name, Word::TypeWord, Word::Tag, Word::Qualifier];
+
+/// Spellings with a space between two, and what stands among them that is none.
+#[derive(Drop)]
+pub struct Spelt {
+    pub text: Text,
+    pub kids: Vec<Part>,
+}
+
+/// The same with the spelling there behind the others.
+pub fn spell(tokens: &[Token<'_>], spelt: Spelt, at: usize) -> Result<Spelt, Memory> {
+    let Spelt { mut text, kids } = spelt;
+    if text.len() > 0 {
+        text.push(" ")?;
+    }
+    text.push(text_at(tokens, at))?;
+    Ok(Spelt { text, kids })
+}
+
+/// `spec declr`, of which the declr has no name
+#[cycle(reader)]
+pub fn type_name(
+    alloc: Global,
+    tokens: &[Token<'_>],
+    room: u32,
+    at: usize,
+) -> Result<(Part, usize), ReadFault> {
+    if room == 0 {
+        return Err(ReadFault::NoTree);
+    }
+    let (base, end) = spec(alloc, tokens, room, at)?;
+    let (over_base, end) = maybe_declarator(alloc, tokens, Naming::Nameless, room, start_at(tokens, at), end)?;
+    let span = span_at(tokens, at, end);
+    let part = over_two(alloc, Kind::TypeName, Text::new(alloc), span, base, over_base)?;
+    Ok((part, end))
+}
+
+/// A declarator that may be left out.
+#[cycle(reader)]
+pub fn maybe_declarator(
+    alloc: Global,
+    tokens: &[Token<'_>],
+    naming: Naming,
+    room: u32,
+    from: u32,
+    at: usize,
+) -> Result<(Part, usize), ReadFault> {
+    if !starts_declarator(tokens, naming, at) {
+        return Ok((absent(alloc, from), at));
+    }
+    declarator(alloc, tokens, naming, room, at)
+}
+
+/// Words, one name at most, and groups; or one metavariable.
+#[cycle(reader)]
+pub fn spec(
+    alloc: Global,
+    tokens: &[Token<'_>],
+    room: u32,
+    at: usize,
+) -> Result<(Part, usize), ReadFault> {
+    if room == 0 {
+        return Err(ReadFault::NoTree);
+    }
+    if is(tokens, at, Word::Meta) {
+        return Ok((leaf(alloc, tokens, at)?, at + 1));
+    }
+    let spelt = Spelt {
+        text: Text::new(alloc),
+        kids: Vec::new(alloc),
+    };
+    let (spelt, end) = spec_start(alloc, tokens, room, spelt, at)?;
+    let Spelt { text, kids } = spelt;
+    let part = over(alloc, Kind::TypeSpec, text, span_at(tokens, at, end), kids)?;
+    Ok((part, end))
+}
+
+/// Qualifiers, and what else follows.
+#[cycle(reader)]
+fn spec_start(
+    alloc: Global,
+    tokens: &[Token<'_>],
+    room: u32,
+    spelt: Spelt,
+    at: usize,
+) -> Result<(Spelt, usize), ReadFault> {
+    if room == 0 {
+        return Err(ReadFault::NoTree);
+    }
+    if !is(tokens, at, Word::Qualifier) {
+        return typed(alloc, tokens, room, spelt, at);
+    }
+    let mut spelt = spell(tokens, spelt, at)?;
+    let mut end = at + 1;
+    for turn in 0..=tokens.len() {
+        if !is_among(tokens, end, &SPEC_GOES_ON) {
+            return Ok((spelt, end));
+        }
+        if !is(tokens, end, Word::Qualifier) {
+            return typed(alloc, tokens, room, spelt, end);
+        }
+        spelt = spell(tokens, spelt, end)?;
+        end += 1;
+    }
+    Err(ReadFault::NoTree)
+}
+
+/// A name, a type word or a group, and then no name.
+#[cycle(reader)]
+fn typed(
+    alloc: Global,
+    tokens: &[Token<'_>],
+    room: u32,
+    spelt: Spelt,
+    at: usize,
+) -> Result<(Spelt, usize), ReadFault> {
+    if room == 0 {
+        return Err(ReadFault::NoTree);
+    }
+    let (mut spelt, mut end) = word_or_group(alloc, tokens, &BARE_WORDS, room, spelt, at)?;
+    for turn in 0..=tokens.len() {
+        if !is_among(tokens, end, &TYPED_STARTS) {
+            return Ok((spelt, end));
+        }
+        (spelt, end) = word_or_group(alloc, tokens, &LATER_WORDS, room, spelt, end)?;
+    }
+    Err(ReadFault::NoTree)
+}
+
+/// One of these words, or a group.
+#[cycle(reader)]
+fn word_or_group(
+    alloc: Global,
+    tokens: &[Token<'_>],
+    words: &[Word],
+    room: u32,
+    spelt: Spelt,
+    at: usize,
+) -> Result<(Spelt, usize), ReadFault> {
+    if is_among(tokens, at, words) {
+        return Ok((spell(tokens, spelt, at)?, at + 1));
+    }
+    group(alloc, tokens, room, spelt, at)
+}
+
+/// `("struct" | "union" | "enum") [NAME] [body]`
+#[cycle(reader)]
+fn group(
+    alloc: Global,
+    tokens: &[Token<'_>],
+    room: u32,
+    spelt: Spelt,
+    at: usize,
+) -> Result<(Spelt, usize), ReadFault> {
+    if room == 0 {
+        return Err(ReadFault::NoTree);
+    }
+    if !is(tokens, at, Word::Tag) {
+        return Err(ReadFault::NoTree);
+    }
+    let spelt = spell(tokens, spelt, at)?;
+    if !is(tokens, at + 1, Word::Name) {
+        return maybe_body(alloc, tokens, room, spelt, at + 1);
+    }
+    let spelt = spell(tokens, spelt, at + 1)?;
+    maybe_body(alloc, tokens, room, spelt, at + 2)
+}
+
+/// `[body]`
+#[cycle(reader)]
+fn maybe_body(
+    alloc: Global,
+    tokens: &[Token<'_>],
+    room: u32,
+    spelt: Spelt,
+    at: usize,
+) -> Result<(Spelt, usize), ReadFault> {
+    if !is(tokens, at, Word::OpenCurly) {
+        return Ok((spelt, at));
+    }
+    let (inner, end) = body(alloc, tokens, room, at)?;
+    let Spelt { text, mut kids } = spelt;
+    kids.push(inner)?;
+    Ok((Spelt { text, kids }, end))
+}
