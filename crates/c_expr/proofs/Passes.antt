@@ -2,7 +2,7 @@
 use Rattle.std.proofs.Common.{◌≡◌, true, refl}
 use Rattle.grammar.specs.Check.{passes}
 use Rattle.c_expr.specs.Words.{class}
-use Rattle.c_expr.specs.Table.{Level, Comma, CommaTail, Assign, AssignRest, Cond, CondRest, Or, OrRest, OrTail, And, AndRest, AndTail, BitOr, BitOrRest, BitOrTail, BitXor, BitXorRest, BitXorTail, BitAnd, BitAndRest, BitAndTail, Equality, EqualityRest, EqualityTail, Relational, RelationalRest, RelationalTail, Shift, ShiftRest, ShiftTail, Additive, AdditiveRest, AdditiveTail, Multiplicative, MultiplicativeRest, MultiplicativeTail, Cast, Unary, Sizeof, Postfix, PostfixTail, Suffix, Prim, Strings, StringsTail, Deep, Args, ArgsTail, Arg, Tname, Spec, SpecStart, QualifiersTail, Typed, TypedFirst, TypedTail, Group, Body, Enumerators, EnumeratorsTail, Enumerator, Fields, Field, Members, MembersTail, Member, Width, Declr, DeclrFirst, Nameless, NamelessDirect, Maybe, MaybeDirect, DeclrTail, DeclrPart, Words, Params, ParamsTail, Param, Var, Init, Inis, InisTail, Ini, Desigs, DesigsTail, Desig, grammar}
+use Rattle.c_expr.specs.Table.{Level, Comma, CommaTail, Assign, AssignMore, Cond, CondMore, CondPart, Or, OrMore, OrTail, And, AndMore, AndTail, BitOr, BitOrMore, BitOrTail, BitXor, BitXorMore, BitXorTail, BitAnd, BitAndMore, BitAndTail, Equality, EqualityMore, EqualityTail, Relational, RelationalMore, RelationalTail, Shift, ShiftMore, ShiftTail, Additive, AdditiveMore, AdditiveTail, Multiplicative, MultiplicativeMore, MultiplicativeTail, Cast, Unary, Sizeof, Postfix, PostfixTail, Suffix, Prim, Strings, StringsTail, Deep, Args, ArgsTail, Arg, Tname, Spec, SpecStart, QualifiersTail, Typed, TypedFirst, TypedTail, Group, Body, Enumerators, EnumeratorsTail, Enumerator, Fields, Field, Members, MembersTail, Member, Width, Declr, NamedDirect, DeclrFirst, Nameless, NamelessDirect, Maybe, MaybeDirect, DeclrTail, DeclrPart, Stars, Words, Params, ParamsTail, Param, Var, Init, Inis, InisTail, Ini, Desigs, DesigsTail, Desig, grammar}
 use Rattle.c_expr.specs.Sets.{sets, ranks}
 
 pub pass : (l : Level) → passes grammar sets ranks l ≡ true
@@ -10,38 +10,39 @@ unfolding class
 pass Comma = refl
 pass CommaTail = refl
 pass Assign = refl
-pass AssignRest = refl
+pass AssignMore = refl
 pass Cond = refl
-pass CondRest = refl
+pass CondMore = refl
+pass CondPart = refl
 pass Or = refl
-pass OrRest = refl
+pass OrMore = refl
 pass OrTail = refl
 pass And = refl
-pass AndRest = refl
+pass AndMore = refl
 pass AndTail = refl
 pass BitOr = refl
-pass BitOrRest = refl
+pass BitOrMore = refl
 pass BitOrTail = refl
 pass BitXor = refl
-pass BitXorRest = refl
+pass BitXorMore = refl
 pass BitXorTail = refl
 pass BitAnd = refl
-pass BitAndRest = refl
+pass BitAndMore = refl
 pass BitAndTail = refl
 pass Equality = refl
-pass EqualityRest = refl
+pass EqualityMore = refl
 pass EqualityTail = refl
 pass Relational = refl
-pass RelationalRest = refl
+pass RelationalMore = refl
 pass RelationalTail = refl
 pass Shift = refl
-pass ShiftRest = refl
+pass ShiftMore = refl
 pass ShiftTail = refl
 pass Additive = refl
-pass AdditiveRest = refl
+pass AdditiveMore = refl
 pass AdditiveTail = refl
 pass Multiplicative = refl
-pass MultiplicativeRest = refl
+pass MultiplicativeMore = refl
 pass MultiplicativeTail = refl
 pass Cast = refl
 pass Unary = refl
@@ -75,6 +76,7 @@ pass MembersTail = refl
 pass Member = refl
 pass Width = refl
 pass Declr = refl
+pass NamedDirect = refl
 pass DeclrFirst = refl
 pass Nameless = refl
 pass NamelessDirect = refl
@@ -82,6 +84,7 @@ pass Maybe = refl
 pass MaybeDirect = refl
 pass DeclrTail = refl
 pass DeclrPart = refl
+pass Stars = refl
 pass Words = refl
 pass Params = refl
 pass ParamsTail = refl

@@ -6,7 +6,7 @@ use Rattle.grammar.proofs.Rounds.{turn, turned}
 use Rattle.grammar.proofs.Stable.{room_step}
 use Rattle.c_expr.specs.declared.word.Token.{Token}
 use Rattle.c_expr.specs.declared.part.Part.{Part}
-use Rattle.c_expr.specs.Table.{Level, Comma, CommaTail, Assign, AssignRest, Cond, CondRest, Or, OrRest, OrTail, And, AndRest, AndTail, BitOr, BitOrRest, BitOrTail, BitXor, BitXorRest, BitXorTail, BitAnd, BitAndRest, BitAndTail, Equality, EqualityRest, EqualityTail, Relational, RelationalRest, RelationalTail, Shift, ShiftRest, ShiftTail, Additive, AdditiveRest, AdditiveTail, Multiplicative, MultiplicativeRest, MultiplicativeTail, Cast, Unary, Sizeof, Postfix, PostfixTail, Suffix, Prim, Strings, StringsTail, Deep, Args, ArgsTail, Arg, Tname, Spec, SpecStart, QualifiersTail, Typed, TypedFirst, TypedTail, Group, Body, Enumerators, EnumeratorsTail, Enumerator, Fields, Field, Members, MembersTail, Member, Width, Declr, DeclrFirst, Nameless, NamelessDirect, Maybe, MaybeDirect, DeclrTail, DeclrPart, Words, Params, ParamsTail, Param, Var, Init, Inis, InisTail, Ini, Desigs, DesigsTail, Desig, Row, Spelling, additive_round, and_round, bit_and_round, bit_or_round, bit_xor_round, comma_round, desigs_round, equality_round, further, multiplicative_round, or_round, postfix_round, qualifiers_round, relational_round, shift_round, strings_round, trailing, typed_round, table, grammar}
+use Rattle.c_expr.specs.Table.{Level, Comma, CommaTail, Assign, AssignMore, Cond, CondMore, CondPart, Or, OrMore, OrTail, And, AndMore, AndTail, BitOr, BitOrMore, BitOrTail, BitXor, BitXorMore, BitXorTail, BitAnd, BitAndMore, BitAndTail, Equality, EqualityMore, EqualityTail, Relational, RelationalMore, RelationalTail, Shift, ShiftMore, ShiftTail, Additive, AdditiveMore, AdditiveTail, Multiplicative, MultiplicativeMore, MultiplicativeTail, Cast, Unary, Sizeof, Postfix, PostfixTail, Suffix, Prim, Strings, StringsTail, Deep, Args, ArgsTail, Arg, Tname, Spec, SpecStart, QualifiersTail, Typed, TypedFirst, TypedTail, Group, Body, Enumerators, EnumeratorsTail, Enumerator, Fields, Field, Members, MembersTail, Member, Width, Declr, NamedDirect, DeclrFirst, Nameless, NamelessDirect, Maybe, MaybeDirect, DeclrTail, DeclrPart, Stars, Words, Params, ParamsTail, Param, Var, Init, Inis, InisTail, Ini, Desigs, DesigsTail, Desig, Row, Spelling, comma_round, desigs_round, further, postfix_round, qualifiers_round, strings_round, trailing, typed_round, table, grammar}
 use Rattle.c_expr.specs.Settling.{spec_words}
 use Rattle.c_expr.specs.Build.{cut_source}
 use Rattle.c_expr.specs.Sets.{sets, ranks}
@@ -28,16 +28,16 @@ level_row ts room l i h = room_step (cut_source ts) sets (suc (length ts)) gramm
 -- what a loop goes round
 abbrev pub round_of : Level → Row
 round_of CommaTail = comma_round
-round_of OrTail = or_round
-round_of AndTail = and_round
-round_of BitOrTail = bit_or_round
-round_of BitXorTail = bit_xor_round
-round_of BitAndTail = bit_and_round
-round_of EqualityTail = equality_round
-round_of RelationalTail = relational_round
-round_of ShiftTail = shift_round
-round_of AdditiveTail = additive_round
-round_of MultiplicativeTail = multiplicative_round
+round_of OrTail = (opt (operation or_marks And · again))
+round_of AndTail = (opt (operation and_marks BitOr · again))
+round_of BitOrTail = (opt (operation bit_or_marks BitXor · again))
+round_of BitXorTail = (opt (operation bit_xor_marks BitAnd · again))
+round_of BitAndTail = (opt (operation bit_and_marks Equality · again))
+round_of EqualityTail = (opt (operation equality_marks Relational · again))
+round_of RelationalTail = (opt (operation relational_marks Shift · again))
+round_of ShiftTail = (opt (operation shift_marks Additive · again))
+round_of AdditiveTail = (opt (operation additive_marks Multiplicative · again))
+round_of MultiplicativeTail = (opt (operation multiplicative_marks Cast · again))
 round_of PostfixTail = postfix_round
 round_of StringsTail = strings_round
 round_of ArgsTail = (further Arg)
@@ -75,14 +75,47 @@ comma_tail_step ts room i h = level_row ts room CommaTail i h
 pub assign_step : (ts : List Token) (room i : ℕ) → zero < room → level ts room Assign i ≡ row ts room (λ i. None) None (table Assign) i
 assign_step ts room i h = level_row ts room Assign i h
 
-pub assign_rest_step : (ts : List Token) (room i : ℕ) → zero < room → level ts room AssignRest i ≡ row ts room (λ i. None) None (table AssignRest) i
-assign_rest_step ts room i h = level_row ts room AssignRest i h
+pub assign_more_step : (ts : List Token) (room i : ℕ) → zero < room → level ts room AssignMore i ≡ row ts room (λ i. None) None (table AssignMore) i
+assign_more_step ts room i h = level_row ts room AssignMore i h
 
 pub cond_step : (ts : List Token) (room i : ℕ) → zero < room → level ts room Cond i ≡ row ts room (λ i. None) None (table Cond) i
 cond_step ts room i h = level_row ts room Cond i h
 
-pub cond_rest_step : (ts : List Token) (room i : ℕ) → zero < room → level ts room CondRest i ≡ row ts room (λ i. None) None (table CondRest) i
-cond_rest_step ts room i h = level_row ts room CondRest i h
+pub cond_more_step : (ts : List Token) (room i : ℕ) → zero < room → level ts room CondMore i ≡ row ts room (λ i. None) None (table CondMore) i
+cond_more_step ts room i h = level_row ts room CondMore i h
+
+pub cond_part_step : (ts : List Token) (room i : ℕ) → zero < room → level ts room CondPart i ≡ row ts room (λ i. None) None (table CondPart) i
+cond_part_step ts room i h = level_row ts room CondPart i h
+
+pub or_more_step : (ts : List Token) (room i : ℕ) → zero < room → level ts room OrMore i ≡ row ts room (λ i. None) None (table OrMore) i
+or_more_step ts room i h = level_row ts room OrMore i h
+
+pub and_more_step : (ts : List Token) (room i : ℕ) → zero < room → level ts room AndMore i ≡ row ts room (λ i. None) None (table AndMore) i
+and_more_step ts room i h = level_row ts room AndMore i h
+
+pub bit_or_more_step : (ts : List Token) (room i : ℕ) → zero < room → level ts room BitOrMore i ≡ row ts room (λ i. None) None (table BitOrMore) i
+bit_or_more_step ts room i h = level_row ts room BitOrMore i h
+
+pub bit_xor_more_step : (ts : List Token) (room i : ℕ) → zero < room → level ts room BitXorMore i ≡ row ts room (λ i. None) None (table BitXorMore) i
+bit_xor_more_step ts room i h = level_row ts room BitXorMore i h
+
+pub bit_and_more_step : (ts : List Token) (room i : ℕ) → zero < room → level ts room BitAndMore i ≡ row ts room (λ i. None) None (table BitAndMore) i
+bit_and_more_step ts room i h = level_row ts room BitAndMore i h
+
+pub equality_more_step : (ts : List Token) (room i : ℕ) → zero < room → level ts room EqualityMore i ≡ row ts room (λ i. None) None (table EqualityMore) i
+equality_more_step ts room i h = level_row ts room EqualityMore i h
+
+pub relational_more_step : (ts : List Token) (room i : ℕ) → zero < room → level ts room RelationalMore i ≡ row ts room (λ i. None) None (table RelationalMore) i
+relational_more_step ts room i h = level_row ts room RelationalMore i h
+
+pub shift_more_step : (ts : List Token) (room i : ℕ) → zero < room → level ts room ShiftMore i ≡ row ts room (λ i. None) None (table ShiftMore) i
+shift_more_step ts room i h = level_row ts room ShiftMore i h
+
+pub additive_more_step : (ts : List Token) (room i : ℕ) → zero < room → level ts room AdditiveMore i ≡ row ts room (λ i. None) None (table AdditiveMore) i
+additive_more_step ts room i h = level_row ts room AdditiveMore i h
+
+pub multiplicative_more_step : (ts : List Token) (room i : ℕ) → zero < room → level ts room MultiplicativeMore i ≡ row ts room (λ i. None) None (table MultiplicativeMore) i
+multiplicative_more_step ts room i h = level_row ts room MultiplicativeMore i h
 
 pub cast_step : (ts : List Token) (room i : ℕ) → zero < room → level ts room Cast i ≡ row ts room (λ i. None) None (table Cast) i
 cast_step ts room i h = level_row ts room Cast i h
@@ -167,6 +200,9 @@ width_step ts room i h = level_row ts room Width i h
 pub declr_step : (ts : List Token) (room i : ℕ) → zero < room → level ts room Declr i ≡ row ts room (λ i. None) None (table Declr) i
 declr_step ts room i h = level_row ts room Declr i h
 
+pub named_direct_step : (ts : List Token) (room i : ℕ) → zero < room → level ts room NamedDirect i ≡ row ts room (λ i. None) None (table NamedDirect) i
+named_direct_step ts room i h = level_row ts room NamedDirect i h
+
 pub declr_first_step : (ts : List Token) (room i : ℕ) → zero < room → level ts room DeclrFirst i ≡ row ts room (λ i. None) None (table DeclrFirst) i
 declr_first_step ts room i h = level_row ts room DeclrFirst i h
 
@@ -188,6 +224,9 @@ declr_tail_step ts room i h = level_row ts room DeclrTail i h
 
 pub declr_part_step : (ts : List Token) (room i : ℕ) → zero < room → level ts room DeclrPart i ≡ row ts room (λ i. None) None (table DeclrPart) i
 declr_part_step ts room i h = level_row ts room DeclrPart i h
+
+pub stars_step : (ts : List Token) (room i : ℕ) → zero < room → level ts room Stars i ≡ row ts room (λ i. None) None (table Stars) i
+stars_step ts room i h = level_row ts room Stars i h
 
 pub words_step : (ts : List Token) (room i : ℕ) → zero < room → level ts room Words i ≡ rest ts room Words (suc (length ts)) i
 unfolding rest

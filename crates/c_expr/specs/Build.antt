@@ -13,7 +13,7 @@ use Rattle.c_expr.specs.declared.word.Token.{Token}
 use Rattle.c_expr.specs.declared.part.Part.{Part}
 use Rattle.c_expr.specs.Words as words
 use Rattle.c_expr.specs.Words.{class, shown}
-use Rattle.c_expr.specs.Table.{Leaf, Own, AsId, Spelling, Builder, Over, Named, Spelled, Chain, Rootless, Joined, Widened}
+use Rattle.c_expr.specs.Table.{Leaf, Own, AsId, Spelling, Builder, Over, Named, TypeWords, Spellings, Pointer, Chain, Rootless, Joined, Widened}
 
 -- ---- tokens
 
@@ -91,18 +91,34 @@ graft_all from t (p ∷ ps) = graft_all from (grafted from t p) ps
 -- ---- what gathers spellings
 
 -- whether a part is a spelling, which has no node of its own
-abbrev pub is_spelling : Part → Bool
-is_spelling p = eqb (kind_place (kind_of p.node)) (kind_place k.Keyword)
+unfoldable pub is_spelling : Part → Bool
+is_spelling p = eqb (kind_place (kind_of p.node)) (kind_place k.Keyword) && eqb p.depth 0
 
 -- a spelling more, with a space between two
 abbrev pub spelled_more : List ℕ → List ℕ → List ℕ
 spelled_more [] more = more
 spelled_more (c ∷ text) more = (c ∷ text) ++ (codes " " ++ more)
 
--- a node whose text is the spellings among the parts, behind a text so far, and whose kids are the others, behind kids so far
-abbrev pub gathered : Kind → ℕ → Span → List ℕ → List Part → List Part → Part
-gathered kind n span text kids [] = over kind text span (padded span.from n kids)
-gathered kind n span text kids (p ∷ ps) = cond (is_spelling p) (gathered kind n span (spelled_more text (text_of p.node)) kids ps) (gathered kind n span text (kids ++ p ∷ []) ps)
+-- the spellings among the parts, behind a text so far, and the other parts, behind others so far
+abbrev pub gathered : List ℕ × List Part → List Part → List ℕ × List Part
+gathered s [] = s
+gathered s (p ∷ ps) = gathered (cond (is_spelling p) (spelled_more s.0 (text_of p.node), s.1) (s.0, s.1 ++ p ∷ [])) ps
+
+-- a type, whose text is the spellings, and whose kids are the others
+abbrev pub type_over : Span → List ℕ × List Part → Part
+type_over span s = over k.TypeSpec s.0 span s.1
+
+-- spellings joined, which have no node of their own
+abbrev pub spellings : Span → List ℕ × List Part → Part
+spellings span s = record { node = node k.Keyword s.0 [] span; depth = tallest s.1 }
+
+-- a pointer with a text, to what the other parts say
+abbrev pub pointing : Span → List ℕ → ℕ → List Part → Part
+pointing span text depth ps = record { node = (over k.Ptr text span (padded span.from 1 ps)).node; depth = suc (max depth (tallest (padded span.from 1 ps))) }
+
+abbrev pub pointer : Span → List Part → Part
+pointer span [] = absent span.from
+pointer span (p ∷ ps) = pointing span (text_of p.node) p.depth ps
 
 -- ---- the builders
 
@@ -112,6 +128,10 @@ leaf_kind AsId Name = k.Id
 leaf_kind AsId word = words.kind_of word
 leaf_kind Spelling word = k.Keyword
 
+abbrev pub leaf_text : Leaf → Word → List ℕ → List ℕ
+leaf_text Spelling word text = text
+leaf_text _ word text = shown word text
+
 abbrev pub leaf_depth : Leaf → ℕ
 leaf_depth Own = 1
 leaf_depth AsId = 1
@@ -119,7 +139,7 @@ leaf_depth Spelling = 0
 
 -- the part of one token
 abbrev pub leaf : List Token → Leaf → ℕ → Part
-leaf ts l i = record { node = node (leaf_kind l (token_at ts i).word) (shown (token_at ts i).word (token_at ts i).text) [] (token_at ts i).span; depth = leaf_depth l }
+leaf ts l i = record { node = node (leaf_kind l (token_at ts i).word) (leaf_text l (token_at ts i).word (token_at ts i).text) [] (token_at ts i).span; depth = leaf_depth l }
 
 abbrev pub joined : Span → List Part → Part
 joined span (p ∷ []) = p
@@ -137,7 +157,9 @@ widened from (p ∷ ps) = record { node = p.node; depth = max p.depth (tallest p
 abbrev pub built : List Token → Builder → ℕ → ℕ → List Part → Part
 built ts (Over kind n) i j ps = over kind [] (span_between ts i j) (padded (start_of ts i) n ps)
 built ts (Named kind n) i j ps = over kind (token_at ts i).text (span_between ts i j) (padded (start_of ts i) n ps)
-built ts (Spelled kind n) i j ps = gathered kind n (span_between ts i j) [] [] ps
+built ts TypeWords i j ps = type_over (span_between ts i j) (gathered ([], []) ps)
+built ts Spellings i j ps = spellings (span_between ts i j) (gathered ([], []) ps)
+built ts Pointer i j ps = pointer (span_between ts i j) ps
 built ts Chain i j ps = chained (start_of ts i) ps
 built ts Rootless i j ps = graft_all (start_of ts i) (absent (start_of ts i)) ps
 built ts Joined i j ps = joined (span_between ts i j) ps
@@ -161,10 +183,39 @@ stub = record { node = node k.Absent [] [] (empty_at 0); depth = 501 }
 unfoldable pub cut : Part → Part
 cut p = cond (leb p.depth 500) p stub
 
+-- ---- the same builders, which cut off each node as it is made
+
+abbrev pub graft_cut : ℕ → Part → List Part → Part
+graft_cut from t [] = t
+graft_cut from t (p ∷ ps) = graft_cut from (cut (grafted from t p)) ps
+
+abbrev pub cut_chained : ℕ → List Part → Part
+cut_chained from [] = absent from
+cut_chained from (p ∷ ps) = graft_cut from p ps
+
+abbrev pub cut_joined : Span → List Part → Part
+cut_joined span (p ∷ []) = p
+cut_joined span ps = cut (joined span ps)
+
+abbrev pub cut_widened : ℕ → List Part → Part
+cut_widened from (p ∷ []) = p
+cut_widened from ps = cut (widened from ps)
+
+abbrev pub cut_built : List Token → Builder → ℕ → ℕ → List Part → Part
+cut_built ts Chain i j ps = cut_chained (start_of ts i) ps
+cut_built ts Rootless i j ps = graft_cut (start_of ts i) (absent (start_of ts i)) ps
+cut_built ts Joined i j ps = cut_joined (span_between ts i j) ps
+cut_built ts Widened i j ps = cut_widened (start_of ts i) ps
+cut_built ts (Over kind n) i j ps = cut (built ts (Over kind n) i j ps)
+cut_built ts (Named kind n) i j ps = cut (built ts (Named kind n) i j ps)
+cut_built ts TypeWords i j ps = cut (built ts TypeWords i j ps)
+cut_built ts Spellings i j ps = spellings (span_between ts i j) (gathered ([], []) ps)
+cut_built ts Pointer i j ps = cut (built ts Pointer i j ps)
+
 -- the tokens, for a reader that makes no tree deeper than it may be
 abbrev pub cut_source : List Token → Source Leaf Builder Part
 cut_source ts = record {
   cls = λ i. class (token_at ts i).word;
   leaf = leaf ts;
-  build = λ b i j ps. cut (built ts b i j ps) ∷ [];
+  build = λ b i j ps. cut_built ts b i j ps ∷ [];
 }

@@ -1,16 +1,242 @@
 -- What the functions of the reader read.
-use Rattle.std.specs.Prelude.{ℕ, suc, List, [], ◌∷◌, length, Option, Some, None}
+use Rattle.std.specs.Prelude.{ℕ, suc, Bool, true, false, cond, List, [], ◌∷◌, map, length, Option, Some, None, Vec}
+use Rattle.std.specs.declared.alloc.Global.{Global}
+use Rattle.node_tree.specs.declared.kind.Kind.{Kind}
+use Rattle.node_tree.specs.declared.kind.Kind.TheVariants as kinds
+use Rattle.grammar.specs.Rule.{has}
 use Rattle.grammar.specs.Reader.{read_level, ◌>>=◌}
+use Rattle.c_expr.specs.declared.word.Word.{Word}
+use Rattle.c_expr.specs.declared.word.Word.TheVariants as w
 use Rattle.c_expr.specs.declared.word.Token.{Token}
 use Rattle.c_expr.specs.declared.part.Part.{Part}
+use Rattle.c_expr.specs.declared.part.Spelt.{Spelt}
+use Rattle.c_expr.specs.declared.operators.Precedence.{Precedence}
+use Rattle.c_expr.specs.declared.operators.Precedence.TheVariants as p
+use Rattle.c_expr.specs.declared.lists.Listed.{Listed}
+use Rattle.c_expr.specs.declared.lists.Listed.TheVariants as listed
+use Rattle.c_expr.specs.declared.declarators.Naming.{Naming}
+use Rattle.c_expr.specs.declared.declarators.Naming.TheVariants as naming
+use Rattle.c_expr.specs.Words.{class}
+use Rattle.c_expr.specs.Table as t
 use Rattle.c_expr.specs.Table.{Level, table}
-use Rattle.c_expr.specs.Build.{cut_source, graft_all, cut}
+use Rattle.c_expr.specs.Settling.{names, opens_declarator}
+use Rattle.c_expr.specs.Build.{token_at, span_between, cut_source, leaf, over, built, cut, graft_cut, gathered}
 use Rattle.c_expr.specs.Sets.{sets, ranks}
 
 -- the reader of a level, by the table
 unfoldable pub level : List Token → ℕ → Level → ℕ → Option (List Part × ℕ)
 level ts room l i = read_level (cut_source ts) sets (suc (length ts)) table ranks.top room l i
 
+-- the same, or nothing where no token of those that begin the level stands there
+abbrev pub optional : List Token → ℕ → Level → ℕ → Option (List Part × ℕ)
+optional ts room l i = cond (has (sets.first l) (class (token_at ts i).word)) (level ts room l i) (Some ([], i))
+
 -- one part and where it ends
 abbrev pub one : Part × ℕ → List Part × ℕ
 one x = (x.0 ∷ [], x.1)
+
+-- several
+abbrev pub parts : Vec Part Global × ℕ → List Part × ℕ
+parts x = (x.0.items, x.1)
+
+-- one or none
+abbrev pub list_of : Option Part → List Part
+list_of None = []
+list_of (Some p) = p ∷ []
+
+abbrev pub maybe : Option Part × ℕ → List Part × ℕ
+maybe x = (list_of x.0, x.1)
+
+-- what stands behind `=`, if it stands there
+abbrev pub behind_equals : List Token → ℕ → Level → ℕ → Option (List Part × ℕ)
+behind_equals ts room l i = cond (has (class w.Equals ∷ []) (class (token_at ts i).word)) (level ts room l (suc i)) (Some ([], i))
+
+-- what is read, put over what stands before it
+abbrev pub grafting : ℕ → Part → Option (List Part × ℕ) → Option (List Part × ℕ)
+grafting from left read = read >>= λ x. Some (graft_cut from left x.0 ∷ [], x.1)
+
+-- what is read, behind spellings and others so far
+abbrev pub gathering : List ℕ × List Part → Option (List Part × ℕ) → Option ((List ℕ × List Part) × ℕ)
+gathering s read = read >>= λ x. Some (gathered s x.0, x.1)
+
+-- spellings and others, and where they end
+abbrev pub seen : Spelt × ℕ → (List ℕ × List Part) × ℕ
+seen x = ((x.0.text, x.0.kids.items), x.1)
+
+-- spellings alone
+abbrev pub words_seen : List ℕ × ℕ → (List ℕ × List Part) × ℕ
+words_seen x = ((x.0, []), x.1)
+
+-- ---- levels of operators
+
+abbrev pub chain_level : Precedence → Level
+chain_level p.Multiplicative = t.Multiplicative
+chain_level p.Additive = t.Additive
+chain_level p.Shift = t.Shift
+chain_level p.Relational = t.Relational
+chain_level p.Equality = t.Equality
+chain_level p.BitAnd = t.BitAnd
+chain_level p.BitXor = t.BitXor
+chain_level p.BitOr = t.BitOr
+chain_level p.And = t.And
+chain_level p.Or = t.Or
+
+abbrev pub more_level : Precedence → Level
+more_level p.Multiplicative = t.MultiplicativeMore
+more_level p.Additive = t.AdditiveMore
+more_level p.Shift = t.ShiftMore
+more_level p.Relational = t.RelationalMore
+more_level p.Equality = t.EqualityMore
+more_level p.BitAnd = t.BitAndMore
+more_level p.BitXor = t.BitXorMore
+more_level p.BitOr = t.BitOrMore
+more_level p.And = t.AndMore
+more_level p.Or = t.OrMore
+
+abbrev pub tail_level : Precedence → Level
+tail_level p.Multiplicative = t.MultiplicativeTail
+tail_level p.Additive = t.AdditiveTail
+tail_level p.Shift = t.ShiftTail
+tail_level p.Relational = t.RelationalTail
+tail_level p.Equality = t.EqualityTail
+tail_level p.BitAnd = t.BitAndTail
+tail_level p.BitXor = t.BitXorTail
+tail_level p.BitOr = t.BitOrTail
+tail_level p.And = t.AndTail
+tail_level p.Or = t.OrTail
+
+abbrev pub operators : Precedence → List Word
+operators p.Multiplicative = w.Star ∷ w.Slash ∷ []
+operators p.Additive = w.Sign ∷ []
+operators p.Shift = w.Shift ∷ []
+operators p.Relational = w.Order ∷ []
+operators p.Equality = w.Equality ∷ []
+operators p.BitAnd = w.Ampersand ∷ []
+operators p.BitXor = w.Caret ∷ []
+operators p.BitOr = w.Bar ∷ []
+operators p.And = w.And ∷ []
+operators p.Or = w.Or ∷ []
+
+-- the words that begin what goes on with a chain
+abbrev pub goes_on : Precedence → List Word
+goes_on p.Multiplicative = w.Star ∷ w.Slash ∷ []
+goes_on p.Additive = w.Sign ∷ w.Star ∷ w.Slash ∷ []
+goes_on p.Shift = w.Shift ∷ w.Sign ∷ w.Star ∷ w.Slash ∷ []
+goes_on p.Relational = w.Order ∷ w.Shift ∷ w.Sign ∷ w.Star ∷ w.Slash ∷ []
+goes_on p.Equality = w.Equality ∷ w.Order ∷ w.Shift ∷ w.Sign ∷ w.Star ∷ w.Slash ∷ []
+goes_on p.BitAnd = w.Ampersand ∷ w.Equality ∷ w.Order ∷ w.Shift ∷ w.Sign ∷ w.Star ∷ w.Slash ∷ []
+goes_on p.BitXor = w.Caret ∷ w.Ampersand ∷ w.Equality ∷ w.Order ∷ w.Shift ∷ w.Sign ∷ w.Star ∷ w.Slash ∷ []
+goes_on p.BitOr = w.Bar ∷ w.Caret ∷ w.Ampersand ∷ w.Equality ∷ w.Order ∷ w.Shift ∷ w.Sign ∷ w.Star ∷ w.Slash ∷ []
+goes_on p.And = w.And ∷ w.Bar ∷ w.Caret ∷ w.Ampersand ∷ w.Equality ∷ w.Order ∷ w.Shift ∷ w.Sign ∷ w.Star ∷ w.Slash ∷ []
+goes_on p.Or = w.Or ∷ w.And ∷ w.Bar ∷ w.Caret ∷ w.Ampersand ∷ w.Equality ∷ w.Order ∷ w.Shift ∷ w.Sign ∷ w.Star ∷ w.Slash ∷ []
+
+abbrev pub tighter : Precedence → Option Precedence
+tighter p.Multiplicative = None
+tighter p.Additive = Some p.Multiplicative
+tighter p.Shift = Some p.Additive
+tighter p.Relational = Some p.Shift
+tighter p.Equality = Some p.Relational
+tighter p.BitAnd = Some p.Equality
+tighter p.BitXor = Some p.BitAnd
+tighter p.BitOr = Some p.BitXor
+tighter p.And = Some p.BitOr
+tighter p.Or = Some p.And
+
+-- the level of the right side
+abbrev pub right_level : Option Precedence → Level
+right_level None = t.Cast
+right_level (Some inner) = chain_level inner
+
+-- an operator of a level, and its right side
+abbrev pub operation_read : List Token → ℕ → Precedence → ℕ → Option (List Part × ℕ)
+operation_read ts room k i = cond (has (map class (operators k)) (class (token_at ts i).word)) (level ts room (right_level (tighter k)) (suc i) >>= λ x. Some (cut (built ts (t.Named kinds.Binary 0) i x.1 x.0) ∷ [], x.1)) None
+
+abbrev pub inner_read : List Token → ℕ → Option Precedence → ℕ → Option (List Part × ℕ)
+inner_read ts room None i = None
+inner_read ts room (Some inner) i = level ts room (more_level inner) i
+
+-- the same, or the operators that bind more tightly
+abbrev pub first_read : List Token → ℕ → Precedence → ℕ → Option (List Part × ℕ)
+first_read ts room k i = cond (has (map class (operators k)) (class (token_at ts i).word)) (operation_read ts room k i) (inner_read ts room (tighter k) i)
+
+-- ---- types
+
+-- one of these words, or a group
+abbrev pub word_or_group : List Token → ℕ → List ℕ → ℕ → Option (List Part × ℕ)
+word_or_group ts room cs i = cond (has cs (class (token_at ts i).word)) (Some (leaf ts t.Spelling i ∷ [], suc i)) (level ts room t.Group i)
+
+-- ---- lists
+
+-- a list, as a node
+abbrev pub list_read : List Token → ℕ → Listed → ℕ → Option (List Part × ℕ)
+list_read ts room k i = level ts room (list_level k) i >>= λ x. Some (cut (over kinds.List [] (span_between ts i x.1) x.0) ∷ [], x.1)
+
+abbrev pub trails : Listed → Bool
+trails listed.Args = false
+trails listed.Params = false
+trails listed.Members = false
+trails listed.Enumerators = true
+trails listed.Initializers = true
+
+abbrev pub item_starts : Listed → List Word
+item_starts listed.Args = w.Ampersand ∷ w.Sign ∷ w.Star ∷ w.OpenRound ∷ w.Flip ∷ w.Step ∷ w.Sizeof ∷ w.Name ∷ w.Meta ∷ w.Number ∷ w.Char ∷ w.MetaDots ∷ w.Dots ∷ w.Str ∷ w.StrAny ∷ w.DeepOpen ∷ w.Qualifier ∷ w.TypeWord ∷ w.Tag ∷ []
+item_starts listed.Params = w.Name ∷ w.Meta ∷ w.MetaDots ∷ w.Dots ∷ w.Qualifier ∷ w.TypeWord ∷ w.Tag ∷ w.Ellipsis ∷ []
+item_starts listed.Members = w.Star ∷ w.OpenRound ∷ w.Name ∷ w.Meta ∷ []
+item_starts listed.Enumerators = w.Name ∷ w.Meta ∷ []
+item_starts listed.Initializers = w.Ampersand ∷ w.Sign ∷ w.Star ∷ w.OpenRound ∷ w.Flip ∷ w.Step ∷ w.Sizeof ∷ w.OpenSquare ∷ w.Dot ∷ w.Name ∷ w.Meta ∷ w.Number ∷ w.Char ∷ w.MetaDots ∷ w.Dots ∷ w.Str ∷ w.StrAny ∷ w.DeepOpen ∷ w.OpenCurly ∷ []
+
+abbrev pub list_level : Listed → Level
+list_level listed.Args = t.Args
+list_level listed.Params = t.Params
+list_level listed.Members = t.Members
+list_level listed.Enumerators = t.Enumerators
+list_level listed.Initializers = t.Inis
+
+abbrev pub list_tail : Listed → Level
+list_tail listed.Args = t.ArgsTail
+list_tail listed.Params = t.ParamsTail
+list_tail listed.Members = t.MembersTail
+list_tail listed.Enumerators = t.EnumeratorsTail
+list_tail listed.Initializers = t.InisTail
+
+abbrev pub item_level : Listed → Level
+item_level listed.Args = t.Arg
+item_level listed.Params = t.Param
+item_level listed.Members = t.Member
+item_level listed.Enumerators = t.Enumerator
+item_level listed.Initializers = t.Ini
+
+-- ---- declarators
+
+abbrev pub declr_level : Naming → Level
+declr_level naming.Named = t.Declr
+declr_level naming.Nameless = t.Nameless
+declr_level naming.Maybe = t.Maybe
+
+abbrev pub direct_level : Naming → Level
+direct_level naming.Named = t.NamedDirect
+direct_level naming.Nameless = t.NamelessDirect
+direct_level naming.Maybe = t.MaybeDirect
+
+abbrev pub declr_starts : Naming → List Word
+declr_starts naming.Named = w.Star ∷ w.OpenRound ∷ w.Name ∷ w.Meta ∷ []
+declr_starts naming.Nameless = w.Star ∷ w.OpenRound ∷ w.OpenSquare ∷ []
+declr_starts naming.Maybe = w.Star ∷ w.OpenRound ∷ w.OpenSquare ∷ w.Name ∷ w.Meta ∷ []
+
+-- what a pointer points to
+abbrev pub pointed_read : List Token → ℕ → Naming → ℕ → Option (List Part × ℕ)
+pointed_read ts room naming.Named i = level ts room t.Declr i
+pointed_read ts room naming.Nameless i = optional ts room t.Nameless i
+pointed_read ts room naming.Maybe i = optional ts room t.Maybe i
+
+-- whether `(` opens a nested declarator
+abbrev pub opens_nested : Naming → (ℕ → ℕ) → ℕ → Bool
+opens_nested naming.Named f i = has (class w.OpenRound ∷ []) (f i)
+opens_nested naming.Nameless f i = opens_declarator f i
+opens_nested naming.Maybe f i = opens_declarator f i
+
+-- whether a name stands there, where one may
+abbrev pub takes_name : Naming → (ℕ → ℕ) → ℕ → Bool
+takes_name naming.Named f i = has names (f i)
+takes_name naming.Nameless f i = false
+takes_name naming.Maybe f i = has names (f i)

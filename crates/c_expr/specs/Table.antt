@@ -5,45 +5,46 @@ use Rattle.node_tree.specs.declared.kind.Kind.TheVariants as k
 use Rattle.c_expr.specs.declared.word.Word.{Word}
 use Rattle.c_expr.specs.declared.word.Word.TheVariants as w
 use Rattle.c_expr.specs.Words.{class}
-use Rattle.c_expr.specs.Settling.{names, spec_words, assignments, opens_cast, sizes_type, takes_type, opens_declarator, opens_enumerators, assigns}
+use Rattle.c_expr.specs.Settling.{names, spec_words, assignments, opens_cast, sizes_type, takes_type, opens_declarator, opens_enumerators}
 use Rattle.grammar.specs.Rule.{Rule, mark, word, ref, deep, again, around, choose, opt, must, rep, make, ◌·◌, ◌∣◌, Grammar}
 
 pub data Level : Type 0 where
   Comma : Level
   CommaTail : Level
   Assign : Level
-  AssignRest : Level
+  AssignMore : Level
   Cond : Level
-  CondRest : Level
+  CondMore : Level
+  CondPart : Level
   Or : Level
-  OrRest : Level
+  OrMore : Level
   OrTail : Level
   And : Level
-  AndRest : Level
+  AndMore : Level
   AndTail : Level
   BitOr : Level
-  BitOrRest : Level
+  BitOrMore : Level
   BitOrTail : Level
   BitXor : Level
-  BitXorRest : Level
+  BitXorMore : Level
   BitXorTail : Level
   BitAnd : Level
-  BitAndRest : Level
+  BitAndMore : Level
   BitAndTail : Level
   Equality : Level
-  EqualityRest : Level
+  EqualityMore : Level
   EqualityTail : Level
   Relational : Level
-  RelationalRest : Level
+  RelationalMore : Level
   RelationalTail : Level
   Shift : Level
-  ShiftRest : Level
+  ShiftMore : Level
   ShiftTail : Level
   Additive : Level
-  AdditiveRest : Level
+  AdditiveMore : Level
   AdditiveTail : Level
   Multiplicative : Level
-  MultiplicativeRest : Level
+  MultiplicativeMore : Level
   MultiplicativeTail : Level
   Cast : Level
   Unary : Level
@@ -77,6 +78,7 @@ pub data Level : Type 0 where
   Member : Level
   Width : Level
   Declr : Level
+  NamedDirect : Level
   DeclrFirst : Level
   Nameless : Level
   NamelessDirect : Level
@@ -84,6 +86,7 @@ pub data Level : Type 0 where
   MaybeDirect : Level
   DeclrTail : Level
   DeclrPart : Level
+  Stars : Level
   Words : Level
   Params : Level
   ParamsTail : Level
@@ -109,8 +112,12 @@ pub data Builder : Type 0 where
   Over : Kind → ℕ → Builder
   -- the same with the text of its first token
   Named : Kind → ℕ → Builder
-  -- the same with the spellings as its text
-  Spelled : Kind → ℕ → Builder
+  -- a type, with the spellings as its text and the bodies as its kids
+  TypeWords : Builder
+  -- spellings joined
+  Spellings : Builder
+  -- a pointer, from its words and what it points to
+  Pointer : Builder
   -- the first, with each of the others put over it in turn
   Chain : Builder
   -- the same over a name that is left out
@@ -124,7 +131,9 @@ pub data Builder : Type 0 where
 abbrev pub strong : Builder → Bool
 strong (Over kind n) = true
 strong (Named kind n) = true
-strong (Spelled kind n) = true
+strong TypeWords = true
+strong Spellings = false
+strong Pointer = true
 strong Chain = false
 strong Rootless = false
 strong Joined = false
@@ -243,40 +252,10 @@ or_marks = class w.Or ∷ []
 
 -- an operator and its right side
 abbrev pub operation : List ℕ → Level → Row
-operation cs right = opt (make (Named k.Binary 0) (mark cs · ref right) · again)
+operation cs right = make (Named k.Binary 0) (mark cs · ref right)
 
 abbrev pub comma_round : Row
-comma_round = operation (class w.Comma ∷ []) Assign
-
-abbrev pub multiplicative_round : Row
-multiplicative_round = operation multiplicative_marks Cast
-
-abbrev pub additive_round : Row
-additive_round = operation additive_marks Multiplicative
-
-abbrev pub shift_round : Row
-shift_round = operation shift_marks Additive
-
-abbrev pub relational_round : Row
-relational_round = operation relational_marks Shift
-
-abbrev pub equality_round : Row
-equality_round = operation equality_marks Relational
-
-abbrev pub bit_and_round : Row
-bit_and_round = operation bit_and_marks Equality
-
-abbrev pub bit_xor_round : Row
-bit_xor_round = operation bit_xor_marks BitAnd
-
-abbrev pub bit_or_round : Row
-bit_or_round = operation bit_or_marks BitXor
-
-abbrev pub and_round : Row
-and_round = operation and_marks BitOr
-
-abbrev pub or_round : Row
-or_round = operation or_marks And
+comma_round = opt (operation (class w.Comma ∷ []) Assign · again)
 
 abbrev pub postfix_round : Row
 postfix_round = opt (ref Suffix · again)
@@ -301,52 +280,53 @@ table Comma = make Chain (ref Assign · ref CommaTail)
 table CommaTail = rep CommaTail comma_round
 -- assign = unary aop assign                         AssignE(op)[l, r] | cond                        (6.5.16)
 -- a cond that begins with a cast has no assignment behind it, and any other begins with a unary
-table Assign = choose opens_cast (make Chain (ref Cast · ref CondRest)) (make Chain (ref Unary · ref AssignRest))
-table AssignRest = choose assigns (make (Named k.AssignE 0) (mark assignments · deep Assign)) (ref CondRest)
+table Assign = choose opens_cast (make Chain (ref Cast · opt (ref CondMore))) (make Chain (ref Unary · opt (ref AssignMore)))
+table AssignMore = make (Named k.AssignE 0) (mark assignments · deep Assign) ∣ ref CondMore
 -- cond = lor "?" comma ":" cond                     Cond[c, a, b] | lor                             (6.5.15)
-table Cond = make Chain (ref Cast · ref CondRest)
+table Cond = make Chain (ref Cast · opt (ref CondMore))
 -- what stands behind the first cast of a cond
-table CondRest = ref OrRest · opt (make (Over k.Cond 0) (tok w.Question · deep Comma · tok w.Colon · deep Cond))
--- or = or ("||") and                                Binary(op)[a, b] | and                          (6.5.14)
-table Or = make Chain (ref Cast · ref OrRest)
-table OrRest = ref AndRest · ref OrTail
-table OrTail = rep OrTail or_round
--- and = and ("&&") bit_or                           Binary(op)[a, b] | bit_or                       (6.5.13)
-table And = make Chain (ref Cast · ref AndRest)
-table AndRest = ref BitOrRest · ref AndTail
-table AndTail = rep AndTail and_round
--- bit_or = bit_or ("|") bit_xor                     Binary(op)[a, b] | bit_xor                      (6.5.12)
-table BitOr = make Chain (ref Cast · ref BitOrRest)
-table BitOrRest = ref BitXorRest · ref BitOrTail
-table BitOrTail = rep BitOrTail bit_or_round
--- bit_xor = bit_xor ("^") bit_and                   Binary(op)[a, b] | bit_and                      (6.5.11)
-table BitXor = make Chain (ref Cast · ref BitXorRest)
-table BitXorRest = ref BitAndRest · ref BitXorTail
-table BitXorTail = rep BitXorTail bit_xor_round
--- bit_and = bit_and ("&") equality                  Binary(op)[a, b] | equality                     (6.5.10)
-table BitAnd = make Chain (ref Cast · ref BitAndRest)
-table BitAndRest = ref EqualityRest · ref BitAndTail
-table BitAndTail = rep BitAndTail bit_and_round
--- equality = equality ("==" | "!=") relational      Binary(op)[a, b] | relational                   (6.5.9)
-table Equality = make Chain (ref Cast · ref EqualityRest)
-table EqualityRest = ref RelationalRest · ref EqualityTail
-table EqualityTail = rep EqualityTail equality_round
--- relational = relational ("<" | ">" | "<=" | ">=") shiftBinary(op)[a, b] | shift                        (6.5.8)
-table Relational = make Chain (ref Cast · ref RelationalRest)
-table RelationalRest = ref ShiftRest · ref RelationalTail
-table RelationalTail = rep RelationalTail relational_round
--- shift = shift ("<<" | ">>") additive              Binary(op)[a, b] | additive                     (6.5.7)
-table Shift = make Chain (ref Cast · ref ShiftRest)
-table ShiftRest = ref AdditiveRest · ref ShiftTail
-table ShiftTail = rep ShiftTail shift_round
--- additive = additive ("+" | "-") multiplicative    Binary(op)[a, b] | multiplicative               (6.5.6)
-table Additive = make Chain (ref Cast · ref AdditiveRest)
-table AdditiveRest = ref MultiplicativeRest · ref AdditiveTail
-table AdditiveTail = rep AdditiveTail additive_round
--- multiplicative = multiplicative ("*" | "/" | "%") castBinary(op)[a, b] | cast                         (6.5.5)
-table Multiplicative = make Chain (ref Cast · ref MultiplicativeRest)
-table MultiplicativeRest = ref MultiplicativeTail
-table MultiplicativeTail = rep MultiplicativeTail multiplicative_round
+table CondMore = ref CondPart ∣ ref OrMore · opt (ref CondPart)
+table CondPart = make (Over k.Cond 0) (tok w.Question · deep Comma · tok w.Colon · deep Cond)
+-- or = or ("||") and                                  Binary(op)[a, b] | and                          (6.5.14)
+table Or = make Chain (ref Cast · opt (ref OrMore))
+table OrMore = (operation or_marks And ∣ ref AndMore) · ref OrTail
+table OrTail = rep OrTail (opt (operation or_marks And · again))
+-- and = and ("&&") bit_or                             Binary(op)[a, b] | bit_or                       (6.5.13)
+table And = make Chain (ref Cast · opt (ref AndMore))
+table AndMore = (operation and_marks BitOr ∣ ref BitOrMore) · ref AndTail
+table AndTail = rep AndTail (opt (operation and_marks BitOr · again))
+-- bit_or = bit_or ("|") bit_xor                       Binary(op)[a, b] | bit_xor                      (6.5.12)
+table BitOr = make Chain (ref Cast · opt (ref BitOrMore))
+table BitOrMore = (operation bit_or_marks BitXor ∣ ref BitXorMore) · ref BitOrTail
+table BitOrTail = rep BitOrTail (opt (operation bit_or_marks BitXor · again))
+-- bit_xor = bit_xor ("^") bit_and                     Binary(op)[a, b] | bit_and                      (6.5.11)
+table BitXor = make Chain (ref Cast · opt (ref BitXorMore))
+table BitXorMore = (operation bit_xor_marks BitAnd ∣ ref BitAndMore) · ref BitXorTail
+table BitXorTail = rep BitXorTail (opt (operation bit_xor_marks BitAnd · again))
+-- bit_and = bit_and ("&") equality                    Binary(op)[a, b] | equality                     (6.5.10)
+table BitAnd = make Chain (ref Cast · opt (ref BitAndMore))
+table BitAndMore = (operation bit_and_marks Equality ∣ ref EqualityMore) · ref BitAndTail
+table BitAndTail = rep BitAndTail (opt (operation bit_and_marks Equality · again))
+-- equality = equality ("==" | "!=") relational        Binary(op)[a, b] | relational                   (6.5.9)
+table Equality = make Chain (ref Cast · opt (ref EqualityMore))
+table EqualityMore = (operation equality_marks Relational ∣ ref RelationalMore) · ref EqualityTail
+table EqualityTail = rep EqualityTail (opt (operation equality_marks Relational · again))
+-- relational = relational ("<" | ">" | "<=" | ">=") shift  Binary(op)[a, b] | shift                        (6.5.8)
+table Relational = make Chain (ref Cast · opt (ref RelationalMore))
+table RelationalMore = (operation relational_marks Shift ∣ ref ShiftMore) · ref RelationalTail
+table RelationalTail = rep RelationalTail (opt (operation relational_marks Shift · again))
+-- shift = shift ("<<" | ">>") additive                Binary(op)[a, b] | additive                     (6.5.7)
+table Shift = make Chain (ref Cast · opt (ref ShiftMore))
+table ShiftMore = (operation shift_marks Additive ∣ ref AdditiveMore) · ref ShiftTail
+table ShiftTail = rep ShiftTail (opt (operation shift_marks Additive · again))
+-- additive = additive ("+" | "-") multiplicative      Binary(op)[a, b] | multiplicative               (6.5.6)
+table Additive = make Chain (ref Cast · opt (ref AdditiveMore))
+table AdditiveMore = (operation additive_marks Multiplicative ∣ ref MultiplicativeMore) · ref AdditiveTail
+table AdditiveTail = rep AdditiveTail (opt (operation additive_marks Multiplicative · again))
+-- multiplicative = multiplicative ("*" | "/" | "%") cast  Binary(op)[a, b] | cast                         (6.5.5)
+table Multiplicative = make Chain (ref Cast · opt (ref MultiplicativeMore))
+table MultiplicativeMore = operation multiplicative_marks Cast · ref MultiplicativeTail
+table MultiplicativeTail = rep MultiplicativeTail (opt (operation multiplicative_marks Cast · again))
 -- cast = "(" tname ")" cast                         Cast[TypeName, e] | unary                       (6.5.4)
 table Cast = choose opens_cast (make (Over k.Cast 0) (round (deep Tname) · deep Cast)) (ref Unary)
 -- unary = ("&" | "*" | "+" | "-" | "~" | "!") cast  Unary(op)[e]                                    (6.5.3)
@@ -375,7 +355,7 @@ table Arg = choose takes_type (ref Tname) (ref Assign)
 table Tname = make (Over k.TypeName 2) (ref Spec · opt (ref Nameless))
 -- spec = at least one of: words, one optional NAME, ("struct" | "union" | "enum") [NAME] [body]   Type(spellings)[body ..]     (6.7, 6.7.2)
 -- the NAME is taken exactly where no type word and no other NAME stands before it; a Meta stands alone
-table Spec = word Own meta ∣ make (Spelled k.TypeSpec 0) (ref SpecStart)
+table Spec = word Own meta ∣ make TypeWords (ref SpecStart)
 -- qualifiers, and what else follows
 table SpecStart = word Spelling qualifiers · ref QualifiersTail ∣ ref Typed
 table QualifiersTail = rep QualifiersTail qualifiers_round
@@ -401,15 +381,18 @@ table Member = make (Over k.Var 2) (ref Width · opt (tok w.Equals · ref Init))
 table Width = make Widened (ref Declr · opt (tok w.Colon · ref Cond))
 -- ---- declarators
 -- declr = "*" words declr  Ptr(words)[declr] | Id | "(" declr ")" | declr "[" [assign] "]"  ArrayOf[declr, size] | declr "(" [params] ")"  FuncOf[declr, List]     (6.7.6)
-table Declr = make (Spelled k.Ptr 1) (tok w.Star · ref Words · deep Declr) ∣ make Chain (ref DeclrFirst · ref DeclrTail)
-table DeclrFirst = word AsId names ∣ round (deep Declr)
+table Declr = make Pointer (ref Stars · deep Declr) ∣ ref NamedDirect
+table NamedDirect = make Chain (ref DeclrFirst · ref DeclrTail)
+table DeclrFirst = round (deep Declr) ∣ word AsId names
 -- the same without a name, or with a name that may be left out
-table Nameless = make (Spelled k.Ptr 1) (tok w.Star · ref Words · opt (deep Nameless)) ∣ ref NamelessDirect
+table Nameless = make Pointer (ref Stars · opt (deep Nameless)) ∣ ref NamelessDirect
 table NamelessDirect = choose opens_declarator (make Chain (round (deep Nameless) · ref DeclrTail)) (make Rootless (ref DeclrPart · ref DeclrTail))
-table Maybe = make (Spelled k.Ptr 1) (tok w.Star · ref Words · opt (deep Maybe)) ∣ ref MaybeDirect
+table Maybe = make Pointer (ref Stars · opt (deep Maybe)) ∣ ref MaybeDirect
 table MaybeDirect = choose opens_declarator (make Chain (round (deep Maybe) · ref DeclrTail)) (make Chain (word AsId names · ref DeclrTail) ∣ make Rootless (ref DeclrPart · ref DeclrTail))
 table DeclrTail = rep DeclrTail (opt (ref DeclrPart · again))
 table DeclrPart = make (Over k.ArrayOf 1) (square (opt (deep Assign))) ∣ make (Over k.FuncOf 0) (round (make (Over k.List 0) (deep Params)))
+-- the words behind a "*"
+table Stars = make Spellings (tok w.Star · ref Words)
 table Words = rep Words (opt (word Spelling spec_words · again))
 table Params = listed Param ParamsTail
 table ParamsTail = rep ParamsTail (further Param)

@@ -1,12 +1,19 @@
 //! Declarators, and the parameters of functions.
 
+ghost use Rattle.std.specs.Prelude.{◌≡◌, ◌<◌, ◌≤◌, true, [], length, IfOk, IsTrue};
+ghost use Rattle.c_expr.specs.Gives.{Gives};
+ghost use Rattle.c_expr.specs.Table as table;
+ghost use Rattle.c_expr.specs.Reading as reading;
+ghost use Rattle.c_expr.specs.Words.{none_is_end};
+ghost use Rattle.c_expr.specs.Build.{source};
+
 use crate::lists::{Listed, list};
 use crate::look::{is, is_among, span_at, start_at, text_at};
-use crate::make::{absent, graft_one, id, leaf, over_one, over_two};
+use crate::make::{absent, graft_one, id, leaf, or_absent, over_one, over_two};
 use crate::operators::assign;
-use crate::part::Part;
+use crate::part::{Part, Spelt};
 use crate::settle::{NAMES, SPEC_WORDS, opens_declarator};
-use crate::types::{Spelt, maybe_declarator, spec, spell};
+use crate::types::{spec, spell};
 use crate::word::{Token, Word};
 use node_tree::{Kind, ReadFault, Text};
 use std::alloc::Global;
@@ -19,43 +26,49 @@ pub enum Naming {
     Maybe,
 }
 
-const NAMED_STARTS: [Word; 4] = [Word::Star, Word::Name, Word::Meta, Word::OpenRound];
+const NAMED_STARTS: [Word; 4] = [Word::Star, Word::OpenRound, Word::Name, Word::Meta];
 
 const NAMELESS_STARTS: [Word; 3] = [Word::Star, Word::OpenRound, Word::OpenSquare];
 
 const MAYBE_STARTS: [Word; 5] = [
     Word::Star,
     Word::OpenRound,
+    Word::OpenSquare,
     Word::Name,
     Word::Meta,
-    Word::OpenSquare,
 ];
 
 /// What begins the size of an array.
 const SIZE_STARTS: [Word; 16] = [
+    Word::Ampersand,
+    Word::Sign,
+    Word::Star,
+    Word::OpenRound,
+    Word::Flip,
+    Word::Step,
+    Word::Sizeof,
     Word::Name,
     Word::Meta,
     Word::Number,
     Word::Char,
-    Word::Str,
-    Word::StrAny,
-    Word::OpenRound,
-    Word::Ampersand,
-    Word::Star,
-    Word::Sign,
-    Word::Flip,
-    Word::Step,
-    Word::Sizeof,
     Word::MetaDots,
     Word::Dots,
+    Word::Str,
+    Word::StrAny,
     Word::DeepOpen,
 ];
+
+/// What stands behind the name of an array or a function.
+const BRACKETS: [Word; 2] = [Word::OpenRound, Word::OpenSquare];
 
 /// What stands in the place of parameters.
 const DOTS: [Word; 2] = [Word::Dots, Word::MetaDots];
 
 /// The words that a declarator begins with.
-fn starts(naming: Naming) -> &'static [Word] {
+fn starts(naming: Naming) -> &'static [Word]
+    ensures words { result.now ≡ reading.declr_starts naming }
+    ensures some { IsTrue (none_is_end result.now) }
+{
     match naming {
         Naming::Named => &NAMED_STARTS,
         Naming::Nameless => &NAMELESS_STARTS,
@@ -63,20 +76,40 @@ fn starts(naming: Naming) -> &'static [Word] {
     }
 }
 
-/// Whether a declarator begins there.
-pub fn starts_declarator(tokens: &[Token<'_>], naming: Naming, at: usize) -> bool {
-    is_among(tokens, at, starts(naming))
+/// A declarator that may be left out.
+#[cycle(reader)]
+pub fn maybe_declarator(
+    alloc: Global,
+    tokens: &[Token<'_>],
+    naming: Naming,
+    room: u32,
+    at: usize,
+) -> Result<(Option<Part>, usize), ReadFault>
+    requires { at ≤ length tokens.now }
+    ensures within { IfOk result (λ x. x.1 ≤ length tokens.now) }
+    ensures gives { Gives reading.maybe result (reading.optional tokens.now room (reading.declr_level naming) at) }
+{
+    if !is_among(tokens, at, starts(naming)) {
+        return Ok((None, at));
+    }
+    let (part, end) = declarator(alloc, tokens, naming, room, at)?;
+    Ok((Some(part), end))
 }
 
 /// `"*" words declr | direct`
 #[cycle(reader)]
+#[tactic(auto, using(crate::proofs::Steps::level_none, crate::proofs::Steps::declr_step))]
 pub fn declarator(
     alloc: Global,
     tokens: &[Token<'_>],
     naming: Naming,
     room: u32,
     at: usize,
-) -> Result<(Part, usize), ReadFault> {
+) -> Result<(Part, usize), ReadFault>
+    requires { at ≤ length tokens.now }
+    ensures within { IfOk result (λ x. x.1 ≤ length tokens.now) }
+    ensures gives { Gives reading.one result (reading.level tokens.now room (reading.declr_level naming) at) }
+{
     if room == 0 {
         return Err(ReadFault::NoTree);
     }
@@ -84,9 +117,9 @@ pub fn declarator(
         return direct(alloc, tokens, naming, room, at);
     }
     let (text, end) = words(alloc, tokens, room, at + 1)?;
-    let (kid, end) = pointed(alloc, tokens, naming, room - 1, start_at(tokens, at), end)?;
+    let (kid, end) = pointed(alloc, tokens, naming, room - 1, end)?;
     let span = span_at(tokens, at, end);
-    let part = over_one(alloc, Kind::Ptr, text, span, kid)?;
+    let part = over_one(alloc, Kind::Ptr, text, span, or_absent(alloc, span.from, kid))?;
     Ok((part, end))
 }
 
@@ -97,24 +130,31 @@ fn pointed(
     tokens: &[Token<'_>],
     naming: Naming,
     room: u32,
-    from: u32,
     at: usize,
-) -> Result<(Part, usize), ReadFault> {
-    match naming {
-        Naming::Named => declarator(alloc, tokens, naming, room, at),
-        Naming::Nameless | Naming::Maybe => {
-            maybe_declarator(alloc, tokens, naming, room, from, at)
-        }
+) -> Result<(Option<Part>, usize), ReadFault>
+    requires { at ≤ length tokens.now }
+    ensures within { IfOk result (λ x. x.1 ≤ length tokens.now) }
+    ensures gives { Gives reading.maybe result (reading.pointed_read tokens.now room naming at) }
+{
+    if naming != Naming::Named {
+        return maybe_declarator(alloc, tokens, naming, room, at);
     }
+    let (part, end) = declarator(alloc, tokens, naming, room, at)?;
+    Ok((Some(part), end))
 }
 
 /// The words behind a `*`, with a space between two.
+#[tactic(auto, using(crate::proofs::Steps::level_none, crate::proofs::Steps::words_step, crate::proofs::Steps::words_turn, crate::proofs::Steps::rest_turned))]
 fn words(
     alloc: Global,
     tokens: &[Token<'_>],
     room: u32,
     at: usize,
-) -> Result<(Text, usize), ReadFault> {
+) -> Result<(Text, usize), ReadFault>
+    requires { at ≤ length tokens.now }
+    ensures within { IfOk result (λ x. x.1 ≤ length tokens.now) }
+    ensures gives { Gives reading.words_seen result (reading.gathering ([], []) (reading.level tokens.now room table.Words at)) }
+{
     if room == 0 {
         return Err(ReadFault::NoTree);
     }
@@ -134,35 +174,34 @@ fn words(
     Err(ReadFault::NoTree)
 }
 
-/// `Id | "(" declr ")"` and the brackets behind it, or these alone where there is no name
+/// `Id | "(" declr ")"` and the brackets behind it, or these alone where there is no name.
 #[cycle(reader)]
+#[tactic(auto, using(crate::proofs::Steps::level_none, crate::proofs::Steps::direct_step))]
 fn direct(
     alloc: Global,
     tokens: &[Token<'_>],
     naming: Naming,
     room: u32,
     at: usize,
-) -> Result<(Part, usize), ReadFault> {
+) -> Result<(Part, usize), ReadFault>
+    requires { at ≤ length tokens.now }
+    ensures within { IfOk result (λ x. x.1 ≤ length tokens.now) }
+    ensures gives { Gives reading.one result (reading.level tokens.now room (reading.direct_level naming) at) }
+{
     if room == 0 {
         return Err(ReadFault::NoTree);
     }
     let from = start_at(tokens, at);
-    let nests = match naming {
-        Naming::Named => is(tokens, at, Word::OpenRound),
-        Naming::Nameless | Naming::Maybe => opens_declarator(tokens, at),
-    };
-    if nests {
+    if opens_nested(tokens, naming, at) {
         let (inner, close) = declarator(alloc, tokens, naming, room - 1, at + 1)?;
         if !is(tokens, close, Word::CloseRound) {
             return Err(ReadFault::NoTree);
         }
         return brackets(alloc, tokens, room, from, inner, close + 1);
     }
-    if naming != Naming::Nameless {
-        if is_among(tokens, at, &NAMES) {
-            let name = id(alloc, tokens, at)?;
-            return brackets(alloc, tokens, room, from, name, at + 1);
-        }
+    if takes_name(tokens, naming, at) {
+        let name = id(alloc, tokens, at)?;
+        return brackets(alloc, tokens, room, from, name, at + 1);
     }
     if naming == Naming::Named {
         return Err(ReadFault::NoTree);
@@ -171,8 +210,31 @@ fn direct(
     brackets(alloc, tokens, room, from, part, end)
 }
 
-/// `{"[" [assign] "]" | "(" [params] ")"}`, put over what stands before it
+/// Whether a declarator in parentheses stands there.
+fn opens_nested(tokens: &[Token<'_>], naming: Naming, at: usize) -> bool
+    ensures test { result ≡ reading.opens_nested naming (source tokens.now).cls at }
+    ensures within { result ≡ true → at < length tokens.now }
+{
+    match naming {
+        Naming::Named => is(tokens, at, Word::OpenRound),
+        Naming::Nameless | Naming::Maybe => opens_declarator(tokens, at),
+    }
+}
+
+/// Whether a name stands there, where one may.
+fn takes_name(tokens: &[Token<'_>], naming: Naming, at: usize) -> bool
+    ensures test { result ≡ reading.takes_name naming (source tokens.now).cls at }
+    ensures within { result ≡ true → at < length tokens.now }
+{
+    match naming {
+        Naming::Nameless => false,
+        Naming::Named | Naming::Maybe => is_among(tokens, at, &NAMES),
+    }
+}
+
+/// `{"[" [assign] "]" | "(" [params] ")"}`, put over what stands before it.
 #[cycle(reader)]
+#[tactic(auto, using(crate::proofs::Steps::level_none, crate::proofs::Steps::declr_tail_step, crate::proofs::Steps::declr_turn, crate::proofs::Steps::rest_turned))]
 fn brackets(
     alloc: Global,
     tokens: &[Token<'_>],
@@ -180,14 +242,18 @@ fn brackets(
     from: u32,
     first: Part,
     at: usize,
-) -> Result<(Part, usize), ReadFault> {
+) -> Result<(Part, usize), ReadFault>
+    requires { at ≤ length tokens.now }
+    ensures within { IfOk result (λ x. x.1 ≤ length tokens.now) }
+    ensures gives { Gives reading.one result (reading.grafting from first (reading.level tokens.now room table.DeclrTail at)) }
+{
     if room == 0 {
         return Err(ReadFault::NoTree);
     }
     let mut part = first;
     let mut end = at;
     for turn in 0..=tokens.len() {
-        if !is_among(tokens, end, &[Word::OpenSquare, Word::OpenRound]) {
+        if !is_among(tokens, end, &BRACKETS) {
             return Ok((part, end));
         }
         (part, end) = bracket(alloc, tokens, room, from, part, end)?;
@@ -195,38 +261,46 @@ fn brackets(
     Err(ReadFault::NoTree)
 }
 
-/// `"[" [assign] "]" | "(" [params] ")"`, put over what stands before it
+/// `"[" [assign] "]" | "(" [params] ")"`, put over what stands before it.
 #[cycle(reader)]
+#[tactic(auto, using(crate::proofs::Steps::level_none, crate::proofs::Steps::declr_part_step))]
 fn bracket(
     alloc: Global,
     tokens: &[Token<'_>],
     room: u32,
     from: u32,
-    left: Part,
+    first: Part,
     at: usize,
-) -> Result<(Part, usize), ReadFault> {
+) -> Result<(Part, usize), ReadFault>
+    requires { at ≤ length tokens.now }
+    ensures within { IfOk result (λ x. x.1 ≤ length tokens.now) }
+    ensures gives { Gives reading.one result (reading.grafting from first (reading.level tokens.now room table.DeclrPart at)) }
+{
     if room == 0 {
         return Err(ReadFault::NoTree);
     }
     if is(tokens, at, Word::OpenSquare) {
-        let (size, close) = array_size(alloc, tokens, room - 1, start_at(tokens, at), at + 1)?;
+        let (size, close) = array_size(alloc, tokens, room - 1, at + 1)?;
         if !is(tokens, close, Word::CloseSquare) {
             return Err(ReadFault::NoTree);
         }
-        let span = span_at(tokens, at, close + 1);
-        let part = graft_one(alloc, from, left, Kind::ArrayOf, Text::new(alloc), span, size)?;
-        return Ok((part, close + 1));
+        let end = close + 1;
+        let span = span_at(tokens, at, end);
+        let size = or_absent(alloc, span.from, size);
+        let part = graft_one(alloc, from, first, Kind::ArrayOf, Text::new(alloc), span, size)?;
+        return Ok((part, end));
     }
     if !is(tokens, at, Word::OpenRound) {
         return Err(ReadFault::NoTree);
     }
-    let (params, close) = list(alloc, tokens, Listed::Params, Kind::List, room - 1, at + 1)?;
+    let (params, close) = list(alloc, tokens, Listed::Params, room - 1, at + 1)?;
     if !is(tokens, close, Word::CloseRound) {
         return Err(ReadFault::NoTree);
     }
-    let span = span_at(tokens, at, close + 1);
-    let part = graft_one(alloc, from, left, Kind::FuncOf, Text::new(alloc), span, params)?;
-    Ok((part, close + 1))
+    let end = close + 1;
+    let span = span_at(tokens, at, end);
+    let part = graft_one(alloc, from, first, Kind::FuncOf, Text::new(alloc), span, params)?;
+    Ok((part, end))
 }
 
 /// The size of an array, which may be left out.
@@ -235,23 +309,32 @@ fn array_size(
     alloc: Global,
     tokens: &[Token<'_>],
     room: u32,
-    from: u32,
     at: usize,
-) -> Result<(Part, usize), ReadFault> {
+) -> Result<(Option<Part>, usize), ReadFault>
+    requires { at ≤ length tokens.now }
+    ensures within { IfOk result (λ x. x.1 ≤ length tokens.now) }
+    ensures gives { Gives reading.maybe result (reading.optional tokens.now room table.Assign at) }
+{
     if !is_among(tokens, at, &SIZE_STARTS) {
-        return Ok((absent(alloc, from), at));
+        return Ok((None, at));
     }
-    assign(alloc, tokens, room, at)
+    let (part, end) = assign(alloc, tokens, room, at)?;
+    Ok((Some(part), end))
 }
 
 /// `spec [declr] | "..."`
 #[cycle(reader)]
+#[tactic(auto, using(crate::proofs::Steps::level_none, crate::proofs::Steps::param_step))]
 pub fn parameter(
     alloc: Global,
     tokens: &[Token<'_>],
     room: u32,
     at: usize,
-) -> Result<(Part, usize), ReadFault> {
+) -> Result<(Part, usize), ReadFault>
+    requires { at ≤ length tokens.now }
+    ensures within { IfOk result (λ x. x.1 ≤ length tokens.now) }
+    ensures gives { Gives reading.one result (reading.level tokens.now room table.Param at) }
+{
     if room == 0 {
         return Err(ReadFault::NoTree);
     }
@@ -262,19 +345,14 @@ pub fn parameter(
     if is(tokens, at, Word::Ellipsis) {
         let text = Text::from_str(alloc, text_at(tokens, at))?;
         let span = span_at(tokens, at, at + 1);
-        let part = over_two(
-            alloc,
-            Kind::ParamC,
-            text,
-            span,
-            absent(alloc, from),
-            absent(alloc, from),
-        )?;
+        let base = absent(alloc, from);
+        let part = over_two(alloc, Kind::ParamC, text, span, base, absent(alloc, from))?;
         return Ok((part, at + 1));
     }
     let (base, end) = spec(alloc, tokens, room, at)?;
-    let (name, end) = maybe_declarator(alloc, tokens, Naming::Maybe, room, from, end)?;
+    let (declr, end) = maybe_declarator(alloc, tokens, Naming::Maybe, room, end)?;
     let span = span_at(tokens, at, end);
-    let part = over_two(alloc, Kind::ParamC, Text::new(alloc), span, base, name)?;
+    let declr = or_absent(alloc, from, declr);
+    let part = over_two(alloc, Kind::ParamC, Text::new(alloc), span, base, declr)?;
     Ok((part, end))
 }

@@ -1,9 +1,14 @@
 //! Variables and their values.
 
+ghost use Rattle.std.specs.Prelude.{◌≤◌, length, IfOk};
+ghost use Rattle.c_expr.specs.Gives.{Gives};
+ghost use Rattle.c_expr.specs.Table as table;
+ghost use Rattle.c_expr.specs.Reading as reading;
+
 use crate::declarators::{Naming, declarator};
 use crate::lists::{Listed, items};
-use crate::look::{is, is_among, span_at, start_at};
-use crate::make::{absent, id, over, over_one, over_two};
+use crate::look::{is, is_among, span_at};
+use crate::make::{id, or_absent, over, over_one, over_two};
 use crate::operators::{assign, conditional};
 use crate::part::Part;
 use crate::settle::NAMES;
@@ -12,22 +17,27 @@ use node_tree::{Kind, ReadFault, Text};
 use std::alloc::Global;
 
 /// What a designator begins with.
-const DESIGNATOR_STARTS: [Word; 2] = [Word::Dot, Word::OpenSquare];
+const DESIGNATOR_STARTS: [Word; 2] = [Word::OpenSquare, Word::Dot];
 
 /// `declr ["=" init]`
-#[cycle(reader)]
+#[tactic(auto, using(crate::proofs::Steps::level_none, crate::proofs::Steps::var_step))]
 pub fn variable(
     alloc: Global,
     tokens: &[Token<'_>],
     room: u32,
     at: usize,
-) -> Result<(Part, usize), ReadFault> {
+) -> Result<(Part, usize), ReadFault>
+    requires { at ≤ length tokens.now }
+    ensures within { IfOk result (λ x. x.1 ≤ length tokens.now) }
+    ensures gives { Gives reading.one result (reading.level tokens.now room table.Var at) }
+{
     if room == 0 {
         return Err(ReadFault::NoTree);
     }
     let (name, end) = declarator(alloc, tokens, Naming::Named, room, at)?;
-    let (value, end) = maybe_value(alloc, tokens, room, start_at(tokens, at), end)?;
+    let (value, end) = maybe_value(alloc, tokens, room, end)?;
     let span = span_at(tokens, at, end);
+    let value = or_absent(alloc, span.from, value);
     let part = over_two(alloc, Kind::Var, Text::new(alloc), span, name, value)?;
     Ok((part, end))
 }
@@ -38,23 +48,32 @@ pub fn maybe_value(
     alloc: Global,
     tokens: &[Token<'_>],
     room: u32,
-    from: u32,
     at: usize,
-) -> Result<(Part, usize), ReadFault> {
+) -> Result<(Option<Part>, usize), ReadFault>
+    requires { at ≤ length tokens.now }
+    ensures within { IfOk result (λ x. x.1 ≤ length tokens.now) }
+    ensures gives { Gives reading.maybe result (reading.behind_equals tokens.now room table.Init at) }
+{
     if !is(tokens, at, Word::Equals) {
-        return Ok((absent(alloc, from), at));
+        return Ok((None, at));
     }
-    value(alloc, tokens, room, at + 1)
+    let (part, end) = value(alloc, tokens, room, at + 1)?;
+    Ok((Some(part), end))
 }
 
 /// `assign | "{" [initializer {"," initializer} [","]] "}"`
 #[cycle(reader)]
+#[tactic(auto, using(crate::proofs::Steps::level_none, crate::proofs::Steps::init_step))]
 fn value(
     alloc: Global,
     tokens: &[Token<'_>],
     room: u32,
     at: usize,
-) -> Result<(Part, usize), ReadFault> {
+) -> Result<(Part, usize), ReadFault>
+    requires { at ≤ length tokens.now }
+    ensures within { IfOk result (λ x. x.1 ≤ length tokens.now) }
+    ensures gives { Gives reading.one result (reading.level tokens.now room table.Init at) }
+{
     if room == 0 {
         return Err(ReadFault::NoTree);
     }
@@ -65,32 +84,38 @@ fn value(
     if !is(tokens, close, Word::CloseCurly) {
         return Err(ReadFault::NoTree);
     }
-    let span = span_at(tokens, at, close + 1);
+    let end = close + 1;
+    let span = span_at(tokens, at, end);
     let part = over(alloc, Kind::InitList, Text::new(alloc), span, parts)?;
-    Ok((part, close + 1))
+    Ok((part, end))
 }
 
 /// `init | designator {designator} "=" init`
 #[cycle(reader)]
+#[tactic(auto, using(crate::proofs::Steps::level_none, crate::proofs::Steps::ini_step))]
 pub fn initializer(
     alloc: Global,
     tokens: &[Token<'_>],
     room: u32,
     at: usize,
-) -> Result<(Part, usize), ReadFault> {
+) -> Result<(Part, usize), ReadFault>
+    requires { at ≤ length tokens.now }
+    ensures within { IfOk result (λ x. x.1 ≤ length tokens.now) }
+    ensures gives { Gives reading.one result (reading.level tokens.now room table.Ini at) }
+{
     if room == 0 {
         return Err(ReadFault::NoTree);
     }
     if !is_among(tokens, at, &DESIGNATOR_STARTS) {
         return value(alloc, tokens, room, at);
     }
-    let (parts, end) = designators(alloc, tokens, room, at)?;
-    let span = span_at(tokens, at, end);
+    let (parts, middle) = designators(alloc, tokens, room, at)?;
+    let span = span_at(tokens, at, middle);
     let place = over(alloc, Kind::List, Text::new(alloc), span, parts)?;
-    if !is(tokens, end, Word::Equals) {
+    if !is(tokens, middle, Word::Equals) {
         return Err(ReadFault::NoTree);
     }
-    let (item, end) = value(alloc, tokens, room, end + 1)?;
+    let (item, end) = value(alloc, tokens, room, middle + 1)?;
     let span = span_at(tokens, at, end);
     let part = over_two(alloc, Kind::Designated, Text::new(alloc), span, place, item)?;
     Ok((part, end))
@@ -98,12 +123,17 @@ pub fn initializer(
 
 /// `designator {designator}`
 #[cycle(reader)]
+#[tactic(auto, using(crate::proofs::Steps::level_none, crate::proofs::Steps::desigs_step, crate::proofs::Steps::desigs_turn, crate::proofs::Steps::rest_turned, crate::proofs::Steps::list_laws))]
 fn designators(
     alloc: Global,
     tokens: &[Token<'_>],
     room: u32,
     at: usize,
-) -> Result<(Vec<Part>, usize), ReadFault> {
+) -> Result<(Vec<Part>, usize), ReadFault>
+    requires { at ≤ length tokens.now }
+    ensures within { IfOk result (λ x. x.1 ≤ length tokens.now) }
+    ensures gives { Gives reading.parts result (reading.level tokens.now room table.Desigs at) }
+{
     if room == 0 {
         return Err(ReadFault::NoTree);
     }
@@ -122,12 +152,17 @@ fn designators(
 
 /// `"." NAME | "[" cond "]"`
 #[cycle(reader)]
+#[tactic(auto, using(crate::proofs::Steps::level_none, crate::proofs::Steps::desig_step))]
 fn designator(
     alloc: Global,
     tokens: &[Token<'_>],
     room: u32,
     at: usize,
-) -> Result<(Part, usize), ReadFault> {
+) -> Result<(Part, usize), ReadFault>
+    requires { at ≤ length tokens.now }
+    ensures within { IfOk result (λ x. x.1 ≤ length tokens.now) }
+    ensures gives { Gives reading.one result (reading.level tokens.now room table.Desig at) }
+{
     if room == 0 {
         return Err(ReadFault::NoTree);
     }
@@ -147,7 +182,8 @@ fn designator(
     if !is(tokens, close, Word::CloseSquare) {
         return Err(ReadFault::NoTree);
     }
-    let span = span_at(tokens, at, close + 1);
+    let end = close + 1;
+    let span = span_at(tokens, at, end);
     let part = over_one(alloc, Kind::DesIndex, Text::new(alloc), span, index)?;
-    Ok((part, close + 1))
+    Ok((part, end))
 }

@@ -1,5 +1,11 @@
 //! Lists with commas.
 
+ghost use Rattle.std.specs.Prelude.{◌≡◌, ◌≤◌, length, IfOk, IsTrue};
+ghost use Rattle.c_expr.specs.Gives.{Gives};
+ghost use Rattle.c_expr.specs.Table as table;
+ghost use Rattle.c_expr.specs.Reading as reading;
+ghost use Rattle.c_expr.specs.Words.{none_is_end};
+
 use crate::declarators::parameter;
 use crate::initializers::initializer;
 use crate::look::{is, is_among, span_at};
@@ -22,66 +28,69 @@ pub enum Listed {
 }
 
 const ARG_STARTS: [Word; 19] = [
+    Word::Ampersand,
+    Word::Sign,
+    Word::Star,
+    Word::OpenRound,
+    Word::Flip,
+    Word::Step,
+    Word::Sizeof,
     Word::Name,
     Word::Meta,
     Word::Number,
     Word::Char,
-    Word::Str,
-    Word::StrAny,
-    Word::OpenRound,
-    Word::Ampersand,
-    Word::Star,
-    Word::Sign,
-    Word::Flip,
-    Word::Step,
-    Word::Sizeof,
-    Word::TypeWord,
-    Word::Tag,
-    Word::Qualifier,
     Word::MetaDots,
     Word::Dots,
+    Word::Str,
+    Word::StrAny,
     Word::DeepOpen,
+    Word::Qualifier,
+    Word::TypeWord,
+    Word::Tag,
 ];
 
 const PARAM_STARTS: [Word; 8] = [
     Word::Name,
     Word::Meta,
-    Word::TypeWord,
-    Word::Tag,
-    Word::Qualifier,
     Word::MetaDots,
     Word::Dots,
+    Word::Qualifier,
+    Word::TypeWord,
+    Word::Tag,
     Word::Ellipsis,
 ];
 
-const MEMBER_STARTS: [Word; 4] = [Word::Star, Word::Name, Word::Meta, Word::OpenRound];
+const MEMBER_STARTS: [Word; 4] = [Word::Star, Word::OpenRound, Word::Name, Word::Meta];
 
 const ENUMERATOR_STARTS: [Word; 2] = [Word::Name, Word::Meta];
 
 const INITIALIZER_STARTS: [Word; 19] = [
+    Word::Ampersand,
+    Word::Sign,
+    Word::Star,
+    Word::OpenRound,
+    Word::Flip,
+    Word::Step,
+    Word::Sizeof,
+    Word::OpenSquare,
+    Word::Dot,
     Word::Name,
     Word::Meta,
     Word::Number,
     Word::Char,
-    Word::Str,
-    Word::StrAny,
-    Word::OpenRound,
-    Word::OpenCurly,
-    Word::Dot,
-    Word::OpenSquare,
-    Word::Ampersand,
-    Word::Star,
-    Word::Sign,
-    Word::Flip,
-    Word::Step,
-    Word::Sizeof,
     Word::MetaDots,
     Word::Dots,
+    Word::Str,
+    Word::StrAny,
     Word::DeepOpen,
+    Word::OpenCurly,
 ];
 
 /// The words that a part of a list begins with.
-fn starts(listed: Listed) -> &'static [Word] {
+fn starts(listed: Listed) -> &'static [Word]
+    ensures words { result.now ≡ reading.item_starts listed }
+    ensures some { IsTrue (none_is_end result.now) }
+{
     match listed {
         Listed::Args => &ARG_STARTS,
         Listed::Params => &PARAM_STARTS,
@@ -92,7 +101,9 @@ fn starts(listed: Listed) -> &'static [Word] {
 }
 
 /// Whether a comma may stand behind the last part.
-fn trails(listed: Listed) -> bool {
+fn trails(listed: Listed) -> bool
+    ensures { result ≡ reading.trails listed }
+{
     match listed {
         Listed::Args | Listed::Params | Listed::Members => false,
         Listed::Enumerators | Listed::Initializers => true,
@@ -105,25 +116,33 @@ pub fn list(
     alloc: Global,
     tokens: &[Token<'_>],
     listed: Listed,
-    kind: Kind,
     room: u32,
     at: usize,
-) -> Result<(Part, usize), ReadFault> {
+) -> Result<(Part, usize), ReadFault>
+    requires { at ≤ length tokens.now }
+    ensures within { IfOk result (λ x. x.1 ≤ length tokens.now) }
+    ensures gives { Gives reading.one result (reading.list_read tokens.now room listed at) }
+{
     let (parts, end) = items(alloc, tokens, listed, room, at)?;
     let span = span_at(tokens, at, end);
-    let part = over(alloc, kind, Text::new(alloc), span, parts)?;
+    let part = over(alloc, Kind::List, Text::new(alloc), span, parts)?;
     Ok((part, end))
 }
 
 /// `[part {"," part} [","]]`
 #[cycle(reader)]
+#[tactic(auto, using(crate::proofs::Steps::level_none, crate::proofs::Steps::listed_step, crate::proofs::Steps::listed_turn, crate::proofs::Steps::rest_turned, crate::proofs::Steps::list_laws))]
 pub fn items(
     alloc: Global,
     tokens: &[Token<'_>],
     listed: Listed,
     room: u32,
     at: usize,
-) -> Result<(Vec<Part>, usize), ReadFault> {
+) -> Result<(Vec<Part>, usize), ReadFault>
+    requires { at ≤ length tokens.now }
+    ensures within { IfOk result (λ x. x.1 ≤ length tokens.now) }
+    ensures gives { Gives reading.parts result (reading.level tokens.now room (reading.list_level listed) at) }
+{
     if room == 0 {
         return Err(ReadFault::NoTree);
     }
@@ -156,7 +175,11 @@ fn item(
     listed: Listed,
     room: u32,
     at: usize,
-) -> Result<(Part, usize), ReadFault> {
+) -> Result<(Part, usize), ReadFault>
+    requires { at ≤ length tokens.now }
+    ensures within { IfOk result (λ x. x.1 ≤ length tokens.now) }
+    ensures gives { Gives reading.one result (reading.level tokens.now room (reading.item_level listed) at) }
+{
     match listed {
         Listed::Args => argument(alloc, tokens, room, at),
         Listed::Params => parameter(alloc, tokens, room, at),

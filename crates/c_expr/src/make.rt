@@ -4,7 +4,8 @@ ghost use Rattle.std.specs.Prelude.{◌≡◌, ◌<◌, suc, max, length, IfOk, 
 ghost use Rattle.node_tree.specs.declared.kind.Kind.TheVariants as k;
 ghost use Rattle.c_expr.specs.Table.{Own, AsId};
 ghost use Rattle.c_expr.specs.Build as build;
-ghost use Rattle.c_expr.specs.Build.{cut, token_at};
+ghost use Rattle.c_expr.specs.Build.{cut, token_at, tallest};
+ghost use Rattle.c_expr.specs.Reading.{list_of};
 ghost use Rattle.c_expr.specs.Words as words;
 
 use crate::part::Part;
@@ -108,6 +109,16 @@ pub fn absent(alloc: Global, at: u32) -> Part
     ensures { result ≡ build.absent at }
 {
     bare(alloc, at, 1)
+}
+
+/// A part, or where it is left out what stands for it.
+pub fn or_absent(alloc: Global, from: u32, part: Option<Part>) -> Part
+    ensures { build.padded from 1 (list_of part) ≡ result ∷ [] }
+{
+    match part {
+        Some(part) => part,
+        None => absent(alloc, from),
+    }
 }
 
 /// Whether a node of this kind without kids has no tokens.
@@ -268,4 +279,19 @@ pub fn graft_two(
     let kids = vec![in alloc; settle(left.node, from), settle(kid.node, from), settle(last.node, from)]?;
     let span = Span { from, to: span.to };
     Ok(finish(alloc, kind, text, span, kids, depth))
+}
+
+/// A part whose width is so deep.
+#[tactic(auto, unfolding(crate::specs::Build::cut))]
+pub fn widen(alloc: Global, part: Part, width: Part) -> Part
+    ensures { result ≡ cut (record { node = part.node; depth = max part.depth (tallest (width ∷ [])) }) }
+{
+    let depth = part.depth.max(width.depth);
+    if depth > MAX_DEPTH {
+        return bare(alloc, 0, MAX_DEPTH + 1);
+    }
+    Part {
+        node: part.node,
+        depth,
+    }
 }

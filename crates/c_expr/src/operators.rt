@@ -1,5 +1,14 @@
 //! Expressions with operators: a function for each level of the grammar, by the token in hand.
 
+ghost use Rattle.std.specs.Prelude.{◌≡◌, ◌≤◌, [], ◌∷◌, length, map, IfOk, IsTrue};
+ghost use Rattle.node_tree.specs.declared.kind.Kind.TheVariants as kinds;
+ghost use Rattle.c_expr.specs.Gives.{Gives};
+ghost use Rattle.c_expr.specs.Words.{class, none_is_end};
+ghost use Rattle.c_expr.specs.Table as table;
+ghost use Rattle.c_expr.specs.Table.{Named};
+ghost use Rattle.c_expr.specs.Build.{cut, grafted, built};
+ghost use Rattle.c_expr.specs.Reading as reading;
+
 use crate::look::{is, is_among, span_at, start_at, text_at};
 use crate::make::{graft_one, graft_two, over_one, over_two};
 use crate::part::Part;
@@ -12,6 +21,40 @@ use std::alloc::Global;
 
 /// The unary operators in front of a cast.
 const SIGNS: [Word; 4] = [Word::Ampersand, Word::Star, Word::Sign, Word::Flip];
+
+/// What goes on with a unary at the start of an assignment.
+const ASSIGN_GOES_ON: [Word; 14] = [
+    Word::Equals,
+    Word::Assigns,
+    Word::Question,
+    Word::Or,
+    Word::And,
+    Word::Bar,
+    Word::Caret,
+    Word::Ampersand,
+    Word::Equality,
+    Word::Order,
+    Word::Shift,
+    Word::Sign,
+    Word::Star,
+    Word::Slash,
+];
+
+/// What goes on with a cast at the start of a conditional expression.
+const COND_GOES_ON: [Word; 12] = [
+    Word::Question,
+    Word::Or,
+    Word::And,
+    Word::Bar,
+    Word::Caret,
+    Word::Ampersand,
+    Word::Equality,
+    Word::Order,
+    Word::Shift,
+    Word::Sign,
+    Word::Star,
+    Word::Slash,
+];
 
 /// The operators of a level, each of which takes its operands from the left.
 #[derive(Clone, Copy, Debug, PartialEq, Eq)]
@@ -39,8 +82,21 @@ const BIT_OR: [Word; 1] = [Word::Bar];
 const AND: [Word; 1] = [Word::And];
 const OR: [Word; 1] = [Word::Or];
 
+const ADDITIVE_GOES_ON: [Word; 3] = [Word::Sign, Word::Star, Word::Slash];
+const SHIFT_GOES_ON: [Word; 4] = [Word::Shift, Word::Sign, Word::Star, Word::Slash];
+const RELATIONAL_GOES_ON: [Word; 5] = [Word::Order, Word::Shift, Word::Sign, Word::Star, Word::Slash];
+const EQUALITY_GOES_ON: [Word; 6] = [Word::Equality, Word::Order, Word::Shift, Word::Sign, Word::Star, Word::Slash];
+const BIT_AND_GOES_ON: [Word; 7] = [Word::Ampersand, Word::Equality, Word::Order, Word::Shift, Word::Sign, Word::Star, Word::Slash];
+const BIT_XOR_GOES_ON: [Word; 8] = [Word::Caret, Word::Ampersand, Word::Equality, Word::Order, Word::Shift, Word::Sign, Word::Star, Word::Slash];
+const BIT_OR_GOES_ON: [Word; 9] = [Word::Bar, Word::Caret, Word::Ampersand, Word::Equality, Word::Order, Word::Shift, Word::Sign, Word::Star, Word::Slash];
+const AND_GOES_ON: [Word; 10] = [Word::And, Word::Bar, Word::Caret, Word::Ampersand, Word::Equality, Word::Order, Word::Shift, Word::Sign, Word::Star, Word::Slash];
+const OR_GOES_ON: [Word; 11] = [Word::Or, Word::And, Word::Bar, Word::Caret, Word::Ampersand, Word::Equality, Word::Order, Word::Shift, Word::Sign, Word::Star, Word::Slash];
+
 /// The operators of a level.
-fn operators(level: Precedence) -> &'static [Word] {
+fn operators(level: Precedence) -> &'static [Word]
+    ensures words { result.now ≡ reading.operators level }
+    ensures some { IsTrue (none_is_end result.now) }
+{
     match level {
         Precedence::Multiplicative => &MULTIPLICATIVE,
         Precedence::Additive => &ADDITIVE,
@@ -55,8 +111,29 @@ fn operators(level: Precedence) -> &'static [Word] {
     }
 }
 
+/// What goes on with a cast at the start of a chain.
+fn goes_on(level: Precedence) -> &'static [Word]
+    ensures words { result.now ≡ reading.goes_on level }
+    ensures some { IsTrue (none_is_end result.now) }
+{
+    match level {
+        Precedence::Multiplicative => &MULTIPLICATIVE,
+        Precedence::Additive => &ADDITIVE_GOES_ON,
+        Precedence::Shift => &SHIFT_GOES_ON,
+        Precedence::Relational => &RELATIONAL_GOES_ON,
+        Precedence::Equality => &EQUALITY_GOES_ON,
+        Precedence::BitAnd => &BIT_AND_GOES_ON,
+        Precedence::BitXor => &BIT_XOR_GOES_ON,
+        Precedence::BitOr => &BIT_OR_GOES_ON,
+        Precedence::And => &AND_GOES_ON,
+        Precedence::Or => &OR_GOES_ON,
+    }
+}
+
 /// The next level of operators that binds more tightly.
-fn tighter(level: Precedence) -> Option<Precedence> {
+fn tighter(level: Precedence) -> Option<Precedence>
+    ensures { result ≡ reading.tighter level }
+{
     match level {
         Precedence::Multiplicative => None,
         Precedence::Additive => Some(Precedence::Multiplicative),
@@ -71,7 +148,7 @@ fn tighter(level: Precedence) -> Option<Precedence> {
     }
 }
 
-/// An operator between two operands.
+/// An operator put over what stands before it and what stands behind it.
 fn binary(
     alloc: Global,
     tokens: &[Token<'_>],
@@ -81,19 +158,26 @@ fn binary(
     at: usize,
     right: Part,
     end: usize,
-) -> Result<Part, Memory> {
+) -> Result<Part, Memory>
+    ensures { IfOk result (λ p. p ≡ cut (grafted from left (cut (built tokens.now (Named kind 0) at end (right ∷ []))))) }
+{
     let text = Text::from_str(alloc, text_at(tokens, at))?;
     graft_one(alloc, from, left, kind, text, span_at(tokens, at, end), right)
 }
 
 /// `assign {"," assign}`
 #[cycle(reader)]
+#[tactic(auto, using(crate::proofs::Steps::level_none, crate::proofs::Steps::comma_step, crate::proofs::Steps::comma_turn, crate::proofs::Steps::rest_turned))]
 pub fn comma(
     alloc: Global,
     tokens: &[Token<'_>],
     room: u32,
     at: usize,
-) -> Result<(Part, usize), ReadFault> {
+) -> Result<(Part, usize), ReadFault>
+    requires { at ≤ length tokens.now }
+    ensures within { IfOk result (λ x. x.1 ≤ length tokens.now) }
+    ensures gives { Gives reading.one result (reading.level tokens.now room table.Comma at) }
+{
     if room == 0 {
         return Err(ReadFault::NoTree);
     }
@@ -112,12 +196,17 @@ pub fn comma(
 
 /// `unary aop assign | cond`
 #[cycle(reader)]
+#[tactic(auto, using(crate::proofs::Steps::level_none, crate::proofs::Steps::assign_step))]
 pub fn assign(
     alloc: Global,
     tokens: &[Token<'_>],
     room: u32,
     at: usize,
-) -> Result<(Part, usize), ReadFault> {
+) -> Result<(Part, usize), ReadFault>
+    requires { at ≤ length tokens.now }
+    ensures within { IfOk result (λ x. x.1 ≤ length tokens.now) }
+    ensures gives { Gives reading.one result (reading.level tokens.now room table.Assign at) }
+{
     if room == 0 {
         return Err(ReadFault::NoTree);
     }
@@ -132,6 +221,7 @@ pub fn assign(
 
 /// What stands behind a unary at the start of an assign.
 #[cycle(reader)]
+#[tactic(auto, using(crate::proofs::Steps::level_none, crate::proofs::Steps::assign_more_step))]
 fn assign_rest(
     alloc: Global,
     tokens: &[Token<'_>],
@@ -139,12 +229,19 @@ fn assign_rest(
     from: u32,
     first: Part,
     at: usize,
-) -> Result<(Part, usize), ReadFault> {
+) -> Result<(Part, usize), ReadFault>
+    requires { at ≤ length tokens.now }
+    ensures within { IfOk result (λ x. x.1 ≤ length tokens.now) }
+    ensures gives { Gives reading.one result (reading.grafting from first (reading.optional tokens.now room table.AssignMore at)) }
+{
     if room == 0 {
         return Err(ReadFault::NoTree);
     }
+    if !is_among(tokens, at, &ASSIGN_GOES_ON) {
+        return Ok((first, at));
+    }
     if !assigns(tokens, at) {
-        return cond_rest(alloc, tokens, room, from, first, at);
+        return cond_more(alloc, tokens, room, from, first, at);
     }
     let (right, end) = assign(alloc, tokens, room - 1, at + 1)?;
     let part = binary(alloc, tokens, Kind::AssignE, from, first, at, right, end)?;
@@ -153,12 +250,17 @@ fn assign_rest(
 
 /// `lor "?" comma ":" cond | lor`
 #[cycle(reader)]
+#[tactic(auto, using(crate::proofs::Steps::level_none, crate::proofs::Steps::cond_step))]
 pub fn conditional(
     alloc: Global,
     tokens: &[Token<'_>],
     room: u32,
     at: usize,
-) -> Result<(Part, usize), ReadFault> {
+) -> Result<(Part, usize), ReadFault>
+    requires { at ≤ length tokens.now }
+    ensures within { IfOk result (λ x. x.1 ≤ length tokens.now) }
+    ensures gives { Gives reading.one result (reading.level tokens.now room table.Cond at) }
+{
     if room == 0 {
         return Err(ReadFault::NoTree);
     }
@@ -166,7 +268,7 @@ pub fn conditional(
     cond_rest(alloc, tokens, room, start_at(tokens, at), first, end)
 }
 
-/// What stands behind the first cast of a cond.
+/// What may stand behind the first cast of a cond.
 #[cycle(reader)]
 fn cond_rest(
     alloc: Global,
@@ -175,44 +277,106 @@ fn cond_rest(
     from: u32,
     first: Part,
     at: usize,
-) -> Result<(Part, usize), ReadFault> {
+) -> Result<(Part, usize), ReadFault>
+    requires { at ≤ length tokens.now }
+    ensures within { IfOk result (λ x. x.1 ≤ length tokens.now) }
+    ensures gives { Gives reading.one result (reading.grafting from first (reading.optional tokens.now room table.CondMore at)) }
+{
+    if !is_among(tokens, at, &COND_GOES_ON) {
+        return Ok((first, at));
+    }
+    cond_more(alloc, tokens, room, from, first, at)
+}
+
+/// What stands behind the first cast of a cond.
+#[cycle(reader)]
+#[tactic(auto, using(crate::proofs::Steps::level_none, crate::proofs::Steps::cond_more_step))]
+fn cond_more(
+    alloc: Global,
+    tokens: &[Token<'_>],
+    room: u32,
+    from: u32,
+    first: Part,
+    at: usize,
+) -> Result<(Part, usize), ReadFault>
+    requires { at ≤ length tokens.now }
+    ensures within { IfOk result (λ x. x.1 ≤ length tokens.now) }
+    ensures gives { Gives reading.one result (reading.grafting from first (reading.level tokens.now room table.CondMore at)) }
+{
     if room == 0 {
         return Err(ReadFault::NoTree);
     }
-    let (condition, end) = rest(alloc, tokens, Precedence::Or, room, from, first, at)?;
+    if is(tokens, at, Word::Question) {
+        return cond_part(alloc, tokens, room, from, first, at);
+    }
+    let (condition, end) = more(alloc, tokens, Precedence::Or, room, from, first, at)?;
     if !is(tokens, end, Word::Question) {
         return Ok((condition, end));
     }
-    let (then, colon) = comma(alloc, tokens, room - 1, end + 1)?;
+    cond_part(alloc, tokens, room, from, condition, end)
+}
+
+/// `"?" comma ":" cond`
+#[cycle(reader)]
+#[tactic(auto, using(crate::proofs::Steps::level_none, crate::proofs::Steps::cond_part_step))]
+fn cond_part(
+    alloc: Global,
+    tokens: &[Token<'_>],
+    room: u32,
+    from: u32,
+    first: Part,
+    at: usize,
+) -> Result<(Part, usize), ReadFault>
+    requires { at ≤ length tokens.now }
+    ensures within { IfOk result (λ x. x.1 ≤ length tokens.now) }
+    ensures gives { Gives reading.one result (reading.grafting from first (reading.level tokens.now room table.CondPart at)) }
+{
+    if room == 0 {
+        return Err(ReadFault::NoTree);
+    }
+    if !is(tokens, at, Word::Question) {
+        return Err(ReadFault::NoTree);
+    }
+    let (then, colon) = comma(alloc, tokens, room - 1, at + 1)?;
     if !is(tokens, colon, Word::Colon) {
         return Err(ReadFault::NoTree);
     }
-    let (other, next) = conditional(alloc, tokens, room - 1, colon + 1)?;
+    let (other, end) = conditional(alloc, tokens, room - 1, colon + 1)?;
     let text = Text::new(alloc);
-    let span = span_at(tokens, end, next);
-    let part = graft_two(alloc, from, condition, Kind::Cond, text, span, then, other)?;
-    Ok((part, next))
+    let span = span_at(tokens, at, end);
+    let part = graft_two(alloc, from, first, Kind::Cond, text, span, then, other)?;
+    Ok((part, end))
 }
 
 /// Operators of a level and of those that bind more tightly, between casts.
 #[cycle(reader)]
+#[tactic(auto, using(crate::proofs::Steps::level_none, crate::proofs::Steps::chain_step))]
 pub fn chain(
     alloc: Global,
     tokens: &[Token<'_>],
     level: Precedence,
     room: u32,
     at: usize,
-) -> Result<(Part, usize), ReadFault> {
+) -> Result<(Part, usize), ReadFault>
+    requires { at ≤ length tokens.now }
+    ensures within { IfOk result (λ x. x.1 ≤ length tokens.now) }
+    ensures gives { Gives reading.one result (reading.level tokens.now room (reading.chain_level level) at) }
+{
     if room == 0 {
         return Err(ReadFault::NoTree);
     }
     let (first, end) = cast(alloc, tokens, room, at)?;
-    rest(alloc, tokens, level, room, start_at(tokens, at), first, end)
+    let from = start_at(tokens, at);
+    if !is_among(tokens, end, goes_on(level)) {
+        return Ok((first, end));
+    }
+    more(alloc, tokens, level, room, from, first, end)
 }
 
 /// What stands behind the first cast of a chain.
 #[cycle(reader)]
-fn rest(
+#[tactic(auto, using(crate::proofs::Steps::level_none, crate::proofs::Steps::more_step))]
+fn more(
     alloc: Global,
     tokens: &[Token<'_>],
     level: Precedence,
@@ -220,23 +384,93 @@ fn rest(
     from: u32,
     first: Part,
     at: usize,
-) -> Result<(Part, usize), ReadFault> {
+) -> Result<(Part, usize), ReadFault>
+    requires { at ≤ length tokens.now }
+    ensures within { IfOk result (λ x. x.1 ≤ length tokens.now) }
+    ensures gives { Gives reading.one result (reading.grafting from first (reading.level tokens.now room (reading.more_level level) at)) }
+{
     if room == 0 {
         return Err(ReadFault::NoTree);
     }
-    let (mut part, mut end) = match tighter(level) {
-        Some(inner) => rest(alloc, tokens, inner, room, from, first, at)?,
-        None => (first, at),
-    };
+    let (part, end) = first_more(alloc, tokens, level, room, from, first, at)?;
+    tail(alloc, tokens, level, room, from, part, end)
+}
+
+/// An operator of the level, or those that bind more tightly.
+#[cycle(reader)]
+fn first_more(
+    alloc: Global,
+    tokens: &[Token<'_>],
+    level: Precedence,
+    room: u32,
+    from: u32,
+    first: Part,
+    at: usize,
+) -> Result<(Part, usize), ReadFault>
+    requires { at ≤ length tokens.now }
+    ensures within { IfOk result (λ x. x.1 ≤ length tokens.now) }
+    ensures gives { Gives reading.one result (reading.grafting from first (reading.first_read tokens.now room level at)) }
+{
+    if is_among(tokens, at, operators(level)) {
+        return operation(alloc, tokens, level, room, from, first, at);
+    }
+    match tighter(level) {
+        Some(inner) => more(alloc, tokens, inner, room, from, first, at),
+        None => Err(ReadFault::NoTree),
+    }
+}
+
+/// Operators of a level, one after the other.
+#[cycle(reader)]
+#[tactic(auto, using(crate::proofs::Steps::level_none, crate::proofs::Steps::tail_step, crate::proofs::Steps::tail_turn, crate::proofs::Steps::rest_turned))]
+fn tail(
+    alloc: Global,
+    tokens: &[Token<'_>],
+    level: Precedence,
+    room: u32,
+    from: u32,
+    first: Part,
+    at: usize,
+) -> Result<(Part, usize), ReadFault>
+    requires { at ≤ length tokens.now }
+    ensures within { IfOk result (λ x. x.1 ≤ length tokens.now) }
+    ensures gives { Gives reading.one result (reading.grafting from first (reading.level tokens.now room (reading.tail_level level) at)) }
+{
+    if room == 0 {
+        return Err(ReadFault::NoTree);
+    }
+    let mut part = first;
+    let mut end = at;
     for turn in 0..=tokens.len() {
         if !is_among(tokens, end, operators(level)) {
             return Ok((part, end));
         }
-        let (right, next) = operand(alloc, tokens, level, room, end + 1)?;
-        part = binary(alloc, tokens, Kind::Binary, from, part, end, right, next)?;
-        end = next;
+        (part, end) = operation(alloc, tokens, level, room, from, part, end)?;
     }
     Err(ReadFault::NoTree)
+}
+
+/// An operator of a level, and its right side.
+#[cycle(reader)]
+fn operation(
+    alloc: Global,
+    tokens: &[Token<'_>],
+    level: Precedence,
+    room: u32,
+    from: u32,
+    first: Part,
+    at: usize,
+) -> Result<(Part, usize), ReadFault>
+    requires { at ≤ length tokens.now }
+    ensures within { IfOk result (λ x. x.1 ≤ length tokens.now) }
+    ensures gives { Gives reading.one result (reading.grafting from first (reading.operation_read tokens.now room level at)) }
+{
+    if !is_among(tokens, at, operators(level)) {
+        return Err(ReadFault::NoTree);
+    }
+    let (right, end) = operand(alloc, tokens, level, room, at + 1)?;
+    let part = binary(alloc, tokens, Kind::Binary, from, first, at, right, end)?;
+    Ok((part, end))
 }
 
 /// The right side of an operator of a level.
@@ -247,7 +481,11 @@ fn operand(
     level: Precedence,
     room: u32,
     at: usize,
-) -> Result<(Part, usize), ReadFault> {
+) -> Result<(Part, usize), ReadFault>
+    requires { at ≤ length tokens.now }
+    ensures within { IfOk result (λ x. x.1 ≤ length tokens.now) }
+    ensures gives { Gives reading.one result (reading.level tokens.now room (reading.right_level (reading.tighter level)) at) }
+{
     match tighter(level) {
         Some(inner) => chain(alloc, tokens, inner, room, at),
         None => cast(alloc, tokens, room, at),
@@ -256,12 +494,17 @@ fn operand(
 
 /// `"(" tname ")" cast | unary`
 #[cycle(reader)]
+#[tactic(auto, using(crate::proofs::Steps::level_none, crate::proofs::Steps::cast_step))]
 pub fn cast(
     alloc: Global,
     tokens: &[Token<'_>],
     room: u32,
     at: usize,
-) -> Result<(Part, usize), ReadFault> {
+) -> Result<(Part, usize), ReadFault>
+    requires { at ≤ length tokens.now }
+    ensures within { IfOk result (λ x. x.1 ≤ length tokens.now) }
+    ensures gives { Gives reading.one result (reading.level tokens.now room table.Cast at) }
+{
     if room == 0 {
         return Err(ReadFault::NoTree);
     }
@@ -278,26 +521,33 @@ pub fn cast(
     Ok((part, end))
 }
 
-/// An operator in front of its operand.
+/// An operator put over what stands behind it.
 fn unary_over(
     alloc: Global,
     tokens: &[Token<'_>],
     at: usize,
     kid: Part,
     end: usize,
-) -> Result<Part, Memory> {
+) -> Result<Part, Memory>
+    ensures { IfOk result (λ p. p ≡ cut (built tokens.now (Named kinds.Unary 0) at end (kid ∷ []))) }
+{
     let text = Text::from_str(alloc, text_at(tokens, at))?;
     over_one(alloc, Kind::Unary, text, span_at(tokens, at, end), kid)
 }
 
 /// `sign cast | ("++" | "--") unary | sizeof | postfix`
 #[cycle(reader)]
+#[tactic(auto, using(crate::proofs::Steps::level_none, crate::proofs::Steps::unary_step))]
 pub fn unary(
     alloc: Global,
     tokens: &[Token<'_>],
     room: u32,
     at: usize,
-) -> Result<(Part, usize), ReadFault> {
+) -> Result<(Part, usize), ReadFault>
+    requires { at ≤ length tokens.now }
+    ensures within { IfOk result (λ x. x.1 ≤ length tokens.now) }
+    ensures gives { Gives reading.one result (reading.level tokens.now room table.Unary at) }
+{
     if room == 0 {
         return Err(ReadFault::NoTree);
     }
@@ -317,12 +567,17 @@ pub fn unary(
 
 /// `"sizeof" "(" tname ")" | "sizeof" unary`
 #[cycle(reader)]
+#[tactic(auto, using(crate::proofs::Steps::level_none, crate::proofs::Steps::sizeof_step))]
 fn size(
     alloc: Global,
     tokens: &[Token<'_>],
     room: u32,
     at: usize,
-) -> Result<(Part, usize), ReadFault> {
+) -> Result<(Part, usize), ReadFault>
+    requires { at ≤ length tokens.now }
+    ensures within { IfOk result (λ x. x.1 ≤ length tokens.now) }
+    ensures gives { Gives reading.one result (reading.level tokens.now room table.Sizeof at) }
+{
     if room == 0 {
         return Err(ReadFault::NoTree);
     }
@@ -337,7 +592,9 @@ fn size(
     if !is(tokens, close, Word::CloseRound) {
         return Err(ReadFault::NoTree);
     }
-    let span = span_at(tokens, at, close + 1);
+    let end = close + 1;
+    let span = span_at(tokens, at, end);
     let part = over_one(alloc, Kind::SizeofType, Text::new(alloc), span, target)?;
-    Ok((part, close + 1))
+    Ok((part, end))
 }
+

@@ -1,7 +1,12 @@
 //! Primary expressions and what stands behind them.
 
-use crate::look::{is, is_among, span_at, start_at, text_at};
+ghost use Rattle.std.specs.Prelude.{◌≤◌, length, IfOk};
+ghost use Rattle.c_expr.specs.Gives.{Gives};
+ghost use Rattle.c_expr.specs.Table as table;
+ghost use Rattle.c_expr.specs.Reading as reading;
+
 use crate::lists::{Listed, list};
+use crate::look::{is, is_among, span_at, start_at, text_at};
 use crate::make::{graft_none, graft_one, id, leaf, over, over_one};
 use crate::operators::{assign, comma};
 use crate::part::Part;
@@ -28,11 +33,11 @@ const JOINED: [Word; 4] = [Word::Str, Word::StrAny, Word::Name, Word::Meta];
 
 /// What a primary goes on with.
 const SUFFIXES: [Word; 5] = [
-    Word::OpenSquare,
     Word::OpenRound,
+    Word::Step,
+    Word::OpenSquare,
     Word::Dot,
     Word::Arrow,
-    Word::Step,
 ];
 
 /// What stands in front of the name of a member.
@@ -40,12 +45,17 @@ const ACCESSES: [Word; 2] = [Word::Dot, Word::Arrow];
 
 /// `prim {suffix}`
 #[cycle(reader)]
+#[tactic(auto, using(crate::proofs::Steps::level_none, crate::proofs::Steps::postfix_step, crate::proofs::Steps::postfix_turn, crate::proofs::Steps::rest_turned))]
 pub fn postfix(
     alloc: Global,
     tokens: &[Token<'_>],
     room: u32,
     at: usize,
-) -> Result<(Part, usize), ReadFault> {
+) -> Result<(Part, usize), ReadFault>
+    requires { at ≤ length tokens.now }
+    ensures within { IfOk result (λ x. x.1 ≤ length tokens.now) }
+    ensures gives { Gives reading.one result (reading.level tokens.now room table.Postfix at) }
+{
     if room == 0 {
         return Err(ReadFault::NoTree);
     }
@@ -62,14 +72,19 @@ pub fn postfix(
 
 /// `"[" comma "]" | "(" args ")" | ("." | "->") NAME | "++" | "--"`, put over what stands before it.
 #[cycle(reader)]
+#[tactic(auto, using(crate::proofs::Steps::level_none, crate::proofs::Steps::suffix_step))]
 fn suffix(
     alloc: Global,
     tokens: &[Token<'_>],
     room: u32,
     from: u32,
-    left: Part,
+    first: Part,
     at: usize,
-) -> Result<(Part, usize), ReadFault> {
+) -> Result<(Part, usize), ReadFault>
+    requires { at ≤ length tokens.now }
+    ensures within { IfOk result (λ x. x.1 ≤ length tokens.now) }
+    ensures gives { Gives reading.one result (reading.grafting from first (reading.level tokens.now room table.Suffix at)) }
+{
     if room == 0 {
         return Err(ReadFault::NoTree);
     }
@@ -78,18 +93,20 @@ fn suffix(
         if !is(tokens, close, Word::CloseSquare) {
             return Err(ReadFault::NoTree);
         }
-        let span = span_at(tokens, at, close + 1);
-        let part = graft_one(alloc, from, left, Kind::Sub, Text::new(alloc), span, index)?;
-        return Ok((part, close + 1));
+        let end = close + 1;
+        let span = span_at(tokens, at, end);
+        let part = graft_one(alloc, from, first, Kind::Sub, Text::new(alloc), span, index)?;
+        return Ok((part, end));
     }
     if is(tokens, at, Word::OpenRound) {
-        let (args, close) = list(alloc, tokens, Listed::Args, Kind::List, room - 1, at + 1)?;
+        let (args, close) = list(alloc, tokens, Listed::Args, room - 1, at + 1)?;
         if !is(tokens, close, Word::CloseRound) {
             return Err(ReadFault::NoTree);
         }
-        let span = span_at(tokens, at, close + 1);
-        let part = graft_one(alloc, from, left, Kind::Call, Text::new(alloc), span, args)?;
-        return Ok((part, close + 1));
+        let end = close + 1;
+        let span = span_at(tokens, at, end);
+        let part = graft_one(alloc, from, first, Kind::Call, Text::new(alloc), span, args)?;
+        return Ok((part, end));
     }
     if is_among(tokens, at, &ACCESSES) {
         if !is_among(tokens, at + 1, &NAMES) {
@@ -98,7 +115,7 @@ fn suffix(
         let name = id(alloc, tokens, at + 1)?;
         let text = Text::from_str(alloc, text_at(tokens, at))?;
         let span = span_at(tokens, at, at + 2);
-        let part = graft_one(alloc, from, left, Kind::Attr, text, span, name)?;
+        let part = graft_one(alloc, from, first, Kind::Attr, text, span, name)?;
         return Ok((part, at + 2));
     }
     if !is(tokens, at, Word::Step) {
@@ -106,18 +123,23 @@ fn suffix(
     }
     let text = Text::from_str(alloc, text_at(tokens, at))?;
     let span = span_at(tokens, at, at + 1);
-    let part = graft_none(alloc, from, left, Kind::Postfix, text, span)?;
+    let part = graft_none(alloc, from, first, Kind::Postfix, text, span)?;
     Ok((part, at + 1))
 }
 
 /// `NAME | NUMBER | CHAR | strings | "(" comma ")"`
 #[cycle(reader)]
+#[tactic(auto, using(crate::proofs::Steps::level_none, crate::proofs::Steps::prim_step))]
 pub fn primary(
     alloc: Global,
     tokens: &[Token<'_>],
     room: u32,
     at: usize,
-) -> Result<(Part, usize), ReadFault> {
+) -> Result<(Part, usize), ReadFault>
+    requires { at ≤ length tokens.now }
+    ensures within { IfOk result (λ x. x.1 ≤ length tokens.now) }
+    ensures gives { Gives reading.one result (reading.level tokens.now room table.Prim at) }
+{
     if room == 0 {
         return Err(ReadFault::NoTree);
     }
@@ -138,12 +160,17 @@ pub fn primary(
 }
 
 /// `STRING {STRING | NAME}`: one string itself, or several joined.
+#[tactic(auto, using(crate::proofs::Steps::level_none, crate::proofs::Steps::strings_step, crate::proofs::Steps::strings_turn, crate::proofs::Steps::rest_turned, crate::proofs::Steps::list_laws))]
 fn strings(
     alloc: Global,
     tokens: &[Token<'_>],
     room: u32,
     at: usize,
-) -> Result<(Part, usize), ReadFault> {
+) -> Result<(Part, usize), ReadFault>
+    requires { at ≤ length tokens.now }
+    ensures within { IfOk result (λ x. x.1 ≤ length tokens.now) }
+    ensures gives { Gives reading.one result (reading.level tokens.now room table.Strings at) }
+{
     if room == 0 {
         return Err(ReadFault::NoTree);
     }
@@ -154,8 +181,8 @@ fn strings(
     if !is_among(tokens, at + 1, &JOINED) {
         return Ok((first, at + 1));
     }
-    let mut parts = vec![in alloc; first]?;
-    let mut end = at + 1;
+    let mut parts = vec![in alloc; first, leaf(alloc, tokens, at + 1)?]?;
+    let mut end = at + 2;
     for turn in 0..=tokens.len() {
         if !is_among(tokens, end, &JOINED) {
             let span = span_at(tokens, at, end);
@@ -170,12 +197,17 @@ fn strings(
 
 /// `"<..." comma "...>"`
 #[cycle(reader)]
+#[tactic(auto, using(crate::proofs::Steps::level_none, crate::proofs::Steps::deep_step))]
 fn deep(
     alloc: Global,
     tokens: &[Token<'_>],
     room: u32,
     at: usize,
-) -> Result<(Part, usize), ReadFault> {
+) -> Result<(Part, usize), ReadFault>
+    requires { at ≤ length tokens.now }
+    ensures within { IfOk result (λ x. x.1 ≤ length tokens.now) }
+    ensures gives { Gives reading.one result (reading.level tokens.now room table.Deep at) }
+{
     if room == 0 {
         return Err(ReadFault::NoTree);
     }
@@ -186,19 +218,25 @@ fn deep(
     if !is(tokens, close, Word::DeepClose) {
         return Err(ReadFault::NoTree);
     }
-    let span = span_at(tokens, at, close + 1);
+    let end = close + 1;
+    let span = span_at(tokens, at, end);
     let part = over_one(alloc, Kind::Deep, Text::new(alloc), span, kid)?;
-    Ok((part, close + 1))
+    Ok((part, end))
 }
 
 /// `tname | assign`
 #[cycle(reader)]
+#[tactic(auto, using(crate::proofs::Steps::level_none, crate::proofs::Steps::arg_step))]
 pub fn argument(
     alloc: Global,
     tokens: &[Token<'_>],
     room: u32,
     at: usize,
-) -> Result<(Part, usize), ReadFault> {
+) -> Result<(Part, usize), ReadFault>
+    requires { at ≤ length tokens.now }
+    ensures within { IfOk result (λ x. x.1 ≤ length tokens.now) }
+    ensures gives { Gives reading.one result (reading.level tokens.now room table.Arg at) }
+{
     if room == 0 {
         return Err(ReadFault::NoTree);
     }

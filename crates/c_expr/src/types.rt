@@ -1,10 +1,18 @@
 //! Type names and specs.
 
-use crate::declarators::{Naming, declarator, starts_declarator};
-use crate::look::{is, is_among, span_at, start_at, text_at};
-use crate::make::{absent, leaf, over, over_two};
+ghost use Rattle.std.specs.Prelude.{◌≡◌, ◌<◌, ◌≤◌, length, map, IfOk, IsTrue};
+ghost use Rattle.c_expr.specs.Gives.{Gives};
+ghost use Rattle.c_expr.specs.Table as table;
+ghost use Rattle.c_expr.specs.Reading as reading;
+ghost use Rattle.c_expr.specs.Words.{class, none_is_end};
+ghost use Rattle.c_expr.specs.Build as build;
+ghost use Rattle.c_expr.specs.Build.{token_at};
+
+use crate::declarators::{Naming, maybe_declarator};
+use crate::look::{is, is_among, span_at, text_at};
+use crate::make::{leaf, or_absent, over, over_two};
 use crate::members::body;
-use crate::part::Part;
+use crate::part::{Part, Spelt};
 use crate::word::{Token, Word};
 use node_tree::{Kind, Memory, ReadFault, Text};
 use std::alloc::Global;
@@ -16,20 +24,16 @@ const BARE_WORDS: [Word; 2] = [Word::Name, Word::TypeWord];
 const LATER_WORDS: [Word; 2] = [Word::TypeWord, Word::Qualifier];
 
 /// What goes on with words that say a type.
-const TYPED_STARTS: [Word; 3] = [Word::TypeWord, Word::Qualifier, Word::Tag];
+const TYPED_GOES_ON: [Word; 3] = [Word::Qualifier, Word::TypeWord, Word::Tag];
 
 /// What goes on with a spec that has no type yet.
 const SPEC_GOES_ON: [Word; 4] = [Word::Name, Word::TypeWord, Word::Tag, Word::Qualifier];
 
-/// Spellings with a space between two, and what stands among them that is none.
-#[derive(Drop)]
-pub struct Spelt {
-    pub text: Text,
-    pub kids: Vec<Part>,
-}
-
-/// The same with the spelling there behind the others.
-pub fn spell(tokens: &[Token<'_>], spelt: Spelt, at: usize) -> Result<Spelt, Memory> {
+/// The spelling there behind others.
+pub fn spell(tokens: &[Token<'_>], spelt: Spelt, at: usize) -> Result<Spelt, Memory>
+    ensures text { IfOk result (λ s. s.text ≡ build.spelled_more spelt.text (token_at tokens.now at).text) }
+    ensures kids { IfOk result (λ s. s.kids.items ≡ spelt.kids.items) }
+{
     let Spelt { mut text, kids } = spelt;
     if text.len() > 0 {
         text.push(" ")?;
@@ -40,46 +44,41 @@ pub fn spell(tokens: &[Token<'_>], spelt: Spelt, at: usize) -> Result<Spelt, Mem
 
 /// `spec declr`, of which the declr has no name
 #[cycle(reader)]
+#[tactic(auto, using(crate::proofs::Steps::level_none, crate::proofs::Steps::tname_step))]
 pub fn type_name(
     alloc: Global,
     tokens: &[Token<'_>],
     room: u32,
     at: usize,
-) -> Result<(Part, usize), ReadFault> {
+) -> Result<(Part, usize), ReadFault>
+    requires { at ≤ length tokens.now }
+    ensures within { IfOk result (λ x. x.1 ≤ length tokens.now) }
+    ensures gives { Gives reading.one result (reading.level tokens.now room table.Tname at) }
+{
     if room == 0 {
         return Err(ReadFault::NoTree);
     }
     let (base, end) = spec(alloc, tokens, room, at)?;
-    let (over_base, end) = maybe_declarator(alloc, tokens, Naming::Nameless, room, start_at(tokens, at), end)?;
+    let (declr, end) = maybe_declarator(alloc, tokens, Naming::Nameless, room, end)?;
     let span = span_at(tokens, at, end);
-    let part = over_two(alloc, Kind::TypeName, Text::new(alloc), span, base, over_base)?;
+    let declr = or_absent(alloc, span.from, declr);
+    let part = over_two(alloc, Kind::TypeName, Text::new(alloc), span, base, declr)?;
     Ok((part, end))
-}
-
-/// A declarator that may be left out.
-#[cycle(reader)]
-pub fn maybe_declarator(
-    alloc: Global,
-    tokens: &[Token<'_>],
-    naming: Naming,
-    room: u32,
-    from: u32,
-    at: usize,
-) -> Result<(Part, usize), ReadFault> {
-    if !starts_declarator(tokens, naming, at) {
-        return Ok((absent(alloc, from), at));
-    }
-    declarator(alloc, tokens, naming, room, at)
 }
 
 /// Words, one name at most, and groups; or one metavariable.
 #[cycle(reader)]
+#[tactic(auto, using(crate::proofs::Steps::level_none, crate::proofs::Steps::spec_step))]
 pub fn spec(
     alloc: Global,
     tokens: &[Token<'_>],
     room: u32,
     at: usize,
-) -> Result<(Part, usize), ReadFault> {
+) -> Result<(Part, usize), ReadFault>
+    requires { at ≤ length tokens.now }
+    ensures within { IfOk result (λ x. x.1 ≤ length tokens.now) }
+    ensures gives { Gives reading.one result (reading.level tokens.now room table.Spec at) }
+{
     if room == 0 {
         return Err(ReadFault::NoTree);
     }
@@ -98,21 +97,47 @@ pub fn spec(
 
 /// Qualifiers, and what else follows.
 #[cycle(reader)]
+#[tactic(auto, using(crate::proofs::Steps::level_none, crate::proofs::Steps::spec_start_step))]
 fn spec_start(
     alloc: Global,
     tokens: &[Token<'_>],
     room: u32,
     spelt: Spelt,
     at: usize,
-) -> Result<(Spelt, usize), ReadFault> {
+) -> Result<(Spelt, usize), ReadFault>
+    requires { at ≤ length tokens.now }
+    ensures within { IfOk result (λ x. x.1 ≤ length tokens.now) }
+    ensures gives { Gives reading.seen result (reading.gathering (spelt.text, spelt.kids.items) (reading.level tokens.now room table.SpecStart at)) }
+{
     if room == 0 {
         return Err(ReadFault::NoTree);
     }
     if !is(tokens, at, Word::Qualifier) {
         return typed(alloc, tokens, room, spelt, at);
     }
-    let mut spelt = spell(tokens, spelt, at)?;
-    let mut end = at + 1;
+    let spelt = spell(tokens, spelt, at)?;
+    qualified(alloc, tokens, room, spelt, at + 1)
+}
+
+/// What stands behind a first qualifier.
+#[cycle(reader)]
+#[tactic(auto, using(crate::proofs::Steps::level_none, crate::proofs::Steps::qualifiers_tail_step, crate::proofs::Steps::qualifiers_turn, crate::proofs::Steps::rest_turned))]
+fn qualified(
+    alloc: Global,
+    tokens: &[Token<'_>],
+    room: u32,
+    spelt: Spelt,
+    at: usize,
+) -> Result<(Spelt, usize), ReadFault>
+    requires { at ≤ length tokens.now }
+    ensures within { IfOk result (λ x. x.1 ≤ length tokens.now) }
+    ensures gives { Gives reading.seen result (reading.gathering (spelt.text, spelt.kids.items) (reading.level tokens.now room table.QualifiersTail at)) }
+{
+    if room == 0 {
+        return Err(ReadFault::NoTree);
+    }
+    let mut spelt = spelt;
+    let mut end = at;
     for turn in 0..=tokens.len() {
         if !is_among(tokens, end, &SPEC_GOES_ON) {
             return Ok((spelt, end));
@@ -128,19 +153,24 @@ fn spec_start(
 
 /// A name, a type word or a group, and then no name.
 #[cycle(reader)]
+#[tactic(auto, using(crate::proofs::Steps::level_none, crate::proofs::Steps::typed_step, crate::proofs::Steps::typed_turn, crate::proofs::Steps::rest_turned))]
 fn typed(
     alloc: Global,
     tokens: &[Token<'_>],
     room: u32,
     spelt: Spelt,
     at: usize,
-) -> Result<(Spelt, usize), ReadFault> {
+) -> Result<(Spelt, usize), ReadFault>
+    requires { at ≤ length tokens.now }
+    ensures within { IfOk result (λ x. x.1 ≤ length tokens.now) }
+    ensures gives { Gives reading.seen result (reading.gathering (spelt.text, spelt.kids.items) (reading.level tokens.now room table.Typed at)) }
+{
     if room == 0 {
         return Err(ReadFault::NoTree);
     }
     let (mut spelt, mut end) = word_or_group(alloc, tokens, &BARE_WORDS, room, spelt, at)?;
     for turn in 0..=tokens.len() {
-        if !is_among(tokens, end, &TYPED_STARTS) {
+        if !is_among(tokens, end, &TYPED_GOES_ON) {
             return Ok((spelt, end));
         }
         (spelt, end) = word_or_group(alloc, tokens, &LATER_WORDS, room, spelt, end)?;
@@ -150,6 +180,7 @@ fn typed(
 
 /// One of these words, or a group.
 #[cycle(reader)]
+#[tactic(auto, using(crate::proofs::Steps::gathered_spelling))]
 fn word_or_group(
     alloc: Global,
     tokens: &[Token<'_>],
@@ -157,7 +188,12 @@ fn word_or_group(
     room: u32,
     spelt: Spelt,
     at: usize,
-) -> Result<(Spelt, usize), ReadFault> {
+) -> Result<(Spelt, usize), ReadFault>
+    requires place { at ≤ length tokens.now }
+    requires some { IsTrue (none_is_end words.now) }
+    ensures within { IfOk result (λ x. x.1 ≤ length tokens.now) }
+    ensures gives { Gives reading.seen result (reading.gathering (spelt.text, spelt.kids.items) (reading.word_or_group tokens.now room (map class words.now) at)) }
+{
     if is_among(tokens, at, words) {
         return Ok((spell(tokens, spelt, at)?, at + 1));
     }
@@ -166,13 +202,18 @@ fn word_or_group(
 
 /// `("struct" | "union" | "enum") [NAME] [body]`
 #[cycle(reader)]
+#[tactic(auto, using(crate::proofs::Steps::level_none, crate::proofs::Steps::group_step))]
 fn group(
     alloc: Global,
     tokens: &[Token<'_>],
     room: u32,
     spelt: Spelt,
     at: usize,
-) -> Result<(Spelt, usize), ReadFault> {
+) -> Result<(Spelt, usize), ReadFault>
+    requires { at ≤ length tokens.now }
+    ensures within { IfOk result (λ x. x.1 ≤ length tokens.now) }
+    ensures gives { Gives reading.seen result (reading.gathering (spelt.text, spelt.kids.items) (reading.level tokens.now room table.Group at)) }
+{
     if room == 0 {
         return Err(ReadFault::NoTree);
     }
@@ -195,7 +236,11 @@ fn maybe_body(
     room: u32,
     spelt: Spelt,
     at: usize,
-) -> Result<(Spelt, usize), ReadFault> {
+) -> Result<(Spelt, usize), ReadFault>
+    requires { at ≤ length tokens.now }
+    ensures within { IfOk result (λ x. x.1 ≤ length tokens.now) }
+    ensures gives { Gives reading.seen result (reading.gathering (spelt.text, spelt.kids.items) (reading.optional tokens.now room table.Body at)) }
+{
     if !is(tokens, at, Word::OpenCurly) {
         return Ok((spelt, at));
     }
