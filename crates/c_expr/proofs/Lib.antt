@@ -1,3 +1,4 @@
 pub mod Passes
 pub mod Steps
 pub mod Cut
+pub mod Stars

@@ -37,9 +37,13 @@ is_pointer cs f i = has names (f i) && (has (class w.Star ∷ []) (f (suc i)) &&
 abbrev pub is_type : List ℕ → (ℕ → ℕ) → ℕ → Bool
 is_type cs f i = has spec_words (f i) || is_pointer cs f i
 
+-- NAME `)` and then a NAME, number, string, character, `(`, `~`, `!` or `sizeof`
+abbrev pub is_named_cast : (ℕ → ℕ) → ℕ → Bool
+is_named_cast f i = has names (f i) && (has (class w.CloseRound ∷ []) (f (suc i)) && has operand_starts (f (suc (suc i))))
+
 -- `(` opens a cast exactly where a word follows; NAME, one or more `*` and `)`; or NAME `)` and then a NAME, number, string, character, `(`, `~`, `!` or `sizeof`
 abbrev pub opens_cast : (ℕ → ℕ) → ℕ → Bool
-opens_cast f i = has (class w.OpenRound ∷ []) (f i) && (is_type (class w.CloseRound ∷ []) f (suc i) || (has names (f (suc i)) && (has (class w.CloseRound ∷ []) (f (suc (suc i))) && has operand_starts (f (suc (suc (suc i)))))))
+opens_cast f i = has (class w.OpenRound ∷ []) (f i) && (is_type (class w.CloseRound ∷ []) f (suc i) || is_named_cast f (suc i))
 
 -- after `sizeof` a `(` holds a type exactly where a word follows, or NAME, one or more `*` and `)`
 abbrev pub sizes_type : (ℕ → ℕ) → ℕ → Bool
@@ -56,7 +60,3 @@ opens_declarator f i = has (class w.OpenRound ∷ []) (f i) && has (class w.Star
 -- `{` opens enumerators exactly where NAME and then `,`, `=` or `}` follow
 abbrev pub opens_enumerators : (ℕ → ℕ) → ℕ → Bool
 opens_enumerators f i = has names (f (suc i)) && has (class w.Comma ∷ class w.Equals ∷ class w.CloseCurly ∷ []) (f (suc (suc i)))
-
--- an assignment operator stands there
-abbrev pub assigns : (ℕ → ℕ) → ℕ → Bool
-assigns f i = has assignments (f i)

@@ -29,16 +29,16 @@ pub fn is(tokens: &[Token<'_>], at: usize, word: Word) -> bool
 }
 
 /// Whether one of these words stands there.
-pub fn is_among(tokens: &[Token<'_>], at: usize, words: &[Word]) -> bool
+pub fn is_among(tokens: &[Token<'_>], at: usize, mut words: &[Word]) -> bool
     requires { IsTrue (none_is_end words.now) }
     ensures test { result ≡ has (map class words.now) (class (token_at tokens.now at).word) }
     ensures within { result ≡ true → at < length tokens.now }
 {
-    let here = class_of(word_at(tokens, at));
-    for word in words {
-        if class_of(*word) == here {
+    while let [word, rest @ ..] = words {
+        if is(tokens, at, *word) {
             return true;
         }
+        words = rest;
     }
     false
 }

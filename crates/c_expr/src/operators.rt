@@ -13,7 +13,7 @@ use crate::look::{is, is_among, span_at, start_at, text_at};
 use crate::make::{graft_one, graft_two, over_one, over_two};
 use crate::part::Part;
 use crate::primaries::postfix;
-use crate::settle::{assigns, opens_cast, sizes_type};
+use crate::settle::{opens_cast, sizes_type};
 use crate::types::type_name;
 use crate::word::{Token, Word};
 use node_tree::{Kind, Memory, ReadFault, Text};
@@ -21,6 +21,9 @@ use std::alloc::Global;
 
 /// The unary operators in front of a cast.
 const SIGNS: [Word; 4] = [Word::Ampersand, Word::Star, Word::Sign, Word::Flip];
+
+/// What assigns.
+const ASSIGNMENTS: [Word; 2] = [Word::Equals, Word::Assigns];
 
 /// What goes on with a unary at the start of an assignment.
 const ASSIGN_GOES_ON: [Word; 14] = [
@@ -240,7 +243,7 @@ fn assign_rest(
     if !is_among(tokens, at, &ASSIGN_GOES_ON) {
         return Ok((first, at));
     }
-    if !assigns(tokens, at) {
+    if !is_among(tokens, at, &ASSIGNMENTS) {
         return cond_more(alloc, tokens, room, from, first, at);
     }
     let (right, end) = assign(alloc, tokens, room - 1, at + 1)?;

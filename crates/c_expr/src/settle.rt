@@ -31,6 +31,7 @@ const OPERAND_STARTS: [Word; 9] = [
 const MOST_STARS: usize = 500;
 
 /// The place behind the `*` that stand there.
+#[tactic(auto, using(crate::proofs::Stars::stars_turn, crate::proofs::Stars::stars_turned))]
 fn behind_stars(tokens: &[Token<'_>], at: usize) -> usize
     requires { at ≤ length tokens.now }
     ensures place { result ≡ spec.behind_stars (source tokens.now).cls spec.most_stars at }
@@ -71,9 +72,23 @@ fn is_type(tokens: &[Token<'_>], at: usize, behind: &[Word]) -> bool
     is_pointer(tokens, at, behind)
 }
 
+/// Whether a name, `)` and the start of an operand stand there.
+fn is_named_cast(tokens: &[Token<'_>], at: usize) -> bool
+    ensures { result ≡ spec.is_named_cast (source tokens.now).cls at }
+{
+    if !is_among(tokens, at, &NAMES) {
+        return false;
+    }
+    if !is(tokens, at + 1, Word::CloseRound) {
+        return false;
+    }
+    is_among(tokens, at + 2, &OPERAND_STARTS)
+}
+
 /// Whether `(` stands there and opens a cast.
 pub fn opens_cast(tokens: &[Token<'_>], at: usize) -> bool
-    ensures { result ≡ spec.opens_cast (source tokens.now).cls at }
+    ensures test { result ≡ spec.opens_cast (source tokens.now).cls at }
+    ensures within { result ≡ true → at < length tokens.now }
 {
     if !is(tokens, at, Word::OpenRound) {
         return false;
@@ -81,13 +96,7 @@ pub fn opens_cast(tokens: &[Token<'_>], at: usize) -> bool
     if is_type(tokens, at + 1, &[Word::CloseRound]) {
         return true;
     }
-    if !is_among(tokens, at + 1, &NAMES) {
-        return false;
-    }
-    if !is(tokens, at + 2, Word::CloseRound) {
-        return false;
-    }
-    is_among(tokens, at + 3, &OPERAND_STARTS)
+    is_named_cast(tokens, at + 1)
 }
 
 /// Whether the `(` behind a `sizeof` there holds a type.
@@ -110,7 +119,8 @@ pub fn takes_type(tokens: &[Token<'_>], at: usize) -> bool
 
 /// Whether `(` stands there and opens a nested declarator of a parameter or a type name.
 pub fn opens_declarator(tokens: &[Token<'_>], at: usize) -> bool
-    ensures { result ≡ spec.opens_declarator (source tokens.now).cls at }
+    ensures within { result ≡ true → at < length tokens.now }
+    ensures test { result ≡ spec.opens_declarator (source tokens.now).cls at }
 {
     if !is(tokens, at, Word::OpenRound) {
         return false;
@@ -131,12 +141,4 @@ pub fn opens_enumerators(tokens: &[Token<'_>], at: usize) -> bool
         at + 2,
         &[Word::Comma, Word::Equals, Word::CloseCurly],
     )
-}
-
-/// Whether an assignment operator stands there.
-pub fn assigns(tokens: &[Token<'_>], at: usize) -> bool
-    ensures test { result ≡ spec.assigns (source tokens.now).cls at }
-    ensures within { result ≡ true → at < length tokens.now }
-{
-    is_among(tokens, at, &[Word::Equals, Word::Assigns])
 }
