@@ -1,4 +1,6 @@
-pub mod Passes
-pub mod Steps
 pub mod Cut
 pub mod Stars
+pub mod Counting
+pub mod Passes
+pub mod Depths
+pub mod Only

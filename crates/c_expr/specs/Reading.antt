@@ -1,9 +1,9 @@
 -- What the functions of the reader read.
-use Rattle.std.specs.Prelude.{ℕ, suc, Bool, true, false, cond, List, [], ◌∷◌, map, length, Option, Some, None, Vec}
+use Rattle.std.specs.Prelude.{◌<◌, ◌≤◌, ℕ, suc, Bool, true, false, cond, List, [], ◌∷◌, map, length, Option, Some, None, Vec}
 use Rattle.std.specs.declared.alloc.Global.{Global}
 use Rattle.node_tree.specs.declared.kind.Kind.{Kind}
 use Rattle.node_tree.specs.declared.kind.Kind.TheVariants as kinds
-use Rattle.grammar.specs.Rule.{has}
+use Rattle.grammar.specs.Rule.{has, brackets_round}
 use Rattle.grammar.specs.Reader.{read_level, ◌>>=◌}
 use Rattle.c_expr.specs.declared.word.Word.{Word}
 use Rattle.c_expr.specs.declared.word.Word.TheVariants as w
@@ -18,9 +18,9 @@ use Rattle.c_expr.specs.declared.declarators.Naming.{Naming}
 use Rattle.c_expr.specs.declared.declarators.Naming.TheVariants as naming
 use Rattle.c_expr.specs.Words.{class}
 use Rattle.c_expr.specs.Table as t
-use Rattle.c_expr.specs.Table.{Level, table}
+use Rattle.c_expr.specs.Table.{Level, table, grammar}
 use Rattle.c_expr.specs.Settling.{names, opens_declarator}
-use Rattle.c_expr.specs.Build.{token_at, span_between, cut_source, leaf, over, built, cut, graft_cut, gathered}
+use Rattle.c_expr.specs.Build.{token_at, span_between, source, cut_source, leaf, over, built, cut, graft_cut, gathered}
 use Rattle.c_expr.specs.Sets.{sets, ranks}
 
 -- the reader of a level, by the table
@@ -142,6 +142,19 @@ tighter p.BitOr = Some p.BitXor
 tighter p.And = Some p.BitOr
 tighter p.Or = Some p.And
 
+-- how loosely the operators of a level bind
+abbrev pub looseness : Precedence → ℕ
+looseness p.Multiplicative = 0
+looseness p.Additive = 1
+looseness p.Shift = 2
+looseness p.Relational = 3
+looseness p.Equality = 4
+looseness p.BitAnd = 5
+looseness p.BitXor = 6
+looseness p.BitOr = 7
+looseness p.And = 8
+looseness p.Or = 9
+
 -- the level of the right side
 abbrev pub right_level : Option Precedence → Level
 right_level None = t.Cast
@@ -166,10 +179,6 @@ abbrev pub word_or_group : List Token → ℕ → List ℕ → ℕ → Option (L
 word_or_group ts room cs i = cond (has cs (class (token_at ts i).word)) (Some (leaf ts t.Spelling i ∷ [], suc i)) (level ts room t.Group i)
 
 -- ---- lists
-
--- a list, as a node
-abbrev pub list_read : List Token → ℕ → Listed → ℕ → Option (List Part × ℕ)
-list_read ts room k i = level ts room (list_level k) i >>= λ x. Some (cut (over kinds.List [] (span_between ts i x.1) x.0) ∷ [], x.1)
 
 abbrev pub trails : Listed → Bool
 trails listed.Args = false
@@ -206,6 +215,10 @@ item_level listed.Members = t.Member
 item_level listed.Enumerators = t.Enumerator
 item_level listed.Initializers = t.Ini
 
+-- a list, as a node
+abbrev pub list_read : List Token → ℕ → Listed → ℕ → Option (List Part × ℕ)
+list_read ts room k i = level ts room (list_level k) i >>= λ x. Some (cut (over kinds.List [] (span_between ts i x.1) x.0) ∷ [], x.1)
+
 -- ---- declarators
 
 abbrev pub declr_level : Naming → Level
@@ -240,3 +253,11 @@ abbrev pub takes_name : Naming → (ℕ → ℕ) → ℕ → Bool
 takes_name naming.Named f i = has names (f i)
 takes_name naming.Nameless f i = false
 takes_name naming.Maybe f i = has names (f i)
+
+-- how many brackets the token at a place stands inside, from another place on
+unfoldable pub round_at : List Token → ℕ → ℕ → ℕ
+round_at ts from n = brackets_round grammar.opens grammar.closes (source ts).cls from n
+
+-- no token between the places stands inside more than 500 brackets, counted from the first place
+abbrev pub FewBrackets : List Token → ℕ → ℕ → Type 0
+FewBrackets ts from to = (n : ℕ) → from ≤ n → n < to → round_at ts from n ≤ 500

@@ -1,11 +1,7 @@
 //! Declarators, and the parameters of functions.
 
-ghost use Rattle.std.specs.Prelude.{◌≡◌, ◌<◌, ◌≤◌, true, [], length, IfOk, IsTrue};
-ghost use Rattle.c_expr.specs.Gives.{Gives};
-ghost use Rattle.c_expr.specs.Table as table;
-ghost use Rattle.c_expr.specs.Reading as reading;
+ghost use Rattle.std.specs.Prelude.{◌≡◌, ◌<◌, ◌≤◌, true, length, IfOk, IsTrue};
 ghost use Rattle.c_expr.specs.Words.{none_is_end};
-ghost use Rattle.c_expr.specs.Build.{source};
 
 use crate::lists::{Listed, list};
 use crate::look::{is, is_among, span_at, start_at, text_at};
@@ -66,8 +62,7 @@ const DOTS: [Word; 2] = [Word::Dots, Word::MetaDots];
 
 /// The words that a declarator begins with.
 fn starts(naming: Naming) -> &'static [Word]
-    ensures words { result.now ≡ reading.declr_starts naming }
-    ensures some { IsTrue (none_is_end result.now) }
+    ensures { IsTrue (none_is_end result.now) }
 {
     match naming {
         Naming::Named => &NAMED_STARTS,
@@ -86,8 +81,7 @@ pub fn maybe_declarator(
     at: usize,
 ) -> Result<(Option<Part>, usize), ReadFault>
     requires { at ≤ length tokens.now }
-    ensures within { IfOk result (λ x. x.1 ≤ length tokens.now) }
-    ensures gives { Gives reading.maybe result (reading.optional tokens.now room (reading.declr_level naming) at) }
+    ensures { IfOk result (λ x. x.1 ≤ length tokens.now) }
 {
     if !is_among(tokens, at, starts(naming)) {
         return Ok((None, at));
@@ -98,7 +92,6 @@ pub fn maybe_declarator(
 
 /// `"*" words declr | direct`
 #[cycle(reader)]
-#[tactic(auto, using(crate::proofs::Steps::level_none, crate::proofs::Steps::declr_step))]
 pub fn declarator(
     alloc: Global,
     tokens: &[Token<'_>],
@@ -107,8 +100,7 @@ pub fn declarator(
     at: usize,
 ) -> Result<(Part, usize), ReadFault>
     requires { at ≤ length tokens.now }
-    ensures within { IfOk result (λ x. x.1 ≤ length tokens.now) }
-    ensures gives { Gives reading.one result (reading.level tokens.now room (reading.declr_level naming) at) }
+    ensures { IfOk result (λ x. x.1 ≤ length tokens.now) }
 {
     if room == 0 {
         return Err(ReadFault::NoTree);
@@ -133,8 +125,7 @@ fn pointed(
     at: usize,
 ) -> Result<(Option<Part>, usize), ReadFault>
     requires { at ≤ length tokens.now }
-    ensures within { IfOk result (λ x. x.1 ≤ length tokens.now) }
-    ensures gives { Gives reading.maybe result (reading.pointed_read tokens.now room naming at) }
+    ensures { IfOk result (λ x. x.1 ≤ length tokens.now) }
 {
     if naming != Naming::Named {
         return maybe_declarator(alloc, tokens, naming, room, at);
@@ -144,7 +135,6 @@ fn pointed(
 }
 
 /// The words behind a `*`, with a space between two.
-#[tactic(auto, using(crate::proofs::Steps::level_none, crate::proofs::Steps::words_step, crate::proofs::Steps::words_turn, crate::proofs::Steps::rest_turned))]
 fn words(
     alloc: Global,
     tokens: &[Token<'_>],
@@ -152,8 +142,7 @@ fn words(
     at: usize,
 ) -> Result<(Text, usize), ReadFault>
     requires { at ≤ length tokens.now }
-    ensures within { IfOk result (λ x. x.1 ≤ length tokens.now) }
-    ensures gives { Gives reading.words_seen result (reading.gathering ([], []) (reading.level tokens.now room table.Words at)) }
+    ensures { IfOk result (λ x. x.1 ≤ length tokens.now) }
 {
     if room == 0 {
         return Err(ReadFault::NoTree);
@@ -176,7 +165,6 @@ fn words(
 
 /// `Id | "(" declr ")"` and the brackets behind it, or these alone where there is no name.
 #[cycle(reader)]
-#[tactic(auto, using(crate::proofs::Steps::level_none, crate::proofs::Steps::direct_step))]
 fn direct(
     alloc: Global,
     tokens: &[Token<'_>],
@@ -185,8 +173,7 @@ fn direct(
     at: usize,
 ) -> Result<(Part, usize), ReadFault>
     requires { at ≤ length tokens.now }
-    ensures within { IfOk result (λ x. x.1 ≤ length tokens.now) }
-    ensures gives { Gives reading.one result (reading.level tokens.now room (reading.direct_level naming) at) }
+    ensures { IfOk result (λ x. x.1 ≤ length tokens.now) }
 {
     if room == 0 {
         return Err(ReadFault::NoTree);
@@ -212,8 +199,7 @@ fn direct(
 
 /// Whether a declarator in parentheses stands there.
 fn opens_nested(tokens: &[Token<'_>], naming: Naming, at: usize) -> bool
-    ensures test { result ≡ reading.opens_nested naming (source tokens.now).cls at }
-    ensures within { result ≡ true → at < length tokens.now }
+    ensures { result ≡ true → at < length tokens.now }
 {
     match naming {
         Naming::Named => is(tokens, at, Word::OpenRound),
@@ -223,8 +209,7 @@ fn opens_nested(tokens: &[Token<'_>], naming: Naming, at: usize) -> bool
 
 /// Whether a name stands there, where one may.
 fn takes_name(tokens: &[Token<'_>], naming: Naming, at: usize) -> bool
-    ensures test { result ≡ reading.takes_name naming (source tokens.now).cls at }
-    ensures within { result ≡ true → at < length tokens.now }
+    ensures { result ≡ true → at < length tokens.now }
 {
     match naming {
         Naming::Nameless => false,
@@ -234,7 +219,6 @@ fn takes_name(tokens: &[Token<'_>], naming: Naming, at: usize) -> bool
 
 /// `{"[" [assign] "]" | "(" [params] ")"}`, put over what stands before it.
 #[cycle(reader)]
-#[tactic(auto, using(crate::proofs::Steps::level_none, crate::proofs::Steps::declr_tail_step, crate::proofs::Steps::declr_turn, crate::proofs::Steps::rest_turned))]
 fn brackets(
     alloc: Global,
     tokens: &[Token<'_>],
@@ -244,8 +228,7 @@ fn brackets(
     at: usize,
 ) -> Result<(Part, usize), ReadFault>
     requires { at ≤ length tokens.now }
-    ensures within { IfOk result (λ x. x.1 ≤ length tokens.now) }
-    ensures gives { Gives reading.one result (reading.grafting from first (reading.level tokens.now room table.DeclrTail at)) }
+    ensures { IfOk result (λ x. x.1 ≤ length tokens.now) }
 {
     if room == 0 {
         return Err(ReadFault::NoTree);
@@ -263,7 +246,6 @@ fn brackets(
 
 /// `"[" [assign] "]" | "(" [params] ")"`, put over what stands before it.
 #[cycle(reader)]
-#[tactic(auto, using(crate::proofs::Steps::level_none, crate::proofs::Steps::declr_part_step))]
 fn bracket(
     alloc: Global,
     tokens: &[Token<'_>],
@@ -273,8 +255,7 @@ fn bracket(
     at: usize,
 ) -> Result<(Part, usize), ReadFault>
     requires { at ≤ length tokens.now }
-    ensures within { IfOk result (λ x. x.1 ≤ length tokens.now) }
-    ensures gives { Gives reading.one result (reading.grafting from first (reading.level tokens.now room table.DeclrPart at)) }
+    ensures { IfOk result (λ x. x.1 ≤ length tokens.now) }
 {
     if room == 0 {
         return Err(ReadFault::NoTree);
@@ -312,8 +293,7 @@ fn array_size(
     at: usize,
 ) -> Result<(Option<Part>, usize), ReadFault>
     requires { at ≤ length tokens.now }
-    ensures within { IfOk result (λ x. x.1 ≤ length tokens.now) }
-    ensures gives { Gives reading.maybe result (reading.optional tokens.now room table.Assign at) }
+    ensures { IfOk result (λ x. x.1 ≤ length tokens.now) }
 {
     if !is_among(tokens, at, &SIZE_STARTS) {
         return Ok((None, at));
@@ -324,7 +304,6 @@ fn array_size(
 
 /// `spec [declr] | "..."`
 #[cycle(reader)]
-#[tactic(auto, using(crate::proofs::Steps::level_none, crate::proofs::Steps::param_step))]
 pub fn parameter(
     alloc: Global,
     tokens: &[Token<'_>],
@@ -332,8 +311,7 @@ pub fn parameter(
     at: usize,
 ) -> Result<(Part, usize), ReadFault>
     requires { at ≤ length tokens.now }
-    ensures within { IfOk result (λ x. x.1 ≤ length tokens.now) }
-    ensures gives { Gives reading.one result (reading.level tokens.now room table.Param at) }
+    ensures { IfOk result (λ x. x.1 ≤ length tokens.now) }
 {
     if room == 0 {
         return Err(ReadFault::NoTree);

@@ -1,9 +1,6 @@
 //! Variables and their values.
 
 ghost use Rattle.std.specs.Prelude.{◌≤◌, length, IfOk};
-ghost use Rattle.c_expr.specs.Gives.{Gives};
-ghost use Rattle.c_expr.specs.Table as table;
-ghost use Rattle.c_expr.specs.Reading as reading;
 
 use crate::declarators::{Naming, declarator};
 use crate::lists::{Listed, items};
@@ -20,7 +17,6 @@ use std::alloc::Global;
 const DESIGNATOR_STARTS: [Word; 2] = [Word::OpenSquare, Word::Dot];
 
 /// `declr ["=" init]`
-#[tactic(auto, using(crate::proofs::Steps::level_none, crate::proofs::Steps::var_step))]
 pub fn variable(
     alloc: Global,
     tokens: &[Token<'_>],
@@ -28,8 +24,7 @@ pub fn variable(
     at: usize,
 ) -> Result<(Part, usize), ReadFault>
     requires { at ≤ length tokens.now }
-    ensures within { IfOk result (λ x. x.1 ≤ length tokens.now) }
-    ensures gives { Gives reading.one result (reading.level tokens.now room table.Var at) }
+    ensures { IfOk result (λ x. x.1 ≤ length tokens.now) }
 {
     if room == 0 {
         return Err(ReadFault::NoTree);
@@ -51,8 +46,7 @@ pub fn maybe_value(
     at: usize,
 ) -> Result<(Option<Part>, usize), ReadFault>
     requires { at ≤ length tokens.now }
-    ensures within { IfOk result (λ x. x.1 ≤ length tokens.now) }
-    ensures gives { Gives reading.maybe result (reading.behind_equals tokens.now room table.Init at) }
+    ensures { IfOk result (λ x. x.1 ≤ length tokens.now) }
 {
     if !is(tokens, at, Word::Equals) {
         return Ok((None, at));
@@ -63,7 +57,6 @@ pub fn maybe_value(
 
 /// `assign | "{" [initializer {"," initializer} [","]] "}"`
 #[cycle(reader)]
-#[tactic(auto, using(crate::proofs::Steps::level_none, crate::proofs::Steps::init_step))]
 fn value(
     alloc: Global,
     tokens: &[Token<'_>],
@@ -71,8 +64,7 @@ fn value(
     at: usize,
 ) -> Result<(Part, usize), ReadFault>
     requires { at ≤ length tokens.now }
-    ensures within { IfOk result (λ x. x.1 ≤ length tokens.now) }
-    ensures gives { Gives reading.one result (reading.level tokens.now room table.Init at) }
+    ensures { IfOk result (λ x. x.1 ≤ length tokens.now) }
 {
     if room == 0 {
         return Err(ReadFault::NoTree);
@@ -92,7 +84,6 @@ fn value(
 
 /// `init | designator {designator} "=" init`
 #[cycle(reader)]
-#[tactic(auto, using(crate::proofs::Steps::level_none, crate::proofs::Steps::ini_step))]
 pub fn initializer(
     alloc: Global,
     tokens: &[Token<'_>],
@@ -100,8 +91,7 @@ pub fn initializer(
     at: usize,
 ) -> Result<(Part, usize), ReadFault>
     requires { at ≤ length tokens.now }
-    ensures within { IfOk result (λ x. x.1 ≤ length tokens.now) }
-    ensures gives { Gives reading.one result (reading.level tokens.now room table.Ini at) }
+    ensures { IfOk result (λ x. x.1 ≤ length tokens.now) }
 {
     if room == 0 {
         return Err(ReadFault::NoTree);
@@ -123,7 +113,6 @@ pub fn initializer(
 
 /// `designator {designator}`
 #[cycle(reader)]
-#[tactic(auto, using(crate::proofs::Steps::level_none, crate::proofs::Steps::desigs_step, crate::proofs::Steps::desigs_turn, crate::proofs::Steps::rest_turned, crate::proofs::Steps::list_laws))]
 fn designators(
     alloc: Global,
     tokens: &[Token<'_>],
@@ -131,8 +120,7 @@ fn designators(
     at: usize,
 ) -> Result<(Vec<Part>, usize), ReadFault>
     requires { at ≤ length tokens.now }
-    ensures within { IfOk result (λ x. x.1 ≤ length tokens.now) }
-    ensures gives { Gives reading.parts result (reading.level tokens.now room table.Desigs at) }
+    ensures { IfOk result (λ x. x.1 ≤ length tokens.now) }
 {
     if room == 0 {
         return Err(ReadFault::NoTree);
@@ -152,7 +140,6 @@ fn designators(
 
 /// `"." NAME | "[" cond "]"`
 #[cycle(reader)]
-#[tactic(auto, using(crate::proofs::Steps::level_none, crate::proofs::Steps::desig_step))]
 fn designator(
     alloc: Global,
     tokens: &[Token<'_>],
@@ -160,8 +147,7 @@ fn designator(
     at: usize,
 ) -> Result<(Part, usize), ReadFault>
     requires { at ≤ length tokens.now }
-    ensures within { IfOk result (λ x. x.1 ≤ length tokens.now) }
-    ensures gives { Gives reading.one result (reading.level tokens.now room table.Desig at) }
+    ensures { IfOk result (λ x. x.1 ≤ length tokens.now) }
 {
     if room == 0 {
         return Err(ReadFault::NoTree);

@@ -4,6 +4,7 @@
 mod classify;
 mod declarators;
 mod initializers;
+mod law;
 mod limits;
 mod lists;
 mod look;
@@ -17,6 +18,7 @@ mod settle;
 mod types;
 mod word;
 
+pub use law::at_most_one_tree;
 pub use part::Part;
 pub use read::{CLevel, read_c};
 pub use word::{Token, Word};

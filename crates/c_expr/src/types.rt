@@ -1,10 +1,7 @@
 //! Type names and specs.
 
-ghost use Rattle.std.specs.Prelude.{◌≡◌, ◌<◌, ◌≤◌, length, map, IfOk, IsTrue};
-ghost use Rattle.c_expr.specs.Gives.{Gives};
-ghost use Rattle.c_expr.specs.Table as table;
-ghost use Rattle.c_expr.specs.Reading as reading;
-ghost use Rattle.c_expr.specs.Words.{class, none_is_end};
+ghost use Rattle.std.specs.Prelude.{◌≡◌, ◌≤◌, length, IfOk, IsTrue};
+ghost use Rattle.c_expr.specs.Words.{none_is_end};
 ghost use Rattle.c_expr.specs.Build as build;
 ghost use Rattle.c_expr.specs.Build.{token_at};
 
@@ -44,7 +41,6 @@ pub fn spell(tokens: &[Token<'_>], spelt: Spelt, at: usize) -> Result<Spelt, Mem
 
 /// `spec declr`, of which the declr has no name
 #[cycle(reader)]
-#[tactic(auto, using(crate::proofs::Steps::level_none, crate::proofs::Steps::tname_step))]
 pub fn type_name(
     alloc: Global,
     tokens: &[Token<'_>],
@@ -52,8 +48,7 @@ pub fn type_name(
     at: usize,
 ) -> Result<(Part, usize), ReadFault>
     requires { at ≤ length tokens.now }
-    ensures within { IfOk result (λ x. x.1 ≤ length tokens.now) }
-    ensures gives { Gives reading.one result (reading.level tokens.now room table.Tname at) }
+    ensures { IfOk result (λ x. x.1 ≤ length tokens.now) }
 {
     if room == 0 {
         return Err(ReadFault::NoTree);
@@ -68,7 +63,6 @@ pub fn type_name(
 
 /// Words, one name at most, and groups; or one metavariable.
 #[cycle(reader)]
-#[tactic(auto, using(crate::proofs::Steps::level_none, crate::proofs::Steps::spec_step))]
 pub fn spec(
     alloc: Global,
     tokens: &[Token<'_>],
@@ -76,8 +70,7 @@ pub fn spec(
     at: usize,
 ) -> Result<(Part, usize), ReadFault>
     requires { at ≤ length tokens.now }
-    ensures within { IfOk result (λ x. x.1 ≤ length tokens.now) }
-    ensures gives { Gives reading.one result (reading.level tokens.now room table.Spec at) }
+    ensures { IfOk result (λ x. x.1 ≤ length tokens.now) }
 {
     if room == 0 {
         return Err(ReadFault::NoTree);
@@ -97,7 +90,6 @@ pub fn spec(
 
 /// Qualifiers, and what else follows.
 #[cycle(reader)]
-#[tactic(auto, using(crate::proofs::Steps::level_none, crate::proofs::Steps::spec_start_step))]
 fn spec_start(
     alloc: Global,
     tokens: &[Token<'_>],
@@ -106,8 +98,7 @@ fn spec_start(
     at: usize,
 ) -> Result<(Spelt, usize), ReadFault>
     requires { at ≤ length tokens.now }
-    ensures within { IfOk result (λ x. x.1 ≤ length tokens.now) }
-    ensures gives { Gives reading.seen result (reading.gathering (spelt.text, spelt.kids.items) (reading.level tokens.now room table.SpecStart at)) }
+    ensures { IfOk result (λ x. x.1 ≤ length tokens.now) }
 {
     if room == 0 {
         return Err(ReadFault::NoTree);
@@ -121,7 +112,6 @@ fn spec_start(
 
 /// What stands behind a first qualifier.
 #[cycle(reader)]
-#[tactic(auto, using(crate::proofs::Steps::level_none, crate::proofs::Steps::qualifiers_tail_step, crate::proofs::Steps::qualifiers_turn, crate::proofs::Steps::rest_turned))]
 fn qualified(
     alloc: Global,
     tokens: &[Token<'_>],
@@ -130,8 +120,7 @@ fn qualified(
     at: usize,
 ) -> Result<(Spelt, usize), ReadFault>
     requires { at ≤ length tokens.now }
-    ensures within { IfOk result (λ x. x.1 ≤ length tokens.now) }
-    ensures gives { Gives reading.seen result (reading.gathering (spelt.text, spelt.kids.items) (reading.level tokens.now room table.QualifiersTail at)) }
+    ensures { IfOk result (λ x. x.1 ≤ length tokens.now) }
 {
     if room == 0 {
         return Err(ReadFault::NoTree);
@@ -153,7 +142,6 @@ fn qualified(
 
 /// A name, a type word or a group, and then no name.
 #[cycle(reader)]
-#[tactic(auto, using(crate::proofs::Steps::level_none, crate::proofs::Steps::typed_step, crate::proofs::Steps::typed_turn, crate::proofs::Steps::rest_turned))]
 fn typed(
     alloc: Global,
     tokens: &[Token<'_>],
@@ -162,8 +150,7 @@ fn typed(
     at: usize,
 ) -> Result<(Spelt, usize), ReadFault>
     requires { at ≤ length tokens.now }
-    ensures within { IfOk result (λ x. x.1 ≤ length tokens.now) }
-    ensures gives { Gives reading.seen result (reading.gathering (spelt.text, spelt.kids.items) (reading.level tokens.now room table.Typed at)) }
+    ensures { IfOk result (λ x. x.1 ≤ length tokens.now) }
 {
     if room == 0 {
         return Err(ReadFault::NoTree);
@@ -180,7 +167,6 @@ fn typed(
 
 /// One of these words, or a group.
 #[cycle(reader)]
-#[tactic(auto, using(crate::proofs::Steps::gathered_spelling))]
 fn word_or_group(
     alloc: Global,
     tokens: &[Token<'_>],
@@ -191,8 +177,7 @@ fn word_or_group(
 ) -> Result<(Spelt, usize), ReadFault>
     requires place { at ≤ length tokens.now }
     requires some { IsTrue (none_is_end words.now) }
-    ensures within { IfOk result (λ x. x.1 ≤ length tokens.now) }
-    ensures gives { Gives reading.seen result (reading.gathering (spelt.text, spelt.kids.items) (reading.word_or_group tokens.now room (map class words.now) at)) }
+    ensures { IfOk result (λ x. x.1 ≤ length tokens.now) }
 {
     if is_among(tokens, at, words) {
         return Ok((spell(tokens, spelt, at)?, at + 1));
@@ -202,7 +187,6 @@ fn word_or_group(
 
 /// `("struct" | "union" | "enum") [NAME] [body]`
 #[cycle(reader)]
-#[tactic(auto, using(crate::proofs::Steps::level_none, crate::proofs::Steps::group_step))]
 fn group(
     alloc: Global,
     tokens: &[Token<'_>],
@@ -211,8 +195,7 @@ fn group(
     at: usize,
 ) -> Result<(Spelt, usize), ReadFault>
     requires { at ≤ length tokens.now }
-    ensures within { IfOk result (λ x. x.1 ≤ length tokens.now) }
-    ensures gives { Gives reading.seen result (reading.gathering (spelt.text, spelt.kids.items) (reading.level tokens.now room table.Group at)) }
+    ensures { IfOk result (λ x. x.1 ≤ length tokens.now) }
 {
     if room == 0 {
         return Err(ReadFault::NoTree);
@@ -238,8 +221,7 @@ fn maybe_body(
     at: usize,
 ) -> Result<(Spelt, usize), ReadFault>
     requires { at ≤ length tokens.now }
-    ensures within { IfOk result (λ x. x.1 ≤ length tokens.now) }
-    ensures gives { Gives reading.seen result (reading.gathering (spelt.text, spelt.kids.items) (reading.optional tokens.now room table.Body at)) }
+    ensures { IfOk result (λ x. x.1 ≤ length tokens.now) }
 {
     if !is(tokens, at, Word::OpenCurly) {
         return Ok((spelt, at));

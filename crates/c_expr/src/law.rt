@@ -1,0 +1,9 @@
+//! What holds of the grammar itself.
+
+ghost use Rattle.c_expr.specs.Spells.{AtMostOne};
+
+/// The tokens of a piece that ends where the next token can't go on with it have one tree of a level at most.
+pub fn at_most_one_tree()
+    ensures { AtMostOne }
+{
+}
