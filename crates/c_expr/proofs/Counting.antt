@@ -1,5 +1,5 @@
 -- Brackets, counted step by step.
-use Rattle.std.proofs.Common.{◌≡◌, ℕ, ◌+◌, ◌≤◌, List, add-one}
+use Rattle.std.proofs.Common.{◌≡◌, ℕ, ◌+◌, ◌≤◌, List, refl, add-one}
 use Rattle.grammar.specs.Rule.{open_at, behind, smaller}
 use Rattle.grammar.proofs.Counts.{count_step, count_start}
 use Rattle.c_expr.specs.declared.word.Token.{Token}

@@ -51,11 +51,11 @@ flat p h = zero_of p.depth (and_both (eqb (kind_place (kind_of p.node)) (kind_pl
 
 gathered_deep : (s : List ℕ × List Part) (ps : List Part) → max (tallest s.1) (tallest ps) ≤ tallest (gathered s ps).1
 gathered_deep s [] = omega arith
-gathered_deep s (p ∷ ps) = by (is_spelling p) refl
+gathered_deep s (p ∷ ps) = by (is_spelling p) refl (gathered_deep (spelled_more s.0 (text_of p.node), s.1) ps) (gathered_deep (s.0, s.1 ++ p ∷ []) ps)
   where
-    by : (b : Bool) → is_spelling p ≡ b → max (tallest s.1) (max p.depth (tallest ps)) ≤ tallest (gathered (cond b (spelled_more s.0 (text_of p.node), s.1) (s.0, s.1 ++ p ∷ [])) ps).1
-    by true e = omega (arith, gathered_deep (spelled_more s.0 (text_of p.node), s.1) ps, flat p e)
-    by false e = omega (arith, gathered_deep (s.0, s.1 ++ p ∷ []) ps, at_end s.1 p)
+    by : (b : Bool) → is_spelling p ≡ b → max (tallest s.1) (tallest ps) ≤ tallest (gathered (spelled_more s.0 (text_of p.node), s.1) ps).1 → max (tallest (s.1 ++ p ∷ [])) (tallest ps) ≤ tallest (gathered (s.0, s.1 ++ p ∷ []) ps).1 → max (tallest s.1) (max p.depth (tallest ps)) ≤ tallest (gathered (cond b (spelled_more s.0 (text_of p.node), s.1) (s.0, s.1 ++ p ∷ [])) ps).1
+    by true e x y = omega (arith, x, flat p e)
+    by false e x y = omega (arith, y, at_end s.1 p)
 
 pointer_deep : (span : Span) (ps : List Part) → tallest ps < (pointer span ps).depth
 pointer_deep span [] = omega arith

@@ -41,9 +41,13 @@ is_type cs f i = has spec_words (f i) || is_pointer cs f i
 abbrev pub is_named_cast : (ℕ → ℕ) → ℕ → Bool
 is_named_cast f i = has names (f i) && (has (class w.CloseRound ∷ []) (f (suc i)) && has operand_starts (f (suc (suc i))))
 
--- `(` opens a cast exactly where a word follows; NAME, one or more `*` and `)`; or NAME `)` and then a NAME, number, string, character, `(`, `~`, `!` or `sizeof`
+-- a word; NAME, one or more `*` and `)`; or NAME `)` and then a NAME, number, string, character, `(`, `~`, `!` or `sizeof`
+unfoldable pub is_cast : (ℕ → ℕ) → ℕ → Bool
+is_cast f i = is_type (class w.CloseRound ∷ []) f i || is_named_cast f i
+
+-- `(` opens a cast exactly where these follow
 abbrev pub opens_cast : (ℕ → ℕ) → ℕ → Bool
-opens_cast f i = has (class w.OpenRound ∷ []) (f i) && (is_type (class w.CloseRound ∷ []) f (suc i) || is_named_cast f (suc i))
+opens_cast f i = has (class w.OpenRound ∷ []) (f i) && is_cast f (suc i)
 
 -- after `sizeof` a `(` holds a type exactly where a word follows, or NAME, one or more `*` and `)`
 abbrev pub sizes_type : (ℕ → ℕ) → ℕ → Bool

@@ -18,7 +18,7 @@ mod settle;
 mod types;
 mod word;
 
-pub use law::at_most_one_tree;
+pub use law::{at_most_one_tree, spans_lie};
 pub use part::Part;
 pub use read::{CLevel, read_c};
 pub use word::{Token, Word};

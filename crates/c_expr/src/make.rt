@@ -206,16 +206,13 @@ pub fn over_two(
 }
 
 /// A node over others.
-#[tactic(auto, unfolding(crate::specs::Build::over))]
 pub fn over(
     alloc: Global,
     kind: Kind,
     text: Text,
     span: Span,
     parts: Vec<Part>,
-) -> Result<Part, Memory>
-    ensures { IfOk result (λ p. p ≡ cut (build.over kind text span parts.items)) }
-{
+) -> Result<Part, Memory> {
     let mut kids = Vec::with_capacity(alloc, parts.len())?;
     let mut depth = 0;
     for part in parts {

@@ -1,7 +1,6 @@
 //! The bodies of structures, unions and enumerations.
 
-ghost use Rattle.std.specs.Prelude.{◌≡◌, ◌≤◌, [], length, IfOk};
-ghost use Rattle.c_expr.specs.Build.{cut, over, span_between};
+ghost use Rattle.std.specs.Prelude.{◌≤◌, length, IfOk};
 
 use crate::declarators::{Naming, declarator};
 use crate::initializers::maybe_value;
@@ -66,9 +65,7 @@ fn body_over(
     parts: Vec<Part>,
     at: usize,
     end: usize,
-) -> Result<Part, Memory>
-    ensures { IfOk result (λ p. p ≡ cut (over kind [] (span_between tokens.now at end) parts.items)) }
-{
+) -> Result<Part, Memory> {
     over(alloc, kind, Text::new(alloc), span_at(tokens, at, end), parts)
 }
 

@@ -85,6 +85,17 @@ fn is_named_cast(tokens: &[Token<'_>], at: usize) -> bool
     is_among(tokens, at + 2, &OPERAND_STARTS)
 }
 
+/// Whether what stands behind a `(` makes it that of a cast.
+#[tactic(auto, unfolding(crate::specs::Settling::is_cast))]
+fn is_cast(tokens: &[Token<'_>], at: usize) -> bool
+    ensures { result ≡ spec.is_cast (source tokens.now).cls at }
+{
+    if is_type(tokens, at, &[Word::CloseRound]) {
+        return true;
+    }
+    is_named_cast(tokens, at)
+}
+
 /// Whether `(` stands there and opens a cast.
 pub fn opens_cast(tokens: &[Token<'_>], at: usize) -> bool
     ensures test { result ≡ spec.opens_cast (source tokens.now).cls at }
@@ -93,10 +104,7 @@ pub fn opens_cast(tokens: &[Token<'_>], at: usize) -> bool
     if !is(tokens, at, Word::OpenRound) {
         return false;
     }
-    if is_type(tokens, at + 1, &[Word::CloseRound]) {
-        return true;
-    }
-    is_named_cast(tokens, at + 1)
+    is_cast(tokens, at + 1)
 }
 
 /// Whether the `(` behind a `sizeof` there holds a type.

@@ -2,185 +2,185 @@ use Rattle.std.proofs.Common.{◌≤◌, ◌+◌, ◌*◌, length}
 use Rattle.c_expr.specs.Reading.{looseness}
 use Rattle.c_expr.proofs.+reader.Given as goal
 
-abbrev pub decreases-maybe_declarator : goal.decreases-maybe_declarator
-decreases-maybe_declarator l = 128 * l.room + 5
+abbrev pub decreases-declarators::maybe_declarator : goal.decreases-declarators::maybe_declarator
+decreases-declarators::maybe_declarator l = 128 * l.room + 5
 
-abbrev pub decreases-declarator : goal.decreases-declarator
-decreases-declarator l = 128 * l.room + 4
+abbrev pub decreases-declarators::declarator : goal.decreases-declarators::declarator
+decreases-declarators::declarator l = 128 * l.room + 4
 
-abbrev pub decreases-pointed : goal.decreases-pointed
-decreases-pointed l = 128 * l.room + 6
+abbrev pub decreases-declarators::pointed : goal.decreases-declarators::pointed
+decreases-declarators::pointed l = 128 * l.room + 6
 
-abbrev pub decreases-direct : goal.decreases-direct
-decreases-direct l = 128 * l.room + 3
+abbrev pub decreases-declarators::direct : goal.decreases-declarators::direct
+decreases-declarators::direct l = 128 * l.room + 3
 
-abbrev pub decreases-brackets : goal.decreases-brackets
-decreases-brackets l = 128 * l.room + 2
+abbrev pub decreases-declarators::brackets : goal.decreases-declarators::brackets
+decreases-declarators::brackets l = 128 * l.room + 2
 
-abbrev pub decreases-bracket : goal.decreases-bracket
-decreases-bracket l = 128 * l.room + 1
+abbrev pub decreases-declarators::bracket : goal.decreases-declarators::bracket
+decreases-declarators::bracket l = 128 * l.room + 1
 
-abbrev pub decreases-array_size : goal.decreases-array_size
-decreases-array_size l = 128 * l.room + 94
+abbrev pub decreases-declarators::array_size : goal.decreases-declarators::array_size
+decreases-declarators::array_size l = 128 * l.room + 94
 
-abbrev pub decreases-parameter : goal.decreases-parameter
-decreases-parameter l = 128 * l.room + 9
+abbrev pub decreases-declarators::parameter : goal.decreases-declarators::parameter
+decreases-declarators::parameter l = 128 * l.room + 9
 
-abbrev pub decreases-maybe_value : goal.decreases-maybe_value
-decreases-maybe_value l = 128 * l.room + 95
+abbrev pub decreases-initializers::maybe_value : goal.decreases-initializers::maybe_value
+decreases-initializers::maybe_value l = 128 * l.room + 95
 
-abbrev pub decreases-value : goal.decreases-value
-decreases-value l = 128 * l.room + 94
+abbrev pub decreases-initializers::value : goal.decreases-initializers::value
+decreases-initializers::value l = 128 * l.room + 94
 
-abbrev pub decreases-initializer : goal.decreases-initializer
-decreases-initializer l = 128 * l.room + 95
+abbrev pub decreases-initializers::initializer : goal.decreases-initializers::initializer
+decreases-initializers::initializer l = 128 * l.room + 95
 
-abbrev pub decreases-designators : goal.decreases-designators
-decreases-designators l = 128 * l.room + 2
+abbrev pub decreases-initializers::designators : goal.decreases-initializers::designators
+decreases-initializers::designators l = 128 * l.room + 2
 
-abbrev pub decreases-designator : goal.decreases-designator
-decreases-designator l = 128 * l.room + 1
+abbrev pub decreases-initializers::designator : goal.decreases-initializers::designator
+decreases-initializers::designator l = 128 * l.room + 1
 
-abbrev pub decreases-list : goal.decreases-list
-decreases-list l = 128 * l.room + 99
+abbrev pub decreases-lists::list : goal.decreases-lists::list
+decreases-lists::list l = 128 * l.room + 99
 
-abbrev pub decreases-items : goal.decreases-items
-decreases-items l = 128 * l.room + 98
+abbrev pub decreases-lists::items : goal.decreases-lists::items
+decreases-lists::items l = 128 * l.room + 98
 
-abbrev pub decreases-item : goal.decreases-item
-decreases-item l = 128 * l.room + 97
+abbrev pub decreases-lists::item : goal.decreases-lists::item
+decreases-lists::item l = 128 * l.room + 97
 
-abbrev pub decreases-body : goal.decreases-body
-decreases-body l = 128 * l.room + 1
+abbrev pub decreases-members::body : goal.decreases-members::body
+decreases-members::body l = 128 * l.room + 1
 
-abbrev pub decreases-fields : goal.decreases-fields
-decreases-fields l = 128 * l.room + 101
+abbrev pub decreases-members::fields : goal.decreases-members::fields
+decreases-members::fields l = 128 * l.room + 101
 
-abbrev pub decreases-field : goal.decreases-field
-decreases-field l = 128 * l.room + 100
+abbrev pub decreases-members::field : goal.decreases-members::field
+decreases-members::field l = 128 * l.room + 100
 
-abbrev pub decreases-member : goal.decreases-member
-decreases-member l = 128 * l.room + 96
+abbrev pub decreases-members::member : goal.decreases-members::member
+decreases-members::member l = 128 * l.room + 96
 
-abbrev pub decreases-width : goal.decreases-width
-decreases-width l = 128 * l.room + 93
+abbrev pub decreases-members::width : goal.decreases-members::width
+decreases-members::width l = 128 * l.room + 93
 
-abbrev pub decreases-enumerator : goal.decreases-enumerator
-decreases-enumerator l = 128 * l.room + 94
+abbrev pub decreases-members::enumerator : goal.decreases-members::enumerator
+decreases-members::enumerator l = 128 * l.room + 94
 
-abbrev pub decreases-maybe_number : goal.decreases-maybe_number
-decreases-maybe_number l = 128 * l.room + 93
+abbrev pub decreases-members::maybe_number : goal.decreases-members::maybe_number
+decreases-members::maybe_number l = 128 * l.room + 93
 
-abbrev pub decreases-comma : goal.decreases-comma
-decreases-comma l = 128 * l.room + 94
+abbrev pub decreases-operators::comma : goal.decreases-operators::comma
+decreases-operators::comma l = 128 * l.room + 94
 
-abbrev pub decreases-assign : goal.decreases-assign
-decreases-assign l = 128 * l.room + 93
+abbrev pub decreases-operators::assign : goal.decreases-operators::assign
+decreases-operators::assign l = 128 * l.room + 93
 
-abbrev pub decreases-assign_rest : goal.decreases-assign_rest
-decreases-assign_rest l = 128 * l.room + 92
+abbrev pub decreases-operators::assign_rest : goal.decreases-operators::assign_rest
+decreases-operators::assign_rest l = 128 * l.room + 92
 
-abbrev pub decreases-conditional : goal.decreases-conditional
-decreases-conditional l = 128 * l.room + 92
+abbrev pub decreases-operators::conditional : goal.decreases-operators::conditional
+decreases-operators::conditional l = 128 * l.room + 92
 
-abbrev pub decreases-cond_rest : goal.decreases-cond_rest
-decreases-cond_rest l = 128 * l.room + 91
+abbrev pub decreases-operators::cond_rest : goal.decreases-operators::cond_rest
+decreases-operators::cond_rest l = 128 * l.room + 91
 
-abbrev pub decreases-cond_more : goal.decreases-cond_more
-decreases-cond_more l = 128 * l.room + 90
+abbrev pub decreases-operators::cond_more : goal.decreases-operators::cond_more
+decreases-operators::cond_more l = 128 * l.room + 90
 
-abbrev pub decreases-cond_part : goal.decreases-cond_part
-decreases-cond_part l = 128 * l.room + 1
+abbrev pub decreases-operators::cond_part : goal.decreases-operators::cond_part
+decreases-operators::cond_part l = 128 * l.room + 1
 
-abbrev pub decreases-chain : goal.decreases-chain
-decreases-chain l = 128 * l.room + (15 + 8 * looseness l.level)
+abbrev pub decreases-operators::chain : goal.decreases-operators::chain
+decreases-operators::chain l = 128 * l.room + (15 + 8 * looseness l.level)
 
-abbrev pub decreases-more : goal.decreases-more
-decreases-more l = 128 * l.room + (14 + 8 * looseness l.level)
+abbrev pub decreases-operators::more : goal.decreases-operators::more
+decreases-operators::more l = 128 * l.room + (14 + 8 * looseness l.level)
 
-abbrev pub decreases-first_more : goal.decreases-first_more
-decreases-first_more l = 128 * l.room + (12 + 8 * looseness l.level)
+abbrev pub decreases-operators::first_more : goal.decreases-operators::first_more
+decreases-operators::first_more l = 128 * l.room + (12 + 8 * looseness l.level)
 
-abbrev pub decreases-tail : goal.decreases-tail
-decreases-tail l = 128 * l.room + (12 + 8 * looseness l.level)
+abbrev pub decreases-operators::tail : goal.decreases-operators::tail
+decreases-operators::tail l = 128 * l.room + (12 + 8 * looseness l.level)
 
-abbrev pub decreases-operation : goal.decreases-operation
-decreases-operation l = 128 * l.room + (11 + 8 * looseness l.level)
+abbrev pub decreases-operators::operation : goal.decreases-operators::operation
+decreases-operators::operation l = 128 * l.room + (11 + 8 * looseness l.level)
 
-abbrev pub decreases-operand : goal.decreases-operand
-decreases-operand l = 128 * l.room + (10 + 8 * looseness l.level)
+abbrev pub decreases-operators::operand : goal.decreases-operators::operand
+decreases-operators::operand l = 128 * l.room + (10 + 8 * looseness l.level)
 
-abbrev pub decreases-cast : goal.decreases-cast
-decreases-cast l = 128 * l.room + 5
+abbrev pub decreases-operators::cast : goal.decreases-operators::cast
+decreases-operators::cast l = 128 * l.room + 5
 
-abbrev pub decreases-unary : goal.decreases-unary
-decreases-unary l = 128 * l.room + 4
+abbrev pub decreases-operators::unary : goal.decreases-operators::unary
+decreases-operators::unary l = 128 * l.room + 4
 
-abbrev pub decreases-size : goal.decreases-size
-decreases-size l = 128 * l.room + 1
+abbrev pub decreases-operators::size : goal.decreases-operators::size
+decreases-operators::size l = 128 * l.room + 1
 
-abbrev pub decreases-postfix : goal.decreases-postfix
-decreases-postfix l = 128 * l.room + 3
+abbrev pub decreases-primaries::postfix : goal.decreases-primaries::postfix
+decreases-primaries::postfix l = 128 * l.room + 3
 
-abbrev pub decreases-suffix : goal.decreases-suffix
-decreases-suffix l = 128 * l.room + 1
+abbrev pub decreases-primaries::suffix : goal.decreases-primaries::suffix
+decreases-primaries::suffix l = 128 * l.room + 1
 
-abbrev pub decreases-primary : goal.decreases-primary
-decreases-primary l = 128 * l.room + 2
+abbrev pub decreases-primaries::primary : goal.decreases-primaries::primary
+decreases-primaries::primary l = 128 * l.room + 2
 
-abbrev pub decreases-deep : goal.decreases-deep
-decreases-deep l = 128 * l.room + 1
+abbrev pub decreases-primaries::deep : goal.decreases-primaries::deep
+decreases-primaries::deep l = 128 * l.room + 1
 
-abbrev pub decreases-argument : goal.decreases-argument
-decreases-argument l = 128 * l.room + 95
+abbrev pub decreases-primaries::argument : goal.decreases-primaries::argument
+decreases-primaries::argument l = 128 * l.room + 95
 
-abbrev pub decreases-type_name : goal.decreases-type_name
-decreases-type_name l = 128 * l.room + 9
+abbrev pub decreases-types::type_name : goal.decreases-types::type_name
+decreases-types::type_name l = 128 * l.room + 9
 
-abbrev pub decreases-spec : goal.decreases-spec
-decreases-spec l = 128 * l.room + 8
+abbrev pub decreases-types::spec : goal.decreases-types::spec
+decreases-types::spec l = 128 * l.room + 8
 
-abbrev pub decreases-spec_start : goal.decreases-spec_start
-decreases-spec_start l = 128 * l.room + 7
+abbrev pub decreases-types::spec_start : goal.decreases-types::spec_start
+decreases-types::spec_start l = 128 * l.room + 7
 
-abbrev pub decreases-qualified : goal.decreases-qualified
-decreases-qualified l = 128 * l.room + 6
+abbrev pub decreases-types::qualified : goal.decreases-types::qualified
+decreases-types::qualified l = 128 * l.room + 6
 
-abbrev pub decreases-typed : goal.decreases-typed
-decreases-typed l = 128 * l.room + 5
+abbrev pub decreases-types::typed : goal.decreases-types::typed
+decreases-types::typed l = 128 * l.room + 5
 
-abbrev pub decreases-word_or_group : goal.decreases-word_or_group
-decreases-word_or_group l = 128 * l.room + 4
+abbrev pub decreases-types::word_or_group : goal.decreases-types::word_or_group
+decreases-types::word_or_group l = 128 * l.room + 4
 
-abbrev pub decreases-group : goal.decreases-group
-decreases-group l = 128 * l.room + 3
+abbrev pub decreases-types::group : goal.decreases-types::group
+decreases-types::group l = 128 * l.room + 3
 
-abbrev pub decreases-maybe_body : goal.decreases-maybe_body
-decreases-maybe_body l = 128 * l.room + 2
+abbrev pub decreases-types::maybe_body : goal.decreases-types::maybe_body
+decreases-types::maybe_body l = 128 * l.room + 2
 
-abbrev pub invariant-comma-loop-turn : goal.invariant-comma-loop-turn
-invariant-comma-loop-turn l = l.end ≤ length l.tokens
+abbrev pub invariant-operators::comma-loop-turn : goal.invariant-operators::comma-loop-turn
+invariant-operators::comma-loop-turn l = l.end ≤ length l.tokens
 
-abbrev pub invariant-tail-loop-turn : goal.invariant-tail-loop-turn
-invariant-tail-loop-turn l = l.end ≤ length l.tokens
+abbrev pub invariant-operators::tail-loop-turn : goal.invariant-operators::tail-loop-turn
+invariant-operators::tail-loop-turn l = l.end ≤ length l.tokens
 
-abbrev pub invariant-postfix-loop-turn : goal.invariant-postfix-loop-turn
-invariant-postfix-loop-turn l = l.end ≤ length l.tokens
+abbrev pub invariant-primaries::postfix-loop-turn : goal.invariant-primaries::postfix-loop-turn
+invariant-primaries::postfix-loop-turn l = l.end ≤ length l.tokens
 
-abbrev pub invariant-items-loop-turn : goal.invariant-items-loop-turn
-invariant-items-loop-turn l = l.end ≤ length l.tokens
+abbrev pub invariant-lists::items-loop-turn : goal.invariant-lists::items-loop-turn
+invariant-lists::items-loop-turn l = l.end ≤ length l.tokens
 
-abbrev pub invariant-qualified-loop-turn : goal.invariant-qualified-loop-turn
-invariant-qualified-loop-turn l = l.end ≤ length l.tokens
+abbrev pub invariant-types::qualified-loop-turn : goal.invariant-types::qualified-loop-turn
+invariant-types::qualified-loop-turn l = l.end ≤ length l.tokens
 
-abbrev pub invariant-typed-loop-turn : goal.invariant-typed-loop-turn
-invariant-typed-loop-turn l = l.end ≤ length l.tokens
+abbrev pub invariant-types::typed-loop-turn : goal.invariant-types::typed-loop-turn
+invariant-types::typed-loop-turn l = l.end ≤ length l.tokens
 
-abbrev pub invariant-brackets-loop-turn : goal.invariant-brackets-loop-turn
-invariant-brackets-loop-turn l = l.end ≤ length l.tokens
+abbrev pub invariant-declarators::brackets-loop-turn : goal.invariant-declarators::brackets-loop-turn
+invariant-declarators::brackets-loop-turn l = l.end ≤ length l.tokens
 
-abbrev pub invariant-fields-loop-turn : goal.invariant-fields-loop-turn
-invariant-fields-loop-turn l = l.end ≤ length l.tokens
+abbrev pub invariant-members::fields-loop-turn : goal.invariant-members::fields-loop-turn
+invariant-members::fields-loop-turn l = l.end ≤ length l.tokens
 
-abbrev pub invariant-designators-loop-turn : goal.invariant-designators-loop-turn
-invariant-designators-loop-turn l = l.end ≤ length l.tokens
+abbrev pub invariant-initializers::designators-loop-turn : goal.invariant-initializers::designators-loop-turn
+invariant-initializers::designators-loop-turn l = l.end ≤ length l.tokens
