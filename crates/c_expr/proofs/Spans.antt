@@ -82,9 +82,12 @@ both text from (p ∷ ps) qs h k = (h.0, both text from ps qs h.1 k)
 at_lies : (text : List ℕ) (at : ℕ) → IsCharBoundary text at → LiesIn text (empty_at at)
 at_lies text at b = record { ordered = omega arith; begins = b; ends = b }
 
+zero_of : (n : ℕ) → eqb n 0 ≡ true → n ≡ 0
+zero_of n e = grind arith
+
 none : (text : List ℕ) (ns : List Node) → eqb (length ns) 0 ≡ true → Each text ns
 none text [] h = tt
-none text (n ∷ ns) h = cc
+none text (n ∷ ns) h = absurd (omega (arith, zero_of (length (n ∷ ns)) h))
 
 settled_lies : (text : List ℕ) (at : ℕ) (n : Node) → IsCharBoundary text at → SpansLieIn text n → SpansLieIn text (settled at n)
 unfolding settled

@@ -372,6 +372,7 @@ fn word_among(mut spellings: &[Spelling], text: &[u8]) -> Word
 }
 
 /// The word of a mark: `...` is an ellipsis in a text, and dots in a pattern.
+#[tactic(auto, unfolding(crate::specs::Words::mark_word))]
 fn mark_word(mode: Mode, text: &str) -> Word
     ensures { result ≡ spec.mark_word mode text.now }
 {
@@ -385,6 +386,7 @@ fn mark_word(mode: Mode, text: &str) -> Word
 }
 
 /// The word of a keyword.
+#[tactic(auto, unfolding(crate::specs::Words::keyword_word))]
 fn keyword_word(text: &str) -> Word
     ensures { result ≡ spec.keyword_word text.now }
 {

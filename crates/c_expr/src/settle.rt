@@ -1,6 +1,6 @@
 //! Where the next tokens settle what the grammar alone leaves open.
 
-ghost use Rattle.std.specs.Prelude.{◌≡◌, ◌<◌, ◌≤◌, true, length, map, IsTrue};
+ghost use Rattle.std.specs.Prelude.{◌≡◌, ◌+◌, ◌<◌, ◌≤◌, true, length, map, IsTrue};
 ghost use Rattle.c_expr.specs.Build.{source};
 ghost use Rattle.c_expr.specs.Settling as spec;
 ghost use Rattle.c_expr.specs.Words.{class, none_is_end};
@@ -110,7 +110,8 @@ pub fn opens_cast(tokens: &[Token<'_>], at: usize) -> bool
 /// Whether the `(` behind a `sizeof` there holds a type.
 pub fn sizes_type(tokens: &[Token<'_>], at: usize) -> bool
     requires { at < length tokens.now }
-    ensures { result ≡ spec.sizes_type (source tokens.now).cls at }
+    ensures test { result ≡ spec.sizes_type (source tokens.now).cls at }
+    ensures within { result ≡ true → at + 1 < length tokens.now }
 {
     if !is(tokens, at + 1, Word::OpenRound) {
         return false;
