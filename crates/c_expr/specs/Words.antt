@@ -101,9 +101,12 @@ abbrev pub dots_word : Mode → Word
 dots_word Text = Ellipsis
 dots_word Pattern = Dots
 
+unfoldable pub other_mark : List ℕ → Word
+other_mark text = word_among marks text
+
 -- `...` is an ellipsis in a text, and dots in a pattern
 unfoldable pub mark_word : Mode → List ℕ → Word
-mark_word mode text = if bytes_eq (codes "...") text then dots_word mode else word_among marks text
+mark_word mode text = if bytes_eq (codes "...") text then dots_word mode else other_mark text
 
 unfoldable pub keyword_word : List ℕ → Word
 keyword_word text = word_among keywords text

@@ -382,11 +382,17 @@ fn mark_word(mode: Mode, text: &str) -> Word
             Mode::Pattern => Word::Dots,
         };
     }
+    other_mark(text)
+}
+
+/// The word of a mark but `...`.
+fn other_mark(text: &str) -> Word
+    ensures { result ≡ spec.other_mark text.now }
+{
     word_among(&MARKS, text.as_bytes())
 }
 
 /// The word of a keyword.
-#[tactic(auto, unfolding(crate::specs::Words::keyword_word))]
 fn keyword_word(text: &str) -> Word
     ensures { result ≡ spec.keyword_word text.now }
 {
