@@ -1,0 +1,5 @@
+pub mod Ws
+pub mod Token
+pub mod Table
+pub mod Sets
+pub mod Settling
