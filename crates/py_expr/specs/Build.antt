@@ -94,13 +94,13 @@ abbrev pub widened : Node → Part → Node
 widened n p = roll-Node (record (out-Node n) { kids = kids_of n ++ others p })
 
 -- how far a node's first kids lead down, at most so far
+abbrev pub of_first : (Node → ℕ) → List Node → ℕ
+of_first f [] = 0
+of_first f (kid ∷ kids) = f kid
+
 abbrev pub spine : ℕ → Node → ℕ
 spine zero n = 0
-spine (suc most) n = suc (first_spine (kids_of n))
-  where
-    first_spine : List Node → ℕ
-    first_spine [] = 0
-    first_spine (kid ∷ kids) = spine most kid
+spine (suc most) n = suc (of_first (spine most) (kids_of n))
 
 -- A tree of more than 500 first kids below one another is deeper than what is read, so what comes on is put beside them.
 abbrev pub too_deep : ℕ

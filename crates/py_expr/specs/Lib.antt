@@ -7,3 +7,4 @@ pub mod Build
 pub mod Sets
 pub mod Reading
 pub mod Gives
+pub mod Runs

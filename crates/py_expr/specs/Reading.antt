@@ -1,9 +1,9 @@
 -- What the functions of the reader read.
 use Rattle.std.specs.Prelude.{ℕ, suc, ◌+◌, ◌-◌, Bool, true, false, cond, eqb, List, [], ◌∷◌, ◌++◌, length, Option, Some, None}
 use Rattle.node_tree.specs.declared.node.Node.{Node}
-use Rattle.node_tree.specs.declared.kind.Kind.TheVariants as k
-use Rattle.grammar.specs.Rule.{has, brackets_round}
-use Rattle.grammar.specs.Reader.{read_level, ◌>>=◌}
+use Rattle.node_tree.specs.declared.kind.Kind.{Kind}
+use Rattle.grammar.specs.Rule.{has, ref, deep, opt, make, ◌·◌, brackets_round}
+use Rattle.grammar.specs.Reader.{read, choice, read_level, ◌>>=◌}
 use Rattle.py_expr.specs.declared.item.Item.{Item}
 use Rattle.py_expr.specs.declared.word.Word.TheVariants as w
 use Rattle.py_expr.specs.declared.level.Binary.{Binary}
@@ -15,9 +15,11 @@ use Rattle.py_expr.specs.declared.build.After.TheVariants as afters
 use Rattle.py_expr.specs.declared.build.Tail.{Tail}
 use Rattle.py_expr.specs.declared.build.Entries.{Entries}
 use Rattle.py_expr.specs.Words.{class}
-use Rattle.py_expr.specs.Parts.{Part, whole, lacking, call, more, clauses, display, sign, bounds, node, wholes}
-use Rattle.py_expr.specs.Table.{Level, Or, And, Not, Bor, Xor, Band, Shift, Sum, Term, Unary, Star, Target, Piece, Arg, Param, LambdaParam, AfterStar, AfterItem, AfterTarget, AfterPiece, AfterArg, AfterFirstArg, AfterParam, AfterLambdaParam, Stars, Targets, Pieces, MoreArgs, MoreParams, MoreLambdaParams, FirstEntry, LaterEntry, AfterPair, AfterFirstPair, Pairs, DottedPairs, Pair, DotsLeaf, table, grammar, factors}
-use Rattle.py_expr.specs.Build.{token_at, end_of, source}
+use Rattle.py_expr.specs.Parts.{Part, whole, lacking, call, more, clauses, display, sign, bounds, node, nodes_of, wholes}
+use Rattle.py_expr.specs.Table.{Level, Or, And, Not, Bor, Xor, Band, Shift, Sum, Term, Unary, Star, Target, Piece, Arg, Param, LambdaParam, AfterStar, AfterItem, AfterTarget, AfterPiece, AfterArg, AfterFirstArg, AfterParam, AfterLambdaParam, Stars, Targets, Pieces, MoreArgs, MoreParams, MoreLambdaParams, FirstEntry, LaterEntry, AfterPair, AfterFirstPair, Pairs, DottedPairs, Pair, DotsLeaf, Test, Given, LambdaGiven, LambdaParams, Further, Row, Ident, tok, table, grammar, factors}
+use Rattle.py_expr.specs.declared.word.Word.{Word}
+use Rattle.py_expr.specs.Table as rows
+use Rattle.py_expr.specs.Build.{token_at, end_of, empty_list, undecided, leaf, source}
 use Rattle.py_expr.specs.Sets.{sets, ranks}
 
 -- the reader of a level, by the table
@@ -175,3 +177,66 @@ param_of false = LambdaParam
 
 -- ---- parts of rows that have functions of their own
 
+
+-- what a row reads, over the levels at hand and those one step deeper
+abbrev pub row : List Item → ℕ → Row → ℕ → Option (List Part × ℕ)
+row ts room r i = read (source ts) sets (suc (length ts)) (choice (level ts room) (level ts (room - 1))) (λ i. None) None r i
+
+abbrev pub starred : List Item → ℕ → ℕ → Option (List Part × ℕ)
+starred ts room i = row ts room (rows.starred Bor) i
+
+abbrev pub double_starred : List Item → ℕ → ℕ → Option (List Part × ℕ)
+double_starred ts room i = row ts room (rows.double_starred Bor) i
+
+-- a mark and a test behind it, or nothing
+abbrev pub marked : List Item → ℕ → Word → ℕ → Option (List Part × ℕ)
+marked ts room mark i = row ts room (make Further (opt (tok mark · ref Test))) i
+
+abbrev pub given_of : Bool → Level
+given_of true = Given
+given_of false = LambdaGiven
+
+abbrev pub given : Node × Option Node × Option Node × ℕ → List Part × ℕ
+given x = (whole x.0 ∷ more (found x.1) ∷ more (found x.2) ∷ [], x.3)
+
+-- a closing brace behind what stands in braces
+abbrev pub closed : List Item → ℕ → Entries → ℕ → Option (List Part × ℕ)
+closed ts from e i = cond (eqb (class w.RightBrace) (class (token_at ts i).word)) (Some (whole (node e.kind e.text from (end_of ts (i + 1)) e.kids) ∷ [], i + 1)) None
+
+-- what tells dots in braces apart: nothing, or an entry behind a comma
+abbrev pub decided : List Item → ℕ → List Node → ℕ → Option (List Part × ℕ)
+decided ts room front i =
+    ◌>>=◌ {B = List Part × ℕ} (cond {A = Option (List Part × ℕ)} (eqb (class w.Comma) (class (token_at ts i).word)) (cond {A = Option (List Part × ℕ)} (has (sets.first LaterEntry) (class (token_at ts (i + 1)).word)) (level ts room LaterEntry (i + 1)) (Some ([], i + 1))) (Some ([], i))) (λ y. Some (undecided front y.0 ∷ [], y.1))
+
+-- a name, a mark and a test behind it, as a node
+abbrev pub assigned : List Item → ℕ → Kind → ℕ → Option (List Part × ℕ)
+assigned ts room kind i = ◌>>=◌ {B = List Part × ℕ} (level ts room Test (i + 2)) (λ x. Some (whole (node kind [] (token_at ts i).span.from (end_of ts x.1) (nodes_of (leaf Ident (token_at ts i) ∷ x.0))) ∷ [], x.1))
+
+-- how many brackets the token at a place stands inside, from another place on
+unfoldable pub round_at : List Item → ℕ → ℕ → ℕ
+round_at ts from n = brackets_round grammar.opens grammar.closes (source ts).cls from n
+
+-- the parameters of a lambda, where there are some
+abbrev pub maybe : Option Node × ℕ → List Part × ℕ
+maybe x = (wholes (found x.0), x.1)
+
+abbrev pub some_params : List Item → ℕ → ℕ → Option (List Part × ℕ)
+some_params ts room i = row ts room (opt (deep LambdaParams)) i
+
+abbrev pub lambda_kids : ℕ → Option Node → Node → List Node
+lambda_kids from None value = empty_list from ∷ value ∷ []
+lambda_kids from (Some n) value = n ∷ value ∷ []
+
+abbrev pub two : Node × Node × ℕ → List Part × ℕ
+two x = (whole x.0 ∷ whole x.1 ∷ [], x.2)
+
+abbrev pub for_part : List Item → ℕ → ℕ → Option (List Part × ℕ)
+for_part ts room i = row ts room rows.for_part i
+
+abbrev pub annotation : List Item → ℕ → Bool → ℕ → Option (List Part × ℕ)
+annotation ts room true i = marked ts room w.Colon i
+annotation ts room false i = Some (more [] ∷ [], i)
+
+-- a test behind a mark
+abbrev pub marked_arg : List Item → ℕ → Kind → ℕ → Option (List Part × ℕ)
+marked_arg ts room kind i = ◌>>=◌ {B = List Part × ℕ} (level ts room Test (i + 1)) (λ x. Some (whole (node kind [] (token_at ts i).span.from (end_of ts x.1) (nodes_of x.0)) ∷ [], x.1))

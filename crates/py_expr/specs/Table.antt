@@ -44,7 +44,6 @@ pub data Level : Type 0 where
   Sub : Level
   Atom : Level
   Strings : Level
-  String : Level
   MoreStrings : Level
   StringsTail : Level
   Paren : Level
@@ -87,8 +86,6 @@ pub data Level : Type 0 where
   LambdaParam : Level
   Given : Level
   LambdaGiven : Level
-  Typed : Level
-  Valued : Level
   AfterStar : Level
   Stars : Level
   StarsTail : Level
@@ -227,7 +224,7 @@ abbrev pub prim_round : Row
 prim_round = opt (ref Suffix · again)
 
 abbrev pub strings_round : Row
-strings_round = opt (ref String · again)
+strings_round = opt (word Own strings · again)
 
 abbrev pub clauses_round : Row
 clauses_round = opt (ref Clause · again)
@@ -305,9 +302,8 @@ table Sub = make (Lacking k.Sub) (square (deep Index))
 -- atom = NAME Name | NUMBER Number | strings | True False None  Const | "..." Ellipsis | and what stands in brackets
 table Atom = word Own scalars ∣ ref Strings ∣ ref Paren ∣ ref ListLit ∣ ref Braces ∣ ref Deep
 -- strings = one or more string tokens     Str, FStr or, for several, StrJoin[..]
-table Strings = make Joined (ref String · opt (ref MoreStrings))
-table String = word Own strings
-table MoreStrings = make Further (ref String · rep StringsTail strings_round)
+table Strings = make Joined (word Own strings · opt (ref MoreStrings))
+table MoreStrings = make Further (word Own strings · rep StringsTail strings_round)
 table StringsTail = rep StringsTail strings_round
 -- "(" ")" Tuple[] | "(" exprs ")" | "(" yield ")" | "(" named comp ")" Comp(gen)
 table Paren = make Grouped (round (opt (deep Inner)))
@@ -362,13 +358,11 @@ table PlainArg = starred Test ∣ double_starred Test ∣ ref Named
 table Params = make ListOf (ref Param · ref AfterParam)
 -- param = ["*"|"**"] NAME [":" test] ["=" test] | "*" | "/"   Param(mark)[Id, annotation, default]
 table Param = parameter Given
-table Given = word Ident names · ref Typed · ref Valued
+table Given = word Ident names · make Further (opt (tok w.Colon · ref Test)) · make Further (opt (tok w.Equal · ref Test))
 -- a parameter of a lambda has no annotation
 table LambdaParams = make ListOf (ref LambdaParam · ref AfterLambdaParam)
 table LambdaParam = parameter LambdaGiven
-table LambdaGiven = word Ident names · make Further done · ref Valued
-table Typed = make Further (opt (tok w.Colon · ref Test))
-table Valued = make Further (opt (tok w.Equal · ref Test))
+table LambdaGiven = word Ident names · make Further done · make Further (opt (tok w.Equal · ref Test))
 -- what comes after a first item of a list
 table AfterStar = opt (further Stars)
 table Stars = opt (ref Star · rep StarsTail (listed Star))

@@ -386,3 +386,20 @@ pub fn slice(
     )?;
     Ok(over(alloc, Kind::Slice, from, to, kids))
 }
+
+/// A lambda, whose list of parameters may be empty.
+pub fn lambda_of(
+    alloc: Global,
+    from: u32,
+    to: u32,
+    params: Option<Node>,
+    value: Node,
+) -> Result<Node, Memory>
+    ensures { IfOk result (λ n. n ≡ node k.Lambda [] from to (reading.lambda_kids from params value)) }
+{
+    let kids = match params {
+        Some(list) => two(alloc, list, value)?,
+        None => two(alloc, empty_list(alloc, from), value)?,
+    };
+    Ok(over(alloc, Kind::Lambda, from, to, kids))
+}

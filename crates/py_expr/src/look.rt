@@ -24,13 +24,21 @@ pub fn word_at(items: &[Item<'_>], at: usize) -> Word
     }
 }
 
-/// Whether this word stands there.
+/// The class of a word.
 #[tactic(auto, unfolding(crate::specs::Words::class))]
+fn number(word: Word) -> u8
+    ensures { result ≡ class word }
+{
+    word as u8
+}
+
+/// Whether this word stands there.
+#[tactic(auto, using(crate::proofs::Classes::past_the_end))]
 pub fn is(items: &[Item<'_>], at: usize, word: Word) -> bool
     ensures test { result ≡ eqb (class word) (class (token_at items.now at).word) }
     ensures within { result ≡ true → word ≢ Other → at < length items.now }
 {
-    word_at(items, at) == word
+    number(word) == number(word_at(items, at))
 }
 
 /// Where the token there begins.

@@ -3,6 +3,7 @@
 ghost use Rattle.std.specs.Prelude.{◌≡◌};
 ghost use Rattle.py_expr.specs.Words as spec;
 
+use lexing::is_among;
 use node_tree::Mode;
 use py_lex::{PyToken, PyWord};
 
@@ -172,6 +173,21 @@ fn keyword_word(text: &str) -> Word
     }
 }
 
+const DOTS_STRINGS: [&[u8]; 12] = [
+    b"'...'",
+    b"\"...\"",
+    b"'''...'''",
+    b"\"\"\"...\"\"\"",
+    b"u'...'",
+    b"u\"...\"",
+    b"u'''...'''",
+    b"u\"\"\"...\"\"\"",
+    b"U'...'",
+    b"U\"...\"",
+    b"U'''...'''",
+    b"U\"\"\"...\"\"\"",
+];
+
 /// The word of a string, which in a pattern tells `"..."` apart.
 fn string_word(mode: Mode, text: &str) -> Word
     ensures { result ≡ spec.string_word mode text.now }
@@ -192,21 +208,7 @@ fn string_word(mode: Mode, text: &str) -> Word
 fn is_dots_string(text: &str) -> bool
     ensures { result ≡ spec.is_dots_string text.now }
 {
-    matches!(
-        text,
-        "'...'"
-            | "\"...\""
-            | "'''...'''"
-            | "\"\"\"...\"\"\""
-            | "u'...'"
-            | "u\"...\""
-            | "u'''...'''"
-            | "u\"\"\"...\"\"\""
-            | "U'...'"
-            | "U\"...\""
-            | "U'''...'''"
-            | "U\"\"\"...\"\"\""
-    )
+    is_among(&DOTS_STRINGS, text.as_bytes())
 }
 
 /// Whether a token is `...` or `$...NAME`.

@@ -1,6 +1,6 @@
 //! Dictionaries, sets and comprehensions.
 
-ghost use Rattle.std.specs.Prelude.{◌≡◌, ◌≤◌, length, IfOk};
+ghost use Rattle.std.specs.Prelude.{◌≡◌, ◌≢◌, ◌+◌, ◌<◌, ◌≤◌, [], ◌∷◌, length, IfOk};
 ghost use Rattle.py_expr.specs.Gives.{Gives};
 ghost use Rattle.py_expr.specs.Reading as reading;
 ghost use Rattle.py_expr.specs.Table.{Braces, FirstEntry, Dotted, Pairs, Pair, Comprehension, Clause, ForClause};
@@ -10,7 +10,7 @@ use crate::item::Item;
 use crate::level::{Binary, Place};
 use crate::look::{end_before, is, is_dots, is_name, set_place, start_at, starts_clause, starts_entry, starts_for, starts_pair};
 use crate::read::lists::{targs, starred, double_starred, after};
-use crate::read::operators::{named, test, binary};
+use crate::read::operators::{assigned, test, binary};
 use crate::word::Word;
 use node_tree::{Kind, List, Node, ReadFault, Text};
 use std::alloc::Global;
@@ -74,7 +74,7 @@ fn closed(
 
 /// The entries of a dictionary or a set, or one and the clauses of a comprehension, which only a first one takes.
 #[cycle(reader)]
-#[tactic(auto, using(crate::proofs::Steps::entry_step, crate::proofs::Steps::level_none))]
+#[tactic(auto, using(crate::proofs::Steps::entry_step, crate::proofs::Steps::value_step, crate::proofs::Steps::level_none))]
 fn entry(
     alloc: Global,
     items: &[Item<'_>],
@@ -102,7 +102,7 @@ fn entry(
     }
     if is_name(items, at) {
         if is(items, at + 1, Word::Walrus) {
-            let (node, end) = named(alloc, items, room, at)?;
+            let (node, end) = assigned(alloc, items, Kind::Walrus, room, at)?;
             let (after, end) = after(alloc, items, set_place(first), room, end)?;
             return Ok((displayed(alloc, Kind::SetLit, "set", node, after)?, end));
         }
@@ -122,7 +122,7 @@ fn entry(
 
 /// Dots, and then what tells whether the braces are of a dictionary or of a set.
 #[cycle(reader)]
-#[tactic(auto, using(crate::proofs::Steps::dotted_step, crate::proofs::Steps::dotted_turn, crate::proofs::Steps::dotted_turned, crate::proofs::Steps::level_none, crate::proofs::Steps::list_laws))]
+#[tactic(auto, using(crate::proofs::Steps::dotted_step, crate::proofs::Steps::dots_leaf_step, crate::proofs::Steps::dotted_turn, crate::proofs::Steps::dotted_turned, crate::proofs::Steps::level_none, crate::proofs::Steps::list_laws))]
 fn dotted(
     alloc: Global,
     items: &[Item<'_>],
@@ -416,25 +416,40 @@ fn for_clause(
         return Err(ReadFault::NoTree);
     }
 
-    let is_async = is(items, at, Word::Async);
-    let text = if is_async {
-        text_at(alloc, items, at)?
-    } else {
-        Text::new(alloc)
-    };
-    let start = if is_async { at + 1 } else { at };
-    if !is(items, start, Word::For) {
+    let from = start_at(items, at);
+    if is(items, at, Word::Async) {
+        let text = text_at(alloc, items, at)?;
+        let (target, value, end) = for_part(alloc, items, room, at + 1)?;
+        let kids = two(alloc, target, value)?;
+        let to = end_before(items, end);
+        return Ok((node_of(Kind::CompFor, text, from, to, kids), end));
+    }
+    let (target, value, end) = for_part(alloc, items, room, at)?;
+    let kids = two(alloc, target, value)?;
+    let to = end_before(items, end);
+    Ok((over(alloc, Kind::CompFor, from, to, kids), end))
+}
+
+/// `"for" targs "in" or`
+#[cycle(reader)]
+fn for_part(
+    alloc: Global,
+    items: &[Item<'_>],
+    room: u32,
+    at: usize,
+) -> Result<(Node, Node, usize), ReadFault>
+    requires here { at ≤ length items.now }
+    requires some { 0 < room }
+    ensures within { IfOk result (λ x. x.2 ≤ length items.now) }
+    ensures gives { Gives reading.two result (reading.for_part items.now room at) }
+{
+    if !is(items, at, Word::For) {
         return Err(ReadFault::NoTree);
     }
-    let (target, end) = targs(alloc, items, room, start + 1)?;
+    let (target, end) = targs(alloc, items, room, at + 1)?;
     if !is(items, end, Word::In) {
         return Err(ReadFault::NoTree);
     }
     let (value, end) = binary(alloc, items, Binary::Or, room, end + 1)?;
-    let kids = two(alloc, target, value)?;
-    let from = start_at(items, at);
-    Ok((
-        node_of(Kind::CompFor, text, from, end_before(items, end), kids),
-        end,
-    ))
+    Ok((target, value, end))
 }

@@ -1,6 +1,6 @@
 //! Lists with commas, targets, subscripts and yields.
 
-ghost use Rattle.std.specs.Prelude.{◌≡◌, ◌≤◌, length, IfOk};
+ghost use Rattle.std.specs.Prelude.{◌≡◌, ◌≢◌, ◌+◌, ◌<◌, ◌≤◌, [], ◌∷◌, length, IfOk};
 ghost use Rattle.py_expr.specs.Gives.{Gives};
 ghost use Rattle.py_expr.specs.Reading as reading;
 ghost use Rattle.py_expr.specs.Table.{Exprs, Star, Targs, Target, Index, Piece, SliceEnd, Bound, Yield};
@@ -11,7 +11,7 @@ use crate::level::{Binary, Place};
 use crate::look::{end_before, is, is_comma, is_name, start_at, starts_for, starts_item, starts_star, starts_test, takes_clauses};
 use crate::read::arguments::{arg, param};
 use crate::read::displays::comprehension;
-use crate::read::operators::{named, test, binary};
+use crate::read::operators::{named, assigned, test, binary};
 use crate::word::Word;
 use node_tree::{Kind, List, Node, ReadFault};
 use std::alloc::Global;
@@ -213,7 +213,7 @@ pub fn piece(
     }
     if is_name(items, at) {
         if is(items, at + 1, Word::Walrus) {
-            return named(alloc, items, room, at);
+            return assigned(alloc, items, Kind::Walrus, room, at);
         }
     }
     let (low, end) = test(alloc, items, room, at)?;

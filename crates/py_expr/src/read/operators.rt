@@ -1,11 +1,11 @@
 //! Operators, from the loosest to the tightest.
 
-ghost use Rattle.std.specs.Prelude.{◌≡◌, ◌≤◌, length, IfOk};
+ghost use Rattle.std.specs.Prelude.{◌≡◌, ◌≢◌, ◌+◌, ◌<◌, ◌≤◌, [], ◌∷◌, length, IfOk};
 ghost use Rattle.py_expr.specs.Gives.{Gives};
 ghost use Rattle.py_expr.specs.Reading as reading;
 ghost use Rattle.py_expr.specs.Table.{Named, Test, Not, Cmp, Cop, Unary, Power, Await};
 
-use crate::build::{Tail, TOO_DEEP, attached, empty_list, farther, ident, node_of, one, over, spine, text_at, three, two, two_words};
+use crate::build::{Tail, TOO_DEEP, attached, farther, ident, lambda_of, node_of, one, over, spine, text_at, three, two, two_words};
 use crate::item::Item;
 use crate::level::Binary;
 use crate::look::{end_before, is, is_comparison, is_name, is_operator, is_sign, start_at, starts_cop, starts_param};
@@ -34,17 +34,31 @@ pub fn named(
 
     if is_name(items, at) {
         if is(items, at + 1, Word::Walrus) {
-            let name = ident(alloc, items, at)?;
-            let (value, end) = test(alloc, items, room, at + 2)?;
-            let kids = two(alloc, name, value)?;
-            let from = start_at(items, at);
-            return Ok((
-                over(alloc, Kind::Walrus, from, end_before(items, end), kids),
-                end,
-            ));
+            return assigned(alloc, items, Kind::Walrus, room, at);
         }
     }
     test(alloc, items, room, at)
+}
+
+/// `NAME mark test`, where name and mark stand there.
+#[cycle(reader)]
+pub fn assigned(
+    alloc: Global,
+    items: &[Item<'_>],
+    kind: Kind,
+    room: u32,
+    at: usize,
+) -> Result<(Node, usize), ReadFault>
+    requires here { at + 1 < length items.now }
+    requires some { 0 < room }
+    ensures within { IfOk result (λ x. x.1 ≤ length items.now) }
+    ensures gives { Gives reading.one result (reading.assigned items.now room kind at) }
+{
+    let name = ident(alloc, items, at)?;
+    let (value, end) = test(alloc, items, room, at + 2)?;
+    let kids = two(alloc, name, value)?;
+    let from = start_at(items, at);
+    Ok((over(alloc, kind, from, end_before(items, end), kids), end))
 }
 
 /// `lambda | or ["if" or "else" test]`
@@ -104,21 +118,34 @@ fn lambda(
     if !is(items, at, Word::Lambda) {
         return Err(ReadFault::NoTree);
     }
-    let from = start_at(items, at);
-    let (params, end) = if starts_param(items, at + 1) {
-        lambda_params(alloc, items, room - 1, at + 1)?
-    } else {
-        (empty_list(alloc, from), at + 1)
-    };
+    let (params, end) = some_params(alloc, items, room, at + 1)?;
     if !is(items, end, Word::Colon) {
         return Err(ReadFault::NoTree);
     }
     let (value, end) = test(alloc, items, room - 1, end + 1)?;
-    let kids = two(alloc, params, value)?;
-    Ok((
-        over(alloc, Kind::Lambda, from, end_before(items, end), kids),
-        end,
-    ))
+    let from = start_at(items, at);
+    let to = end_before(items, end);
+    Ok((lambda_of(alloc, from, to, params, value)?, end))
+}
+
+/// The parameters of a lambda, where there are some.
+#[cycle(reader)]
+fn some_params(
+    alloc: Global,
+    items: &[Item<'_>],
+    room: u32,
+    at: usize,
+) -> Result<(Option<Node>, usize), ReadFault>
+    requires here { at ≤ length items.now }
+    requires some { 0 < room }
+    ensures within { IfOk result (λ x. x.1 ≤ length items.now) }
+    ensures gives { Gives reading.maybe result (reading.some_params items.now room at) }
+{
+    if !starts_param(items, at) {
+        return Ok((None, at));
+    }
+    let (list, end) = lambda_params(alloc, items, room - 1, at)?;
+    Ok((Some(list), end))
 }
 
 /// `next {op next}`, from the left, for the operators of a level.
@@ -267,7 +294,6 @@ pub fn cmp(
 }
 
 /// An operator of a comparison, of one word or two with a space between them.
-#[cycle(reader)]
 #[tactic(auto, using(crate::proofs::Steps::cop_step, crate::proofs::Steps::level_none))]
 fn cop(
     alloc: Global,

@@ -1,6 +1,6 @@
 //! Primaries: atoms, and what stands behind them.
 
-ghost use Rattle.std.specs.Prelude.{◌≡◌, ◌≤◌, length, IfOk};
+ghost use Rattle.std.specs.Prelude.{◌≡◌, ◌≢◌, ◌+◌, ◌<◌, ◌≤◌, [], ◌∷◌, length, IfOk};
 ghost use Rattle.py_expr.specs.Gives.{Gives};
 ghost use Rattle.py_expr.specs.Reading as reading;
 ghost use Rattle.py_expr.specs.Table.{Prim, Suffix, Attr, Call, Sub, Atom, Strings, MoreStrings, Paren, Inner, Items, ListLit, Deep};
@@ -79,7 +79,6 @@ fn suffix(
 }
 
 /// `"." NAME`
-#[cycle(reader)]
 #[tactic(auto, using(crate::proofs::Steps::attr_step, crate::proofs::Steps::level_none))]
 fn attr(
     alloc: Global,
@@ -130,12 +129,19 @@ fn call(
     if !is(items, at, Word::LeftRound) {
         return Err(ReadFault::NoTree);
     }
-    let (kid, close) = if starts_arg(items, at + 1) {
-        let (list, close) = args(alloc, items, room - 1, at + 1)?;
-        (Some(list), close)
-    } else {
-        (None, at + 1)
-    };
+    if !starts_arg(items, at + 1) {
+        if !is(items, at + 1, Word::RightRound) {
+            return Err(ReadFault::NoTree);
+        }
+        let tail = Tail {
+            kind: Kind::Call,
+            text: Text::new(alloc),
+            to: end_before(items, at + 2),
+            kid: None,
+        };
+        return Ok((tail, at + 2));
+    }
+    let (list, close) = args(alloc, items, room - 1, at + 1)?;
     if !is(items, close, Word::RightRound) {
         return Err(ReadFault::NoTree);
     }
@@ -143,7 +149,7 @@ fn call(
         kind: Kind::Call,
         text: Text::new(alloc),
         to: end_before(items, close + 1),
-        kid,
+        kid: Some(list),
     };
     Ok((tail, close + 1))
 }
@@ -217,7 +223,6 @@ pub fn atom(
 }
 
 /// One string, or several beside one another.
-#[cycle(reader)]
 #[tactic(auto, using(crate::proofs::Steps::strings_step, crate::proofs::Steps::level_none))]
 fn strings(
     alloc: Global,
@@ -250,7 +255,6 @@ fn strings(
 }
 
 /// The strings from here on.
-#[cycle(reader)]
 #[tactic(auto, using(crate::proofs::Steps::more_strings_step, crate::proofs::Steps::more_strings_turn, crate::proofs::Steps::more_strings_turned, crate::proofs::Steps::level_none, crate::proofs::Steps::list_laws))]
 fn more_strings(
     alloc: Global,

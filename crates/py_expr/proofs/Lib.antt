@@ -1,0 +1,4 @@
+pub mod Classes
+pub mod Passes
+pub mod Closes
+pub mod Steps
