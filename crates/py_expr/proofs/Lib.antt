@@ -2,3 +2,8 @@ pub mod Classes
 pub mod Passes
 pub mod Closes
 pub mod Steps
+pub mod Measures
+pub mod Depths
+pub mod Counting
+pub mod Modes
+pub mod Runs

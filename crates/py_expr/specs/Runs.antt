@@ -5,6 +5,7 @@ use Rattle.node_tree.specs.declared.view.Mode.{Mode}
 use Rattle.node_tree.specs.declared.view.Mode.TheVariants as modes
 use Rattle.grammar.specs.Rule.{has, IsRun}
 use Rattle.py_lex.specs.declared.token.PyToken.{PyToken}
+use Rattle.py_expr.specs.declared.item.Item.{Item}
 use Rattle.py_expr.specs.declared.word.Word.TheVariants as w
 use Rattle.py_expr.specs.declared.level.PyLevel.{PyLevel}
 use Rattle.py_expr.specs.declared.level.PyLevel.TheVariants as levels
@@ -12,7 +13,7 @@ use Rattle.py_expr.specs.Words.{class}
 use Rattle.py_expr.specs.Items.{items}
 use Rattle.py_expr.specs.Parts.{whole, depth_all}
 use Rattle.py_expr.specs.Table.{Level, Exprs, Star, Named, Test, Or, And, Not, Cmp, Bor, Unary, Power, Await, Prim, Atom, Yield, Targs, Target, Params, Args, grammar}
-use Rattle.py_expr.specs.Build.{source}
+use Rattle.py_expr.specs.Build.{token_at, source}
 
 -- the classes of patterns, which are all
 abbrev pub of_pattern : ℕ → Bool
@@ -51,7 +52,15 @@ level_at levels.Target = Target
 level_at levels.Params = Params
 level_at levels.Args = Args
 
--- The tree of the closed run of a level between two places of the tokens, in a mode.
-pub record IsTree (mode : Mode) (ts : List PyToken) (l : PyLevel) (from : ℕ) (tree : Node) (to : ℕ) : Type 0 where
+-- The tree of the closed run of a level between two places of the items, in a mode.
+pub record IsRunTree (mode : Mode) (ts : List Item) (l : PyLevel) (from : ℕ) (tree : Node) (to : ℕ) : Type 0 where
   pub within : to ≤ length ts
-  pub run : IsRun grammar (of_mode mode) depth_all (source (items mode ts)) (level_at l) (whole tree ∷ []) from to
+  pub run : IsRun grammar (of_mode mode) depth_all (source ts) (level_at l) (whole tree ∷ []) from to
+
+-- the same of tokens
+abbrev pub IsTree : Mode → List PyToken → PyLevel → ℕ → Node → ℕ → Type 0
+IsTree mode ts l from tree to = IsRunTree mode (items mode ts) l from tree to
+
+-- each item has a word of the mode
+abbrev pub AreOf : Mode → List Item → Type 0
+AreOf mode ts = (k : ℕ) → of_mode mode (class (token_at ts k).word) ≡ true
