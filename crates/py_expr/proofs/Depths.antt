@@ -1,7 +1,7 @@
 -- How deep what a builder makes is.
 use Rattle.std.proofs.Common.{◌≡◌, ℕ, suc, ◌+◌, ◌<◌, ◌≤◌, List, [], ◌∷◌, ◌++◌, refl, ap, ◌∙◌, arith, Bool, cond}
 use Rattle.std.specs.Prelude.{true, false, max, ltb, codes}
-use Rattle.node_tree.specs.declared.node.Node.{Node}
+use Rattle.node_tree.specs.declared.node.Node.{Node, out-Node, roll-Node}
 use Rattle.node_tree.specs.declared.kind.Kind.{Kind}
 use Rattle.node_tree.specs.declared.kind.Kind.TheVariants as k
 use Rattle.node_tree.specs.Tree.{depth_of, depth_is, kids_of, kind_of, text_of, span_of}
@@ -73,8 +73,8 @@ grafted_deep from n (display kind text ns) = other_deep from n (display kind tex
 grafted_deep from n (sign text) = other_deep from n (sign text)
 grafted_deep from n (bounds hs ss) = other_deep from n (bounds hs ss)
 
-pub widened_depth : (n : Node) (p : Part) → depth_of (widened n p) ≡ 1 + depth_nodes (kids_of n ++ others p)
-widened_depth n p = depth_is (widened n p) ∙ ap (λ (ms : List Node). 1 + depth_nodes ms) (made_kids (kind_of n) (text_of n) (kids_of n ++ others p) (span_of n))
+with_kids_depth : (n : Node) (ms : List Node) → depth_of (roll-Node (record (out-Node n) { kids = kids_of n ++ ms })) ≡ 1 + depth_nodes (kids_of n ++ ms)
+with_kids_depth n ms = depth_is (roll-Node (record (out-Node n) { kids = kids_of n ++ ms })) ∙ ap (λ (ns : List Node). 1 + depth_nodes ns) (made_kids (kind_of n) (text_of n) (kids_of n ++ ms) (span_of n))
 
 others_deep : (p : Part) → depth_part p ≤ 1 + depth_nodes (others p)
 others_deep (lacking kind text to ns) = omega arith
@@ -86,8 +86,18 @@ others_deep (display kind text ns) = omega (arith, nodes_deep (display kind text
 others_deep (sign text) = omega arith
 others_deep (bounds hs ss) = omega (arith, nodes_deep (bounds hs ss ∷ []))
 
+wider_deep : (n : Node) (p : Part) → max (depth_of n) (depth_part p) ≤ depth_of (roll-Node (record (out-Node n) { kids = kids_of n ++ others p }))
+wider_deep n p = omega (arith, with_kids_depth n (others p), depth_is n, others_deep p, nodes_left (kids_of n) (others p), nodes_right (kids_of n) (others p))
+
 widened_deep : (n : Node) (p : Part) → max (depth_of n) (depth_part p) ≤ depth_of (widened n p)
-widened_deep n p = omega (arith, widened_depth n p, depth_is n, others_deep p, nodes_left (kids_of n) (others p), nodes_right (kids_of n) (others p))
+widened_deep n (call to) = omega arith
+widened_deep n (whole m) = wider_deep n (whole m)
+widened_deep n (lacking kind text to ns) = wider_deep n (lacking kind text to ns)
+widened_deep n (more ns) = wider_deep n (more ns)
+widened_deep n (clauses ns) = wider_deep n (clauses ns)
+widened_deep n (display kind text ns) = wider_deep n (display kind text ns)
+widened_deep n (sign text) = wider_deep n (sign text)
+widened_deep n (bounds hs ss) = wider_deep n (bounds hs ss)
 
 attached_deep : (from far : ℕ) (n : Node) (p : Part) → max (depth_of n) (depth_part p) ≤ depth_of (attached from far n p)
 attached_deep from far n p = by_either (max (depth_of n) (depth_part p)) (ltb far too_deep) (grafted from n p) (widened n p) (grafted_deep from n p) (widened_deep n p)

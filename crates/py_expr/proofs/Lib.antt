@@ -2,6 +2,8 @@ pub mod Classes
 pub mod Passes
 pub mod Closes
 pub mod Steps
+pub mod Orders
+pub mod Cuts
 pub mod Measures
 pub mod Depths
 pub mod Counting

@@ -91,6 +91,7 @@ others p = nodes_of (p ∷ [])
 
 -- a node with the kids of a part too: for a tree that is too deep already, to grow no deeper
 abbrev pub widened : Node → Part → Node
+widened n (call to) = n
 widened n p = roll-Node (record (out-Node n) { kids = kids_of n ++ others p })
 
 -- how far a node's first kids lead down, at most so far

@@ -1,6 +1,6 @@
 //! Nodes, and parts that are to become nodes.
 
-ghost use Rattle.std.specs.Prelude.{◌≡◌, ◌+◌, ◌<◌, ◌≤◌, [], ◌∷◌, length, IfOk, codes};
+ghost use Rattle.std.specs.Prelude.{◌≡◌, ◌+◌, ◌<◌, ◌≤◌, [], ◌∷◌, ◌++◌, reverse, length, IfOk, codes};
 ghost use Rattle.node_tree.specs.declared.kind.Kind.TheVariants as k;
 ghost use Rattle.py_expr.specs.Parts.{whole, node, wholes};
 ghost use Rattle.py_expr.specs.Build.{token_at};
@@ -115,15 +115,24 @@ pub fn before(first: Node, mut rest: List<Node>) -> Result<List<Node>, Memory>
     Ok(rest)
 }
 
-/// The nodes of two lists, in order.
-pub fn append(mut front: List<Node>, mut back: List<Node>) -> Result<List<Node>, Memory>
-    ensures { IfOk result (λ ns. ns ≡ reading.appended front back) }
+/// The nodes of a list and then those of another from its end on.
+#[tactic(auto, using(crate::proofs::Orders::order_laws))]
+fn push_reversed(mut front: List<Node>, mut back: List<Node>) -> Result<List<Node>, Memory>
+    ensures { IfOk result (λ ns. ns ≡ front ++ reverse back) }
 {
-    back.reverse();
     'kids: while let Some(kid) = back.pop() {
         front.push(kid)?;
     }
     Ok(front)
+}
+
+/// The nodes of two lists, in order.
+#[tactic(auto, using(crate::proofs::Orders::order_laws))]
+pub fn append(front: List<Node>, mut back: List<Node>) -> Result<List<Node>, Memory>
+    ensures { IfOk result (λ ns. ns ≡ reading.appended front back) }
+{
+    back.reverse();
+    push_reversed(front, back)
 }
 
 /// The kind of the node that a token makes, where it makes one.
@@ -220,27 +229,56 @@ pub fn farther(far: u32) -> u32
     if far < TOO_DEEP { far + 1 } else { far }
 }
 
+/// A part with its first kid.
+fn grafted(alloc: Global, from: u32, first: Node, tail: Tail) -> Result<Node, Memory>
+    ensures { IfOk result (λ n. n ≡ build.grafted from first (reading.tail_part tail)) }
+{
+    let Tail {
+        kind,
+        text,
+        to,
+        kid,
+    } = tail;
+    match kid {
+        Some(kid) => {
+            let kids = two(alloc, first, kid)?;
+            Ok(node_of(kind, text, from, to, kids))
+        }
+        None => {
+            let kids = two(alloc, first, empty_list(alloc, from))?;
+            Ok(over(alloc, Kind::Call, from, to, kids))
+        }
+    }
+}
+
+/// A node with the kid of a part too.
+fn widened(mut first: Node, tail: Tail) -> Result<Node, Memory>
+    ensures { IfOk result (λ n. n ≡ build.widened first (reading.tail_part tail)) }
+{
+    match tail.kid {
+        Some(kid) => {
+            first.kids.push(kid)?;
+            Ok(first)
+        }
+        None => Ok(first),
+    }
+}
+
 /// A part with its first kid; where that is too deep, it takes the part's kids instead.
 pub fn attached(
     alloc: Global,
     from: u32,
     far: u32,
-    mut first: Node,
+    first: Node,
     tail: Tail,
 ) -> Result<Node, Memory>
     ensures { IfOk result (λ n. n ≡ build.attached from far first (reading.tail_part tail)) }
 {
     if far < TOO_DEEP {
-        let kids = match tail.kid {
-            Some(kid) => two(alloc, first, kid)?,
-            None => two(alloc, first, empty_list(alloc, from))?,
-        };
-        return Ok(node_of(tail.kind, tail.text, from, tail.to, kids));
+        grafted(alloc, from, first, tail)
+    } else {
+        widened(first, tail)
     }
-    if let Some(kid) = tail.kid {
-        first.kids.push(kid)?;
-    }
-    Ok(first)
 }
 
 /// A text of its own.

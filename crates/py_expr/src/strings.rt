@@ -18,12 +18,14 @@ fn quote_at(bytes: &[u8]) -> usize
     ensures value { result ≡ spec.quote_at bytes.now }
     ensures within { result ≤ length bytes.now }
 {
-    for (at, byte) in bytes.iter().enumerate() {
+    let mut at = 0;
+    for byte in bytes {
         if is_quote(*byte) {
             return at;
         }
+        at += 1;
     }
-    bytes.len()
+    at
 }
 
 /// How many bytes the opening quotes have.

@@ -2,20 +2,29 @@ use super::*;
 use node_tree::{Kind, Mode, Node};
 use std::test::Fail;
 
-// The tree of the run at the first token, and where it ends.
-fn tree(rt: &HostRuntime, text: &str, level: PyLevel, mode: Mode) -> Result<(Node, u32), Fail> {
+// The tree of the run at the first token, and where it ends, if there is one.
+fn tree(rt: &HostRuntime, text: &str, level: PyLevel, mode: Mode) -> Option<(Node, u32)> {
     if text.len() > 1_000_000 {
-        return Err(Fail::new("too long"));
+        return None;
     }
-    let tokens = py_lex::tokens(rt.alloc(), text, mode)?;
+    let Ok(tokens) = py_lex::tokens(rt.alloc(), text, mode) else {
+        return None;
+    };
     if tokens.is_empty() {
-        return Err(Fail::new("no token"));
+        return None;
     }
-    Ok(read_py(rt.alloc(), &tokens, 0, level, mode)?)
+    read_py(rt.alloc(), &tokens, 0, level, mode).ok()
 }
 
 fn reads(rt: &HostRuntime, text: &str, level: PyLevel) -> bool {
-    tree(rt, text, level, Mode::Text).is_ok()
+    tree(rt, text, level, Mode::Text).is_some()
+}
+
+fn ends_at(rt: &HostRuntime, text: &str, level: PyLevel, end: u32) -> bool {
+    let Some((_, found)) = tree(rt, text, level, Mode::Text) else {
+        return false;
+    };
+    found == end
 }
 
 // Whether the nodes of the tree in preorder are these, each with its text and its span.
@@ -26,7 +35,7 @@ fn is(
     mode: Mode,
     nodes: &[(Kind, &str, u32, u32)],
 ) -> bool {
-    let Ok((root, _)) = tree(rt, text, level, mode) else {
+    let Some((root, _)) = tree(rt, text, level, mode) else {
         return false;
     };
     let Ok(mut walk) = root.walk() else {
@@ -80,7 +89,7 @@ fn reads_patterns(rt: HostRuntime) {
     assert!(rt; is(&rt, "{..., a: b}", PyLevel::Exprs, Mode::Pattern, &[(DictLit, "", 0, 11), (Dots, "", 1, 4), (Pair, "", 6, 10), (Name, "a", 6, 7), (Name, "b", 9, 10)]));
     assert!(rt; is(&rt, "{..., $...X}", PyLevel::Exprs, Mode::Pattern, &[(DictLit, "", 0, 12), (Dots, "", 1, 4), (MetaDots, "$...X", 6, 11)]));
     assert!(rt; is(&rt, "u'...'", PyLevel::Exprs, Mode::Pattern, &[(StrAny, "", 0, 6)]));
-    assert!(rt; tree(&rt, "foo(", PyLevel::Exprs, Mode::Pattern).is_err());
+    assert!(rt; tree(&rt, "foo(", PyLevel::Exprs, Mode::Pattern).is_none());
 }
 
 #[test]
@@ -98,16 +107,16 @@ fn reads_each_level(rt: HostRuntime) {
         ("~a *", PyLevel::Unary, 2),
         ("a ** b *", PyLevel::Power, 3),
         ("await a **", PyLevel::Await, 2),
-        ("a.b(c)[d] +", PyLevel::Prim, 10),
+        ("a.b(c)[d] +", PyLevel::Prim, 9),
         ("a.b", PyLevel::Atom, 1),
         ("yield a, b)", PyLevel::Yield, 4),
         ("a, *b in", PyLevel::Targs, 4),
         ("*b, in", PyLevel::Target, 2),
-        ("a: int = 1, *, b, /)", PyLevel::Params, 10),
+        ("a: int = 1, *, b, /)", PyLevel::Params, 11),
         ("*a, b=c, **d)", PyLevel::Args, 9),
         ("lambda x: int: y", PyLevel::Exprs, 4),
     ] {
-        assert!(rt; tree(&rt, text, level, Mode::Text).is_ok_and(|found| found.1 == end), "{text}");
+        assert!(rt; ends_at(&rt, text, level, end), "{text}");
     }
 }
 

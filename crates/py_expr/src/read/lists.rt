@@ -323,7 +323,7 @@ pub fn yields(
 
 /// What comes after a first item: further ones, or the clauses of a comprehension.
 #[cycle(reader)]
-#[tactic(auto, using(crate::proofs::Steps::after_step, crate::proofs::Steps::level_none, crate::proofs::Steps::list_laws))]
+#[tactic(auto, using(crate::proofs::Steps::after_step, crate::proofs::Steps::level_none, crate::proofs::Steps::list_laws, crate::proofs::Measures::takes_more))]
 pub fn after(
     alloc: Global,
     items: &[Item<'_>],

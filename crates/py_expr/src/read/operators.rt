@@ -3,7 +3,7 @@
 ghost use Rattle.std.specs.Prelude.{◌≡◌, ◌≢◌, ◌+◌, ◌<◌, ◌≤◌, [], ◌∷◌, length, IfOk};
 ghost use Rattle.py_expr.specs.Gives.{Gives};
 ghost use Rattle.py_expr.specs.Reading as reading;
-ghost use Rattle.py_expr.specs.Table.{Named, Test, Not, Cmp, Cop, Unary, Power, Await};
+ghost use Rattle.py_expr.specs.Table.{Named, Test, LambdaTest, Not, Cmp, Cop, Unary, Power, Await};
 
 use crate::build::{Tail, TOO_DEEP, attached, farther, ident, lambda_of, node_of, one, over, spine, text_at, three, two, two_words};
 use crate::item::Item;
