@@ -1,6 +1,7 @@
 pub mod Classes
 pub mod Passes
 pub mod Closes
+pub mod Tokens
 pub mod Steps
 pub mod Orders
 pub mod Cuts

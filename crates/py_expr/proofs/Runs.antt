@@ -24,7 +24,9 @@ use Rattle.py_expr.specs.Runs.{of_mode, level_at, IsRunTree, AreOf}
 use Rattle.py_expr.proofs.Passes.{pass}
 use Rattle.py_expr.proofs.Closes.{close_text, close_pattern}
 use Rattle.py_expr.proofs.Depths.{deepens}
-use Rattle.py_expr.proofs.Modes.{end_of_mode}
+use Rattle.py_lex.specs.declared.token.PyToken.{PyToken}
+use Rattle.py_expr.specs.Items.{items}
+use Rattle.py_expr.proofs.Modes.{end_of_mode, all_of_mode}
 
 close : (mode : Mode) (l : Level) → closes_runs grammar sets ranks (of_mode mode) 36 l ≡ true
 close modes.Text l = close_text l
@@ -169,5 +171,27 @@ fails_still view faults.NoTree o y x f h = absurd (none_some y (sym f ∙ h))
 pub leb_true : (a b : ℕ) → leb a b ≡ true → a ≤ b
 leb_true a b h = grind arith
 
-pub same_answer : (n m : Node) (i j : ℕ) → (n ≡ m) × (i ≡ j) → Some (m, j) ≡ Some (n, i)
+pub same_answer : (n m : Node) (i j : ℕ) → (n ≡ m) × (i ≡ j) → ◌≡◌ {A = Option (Node × ℕ)} (Some (n, i)) (Some (m, j))
 same_answer n m i j e = rw (e.0, e.1) refl
+
+-- ---- from the tokens
+
+pub items_length : (mode : Mode) (ts : List PyToken) → length (items mode ts) ≡ length ts
+unfolding items
+items_length mode [] = refl
+items_length mode (t ∷ ts) = ap suc (items_length mode ts)
+
+pub from_within : (mode : Mode) (ts : List PyToken) (is : List Item) (from : ℕ) → is ≡ items mode ts → from < length ts → from ≤ length is
+from_within mode ts is from e h = rw e (omega (arith, h, items_length mode ts))
+
+pub all_here : (mode : Mode) (ts : List PyToken) (is : List Item) → is ≡ items mode ts → AreOf mode is
+all_here mode ts is e = rw e (all_of_mode mode ts)
+
+pub tree_here : (mode : Mode) (ts : List PyToken) (is : List Item) (l : PyLevel) (from : ℕ) (n : Node) (to : ℕ) → is ≡ items mode ts → IsRunTree mode (items mode ts) l from n to → IsRunTree mode is l from n to
+tree_here mode ts is l from n to e r = rw e r
+
+pub tree_there : (mode : Mode) (ts : List PyToken) (is : List Item) (l : PyLevel) (from : ℕ) (n : Node) (i j : ℕ) → is ≡ items mode ts → i ≡ j → IsRunTree mode is l from n i → IsRunTree mode (items mode ts) l from n j
+tree_there mode ts is l from n i j e h r = rw (← h) (rw e at r)
+
+pub answer_there : (n m : Node) (i j k : ℕ) → j ≡ k → ◌≡◌ {A = Option (Node × ℕ)} (Some (n, i)) (Some (m, j)) → ◌≡◌ {A = Option (Node × ℕ)} (Some (n, i)) (Some (m, k))
+answer_there n m i j k h e = rw h at e

@@ -255,7 +255,8 @@ fn grafted(alloc: Global, from: u32, first: Node, tail: Tail) -> Result<Node, Me
 fn widened(mut first: Node, tail: Tail) -> Result<Node, Memory>
     ensures { IfOk result (λ n. n ≡ build.widened first (reading.tail_part tail)) }
 {
-    match tail.kid {
+    let Tail { kid, .. } = tail;
+    match kid {
         Some(kid) => {
             first.kids.push(kid)?;
             Ok(first)

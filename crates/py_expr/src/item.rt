@@ -60,6 +60,7 @@ fn as_item<'t>(mode: Mode, token: &'t PyToken, after: &[PyToken]) -> Item<'t>
 }
 
 /// The tokens as the grammar sees them.
+#[tactic(auto, using(crate::proofs::Tokens::item_laws))]
 pub fn items<'t>(alloc: Global, mode: Mode, tokens: &'t [PyToken]) -> Result<List<Item<'t>>, Memory>
     ensures { IfOk result (λ items. items ≡ spec.items mode tokens.now) }
 {
