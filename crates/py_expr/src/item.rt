@@ -65,10 +65,8 @@ pub fn items<'t>(alloc: Global, mode: Mode, tokens: &'t [PyToken]) -> Result<Lis
     ensures { IfOk result (λ items. items ≡ spec.items mode tokens.now) }
 {
     let mut all = List::new(alloc);
-    let mut rest = tokens;
-    'tokens: while let [token, after @ ..] = rest {
-        all.push(as_item(mode, token, after))?;
-        rest = after;
+    for at in 0..tokens.len() {
+        all.push(as_item(mode, &tokens[at], &tokens[at + 1..]))?;
     }
     Ok(all)
 }
