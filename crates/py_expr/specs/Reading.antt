@@ -177,7 +177,6 @@ param_of false = LambdaParam
 
 -- ---- parts of rows that have functions of their own
 
-
 -- what a row reads, over the levels at hand and those one step deeper
 abbrev pub row : List Item → ℕ → Row → ℕ → Option (List Part × ℕ)
 row ts room r i = read (source ts) sets (suc (length ts)) (choice (level ts room) (level ts (room - 1))) (λ i. None) None r i

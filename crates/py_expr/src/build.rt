@@ -266,13 +266,7 @@ fn widened(mut first: Node, tail: Tail) -> Result<Node, Memory>
 }
 
 /// A part with its first kid; where that is too deep, it takes the part's kids instead.
-pub fn attached(
-    alloc: Global,
-    from: u32,
-    far: u32,
-    first: Node,
-    tail: Tail,
-) -> Result<Node, Memory>
+pub fn attached(alloc: Global, from: u32, far: u32, first: Node, tail: Tail) -> Result<Node, Memory>
     ensures { IfOk result (λ n. n ≡ build.attached from far first (reading.tail_part tail)) }
 {
     if far < TOO_DEEP {
@@ -306,25 +300,13 @@ pub fn listed(
         After::Further(rest) => Ok(over(alloc, kind, from, to, before(first, rest)?)),
         After::Clauses(clauses) => {
             let kids = before(first, clauses)?;
-            Ok(node_of(
-                Kind::Comp,
-                text_of(alloc, form)?,
-                from,
-                to,
-                kids,
-            ))
+            Ok(node_of(Kind::Comp, text_of(alloc, form)?, from, to, kids))
         }
     }
 }
 
 /// One node is itself; with a comma it is a tuple.
-pub fn grouped(
-    alloc: Global,
-    from: u32,
-    to: u32,
-    first: Node,
-    after: After,
-) -> Result<Node, Memory>
+pub fn grouped(alloc: Global, from: u32, to: u32, first: Node, after: After) -> Result<Node, Memory>
     ensures { IfOk result (λ n. build.grouped from to (whole first ∷ reading.after_parts after) ≡ whole n ∷ []) }
 {
     match after {
@@ -334,13 +316,7 @@ pub fn grouped(
 }
 
 /// The list of arguments or parameters.
-pub fn list_of(
-    alloc: Global,
-    from: u32,
-    to: u32,
-    first: Node,
-    after: After,
-) -> Result<Node, Memory>
+pub fn list_of(alloc: Global, from: u32, to: u32, first: Node, after: After) -> Result<Node, Memory>
     ensures { IfOk result (λ n. build.list_of from to (whole first ∷ reading.after_parts after) ≡ whole n ∷ []) }
 {
     match after {
@@ -354,13 +330,7 @@ pub fn list_of(
                 first,
                 After::Clauses(clauses),
             )?;
-            Ok(over(
-                alloc,
-                Kind::List,
-                from,
-                to,
-                one(alloc, comprehension)?,
-            ))
+            Ok(over(alloc, Kind::List, from, to, one(alloc, comprehension)?))
         }
         after => listed(alloc, Kind::List, "", from, to, first, after),
     }

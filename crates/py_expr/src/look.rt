@@ -103,7 +103,16 @@ pub fn is_scalar(items: &[Item<'_>], at: usize) -> bool
     ensures test { result ≡ has (table.scalars) (class (token_at items.now at).word) }
     ensures within { result ≡ true → at < length items.now }
 {
-    matches!(word_at(items, at), Word::Name | Word::Meta | Word::Number | Word::Const | Word::Ellipsis | Word::Dots | Word::MetaDots)
+    matches!(
+        word_at(items, at),
+        Word::Name
+            | Word::Meta
+            | Word::Number
+            | Word::Const
+            | Word::Ellipsis
+            | Word::Dots
+            | Word::MetaDots
+    )
 }
 
 /// Whether an operator of a comparison stands there that is one token.
@@ -130,7 +139,29 @@ pub fn starts_test(items: &[Item<'_>], at: usize) -> bool
     ensures test { result ≡ has (sets.first Test) (class (token_at items.now at).word) }
     ensures within { result ≡ true → at < length items.now }
 {
-    matches!(word_at(items, at), Word::Name | Word::Meta | Word::Lambda | Word::Not | Word::Sign | Word::Tilde | Word::Await | Word::LeftRound | Word::LeftSquare | Word::Number | Word::Const | Word::Ellipsis | Word::Dots | Word::MetaDots | Word::Str | Word::FStr | Word::StrAny | Word::LeftBrace | Word::BraceDots | Word::DeepOpen)
+    matches!(
+        word_at(items, at),
+        Word::Name
+            | Word::Meta
+            | Word::Lambda
+            | Word::Not
+            | Word::Sign
+            | Word::Tilde
+            | Word::Await
+            | Word::LeftRound
+            | Word::LeftSquare
+            | Word::Number
+            | Word::Const
+            | Word::Ellipsis
+            | Word::Dots
+            | Word::MetaDots
+            | Word::Str
+            | Word::FStr
+            | Word::StrAny
+            | Word::LeftBrace
+            | Word::BraceDots
+            | Word::DeepOpen
+    )
 }
 
 /// Whether an item of a list or a tuple begins there.
@@ -139,7 +170,30 @@ pub fn starts_star(items: &[Item<'_>], at: usize) -> bool
     ensures test { result ≡ has (sets.first Star) (class (token_at items.now at).word) }
     ensures within { result ≡ true → at < length items.now }
 {
-    matches!(word_at(items, at), Word::Times | Word::Name | Word::Meta | Word::Lambda | Word::Not | Word::Sign | Word::Tilde | Word::Await | Word::LeftRound | Word::LeftSquare | Word::Number | Word::Const | Word::Ellipsis | Word::Dots | Word::MetaDots | Word::Str | Word::FStr | Word::StrAny | Word::LeftBrace | Word::BraceDots | Word::DeepOpen)
+    matches!(
+        word_at(items, at),
+        Word::Times
+            | Word::Name
+            | Word::Meta
+            | Word::Lambda
+            | Word::Not
+            | Word::Sign
+            | Word::Tilde
+            | Word::Await
+            | Word::LeftRound
+            | Word::LeftSquare
+            | Word::Number
+            | Word::Const
+            | Word::Ellipsis
+            | Word::Dots
+            | Word::MetaDots
+            | Word::Str
+            | Word::FStr
+            | Word::StrAny
+            | Word::LeftBrace
+            | Word::BraceDots
+            | Word::DeepOpen
+    )
 }
 
 /// Whether an item of a target begins there.
@@ -148,7 +202,28 @@ pub fn starts_target(items: &[Item<'_>], at: usize) -> bool
     ensures test { result ≡ has (sets.first Target) (class (token_at items.now at).word) }
     ensures within { result ≡ true → at < length items.now }
 {
-    matches!(word_at(items, at), Word::Times | Word::Name | Word::Meta | Word::Sign | Word::Tilde | Word::Await | Word::LeftRound | Word::LeftSquare | Word::Number | Word::Const | Word::Ellipsis | Word::Dots | Word::MetaDots | Word::Str | Word::FStr | Word::StrAny | Word::LeftBrace | Word::BraceDots | Word::DeepOpen)
+    matches!(
+        word_at(items, at),
+        Word::Times
+            | Word::Name
+            | Word::Meta
+            | Word::Sign
+            | Word::Tilde
+            | Word::Await
+            | Word::LeftRound
+            | Word::LeftSquare
+            | Word::Number
+            | Word::Const
+            | Word::Ellipsis
+            | Word::Dots
+            | Word::MetaDots
+            | Word::Str
+            | Word::FStr
+            | Word::StrAny
+            | Word::LeftBrace
+            | Word::BraceDots
+            | Word::DeepOpen
+    )
 }
 
 /// Whether a slice or another index begins there.
@@ -157,7 +232,31 @@ pub fn starts_piece(items: &[Item<'_>], at: usize) -> bool
     ensures test { result ≡ has (sets.first Piece) (class (token_at items.now at).word) }
     ensures within { result ≡ true → at < length items.now }
 {
-    matches!(word_at(items, at), Word::Times | Word::Name | Word::Meta | Word::Lambda | Word::Colon | Word::Not | Word::Sign | Word::Tilde | Word::Await | Word::LeftRound | Word::LeftSquare | Word::Number | Word::Const | Word::Ellipsis | Word::Dots | Word::MetaDots | Word::Str | Word::FStr | Word::StrAny | Word::LeftBrace | Word::BraceDots | Word::DeepOpen)
+    matches!(
+        word_at(items, at),
+        Word::Times
+            | Word::Name
+            | Word::Meta
+            | Word::Lambda
+            | Word::Colon
+            | Word::Not
+            | Word::Sign
+            | Word::Tilde
+            | Word::Await
+            | Word::LeftRound
+            | Word::LeftSquare
+            | Word::Number
+            | Word::Const
+            | Word::Ellipsis
+            | Word::Dots
+            | Word::MetaDots
+            | Word::Str
+            | Word::FStr
+            | Word::StrAny
+            | Word::LeftBrace
+            | Word::BraceDots
+            | Word::DeepOpen
+    )
 }
 
 /// Whether an argument begins there.
@@ -166,7 +265,31 @@ pub fn starts_arg(items: &[Item<'_>], at: usize) -> bool
     ensures test { result ≡ has (sets.first Arg) (class (token_at items.now at).word) }
     ensures within { result ≡ true → at < length items.now }
 {
-    matches!(word_at(items, at), Word::Times | Word::Name | Word::Meta | Word::Lambda | Word::Not | Word::Sign | Word::Tilde | Word::Power | Word::Await | Word::LeftRound | Word::LeftSquare | Word::Number | Word::Const | Word::Ellipsis | Word::Dots | Word::MetaDots | Word::Str | Word::FStr | Word::StrAny | Word::LeftBrace | Word::BraceDots | Word::DeepOpen)
+    matches!(
+        word_at(items, at),
+        Word::Times
+            | Word::Name
+            | Word::Meta
+            | Word::Lambda
+            | Word::Not
+            | Word::Sign
+            | Word::Tilde
+            | Word::Power
+            | Word::Await
+            | Word::LeftRound
+            | Word::LeftSquare
+            | Word::Number
+            | Word::Const
+            | Word::Ellipsis
+            | Word::Dots
+            | Word::MetaDots
+            | Word::Str
+            | Word::FStr
+            | Word::StrAny
+            | Word::LeftBrace
+            | Word::BraceDots
+            | Word::DeepOpen
+    )
 }
 
 /// Whether a parameter begins there.
@@ -175,7 +298,16 @@ pub fn starts_param(items: &[Item<'_>], at: usize) -> bool
     ensures test { result ≡ has (sets.first Param) (class (token_at items.now at).word) }
     ensures within { result ≡ true → at < length items.now }
 {
-    matches!(word_at(items, at), Word::Times | Word::Name | Word::Meta | Word::Slash | Word::Power | Word::Dots | Word::MetaDots)
+    matches!(
+        word_at(items, at),
+        Word::Times
+            | Word::Name
+            | Word::Meta
+            | Word::Slash
+            | Word::Power
+            | Word::Dots
+            | Word::MetaDots
+    )
 }
 
 /// Whether a pair of a dictionary begins there.
@@ -184,7 +316,30 @@ pub fn starts_pair(items: &[Item<'_>], at: usize) -> bool
     ensures test { result ≡ has (sets.first Pair) (class (token_at items.now at).word) }
     ensures within { result ≡ true → at < length items.now }
 {
-    matches!(word_at(items, at), Word::Name | Word::Meta | Word::Lambda | Word::Not | Word::Sign | Word::Tilde | Word::Power | Word::Await | Word::LeftRound | Word::LeftSquare | Word::Number | Word::Const | Word::Ellipsis | Word::Dots | Word::MetaDots | Word::Str | Word::FStr | Word::StrAny | Word::LeftBrace | Word::BraceDots | Word::DeepOpen)
+    matches!(
+        word_at(items, at),
+        Word::Name
+            | Word::Meta
+            | Word::Lambda
+            | Word::Not
+            | Word::Sign
+            | Word::Tilde
+            | Word::Power
+            | Word::Await
+            | Word::LeftRound
+            | Word::LeftSquare
+            | Word::Number
+            | Word::Const
+            | Word::Ellipsis
+            | Word::Dots
+            | Word::MetaDots
+            | Word::Str
+            | Word::FStr
+            | Word::StrAny
+            | Word::LeftBrace
+            | Word::BraceDots
+            | Word::DeepOpen
+    )
 }
 
 /// Whether an entry in braces begins there.
@@ -193,7 +348,31 @@ pub fn starts_entry(items: &[Item<'_>], at: usize) -> bool
     ensures test { result ≡ has (sets.first LaterEntry) (class (token_at items.now at).word) }
     ensures within { result ≡ true → at < length items.now }
 {
-    matches!(word_at(items, at), Word::Times | Word::Name | Word::Meta | Word::Lambda | Word::Not | Word::Sign | Word::Tilde | Word::Power | Word::Await | Word::LeftRound | Word::LeftSquare | Word::Number | Word::Const | Word::Ellipsis | Word::Dots | Word::MetaDots | Word::Str | Word::FStr | Word::StrAny | Word::LeftBrace | Word::BraceDots | Word::DeepOpen)
+    matches!(
+        word_at(items, at),
+        Word::Times
+            | Word::Name
+            | Word::Meta
+            | Word::Lambda
+            | Word::Not
+            | Word::Sign
+            | Word::Tilde
+            | Word::Power
+            | Word::Await
+            | Word::LeftRound
+            | Word::LeftSquare
+            | Word::Number
+            | Word::Const
+            | Word::Ellipsis
+            | Word::Dots
+            | Word::MetaDots
+            | Word::Str
+            | Word::FStr
+            | Word::StrAny
+            | Word::LeftBrace
+            | Word::BraceDots
+            | Word::DeepOpen
+    )
 }
 
 /// Whether what stands in parentheses begins there.
@@ -202,7 +381,31 @@ pub fn starts_inner(items: &[Item<'_>], at: usize) -> bool
     ensures test { result ≡ has (sets.first Inner) (class (token_at items.now at).word) }
     ensures within { result ≡ true → at < length items.now }
 {
-    matches!(word_at(items, at), Word::Times | Word::Name | Word::Meta | Word::Lambda | Word::Not | Word::Sign | Word::Tilde | Word::Await | Word::LeftRound | Word::LeftSquare | Word::Number | Word::Const | Word::Ellipsis | Word::Dots | Word::MetaDots | Word::Str | Word::FStr | Word::StrAny | Word::LeftBrace | Word::BraceDots | Word::DeepOpen | Word::Yield)
+    matches!(
+        word_at(items, at),
+        Word::Times
+            | Word::Name
+            | Word::Meta
+            | Word::Lambda
+            | Word::Not
+            | Word::Sign
+            | Word::Tilde
+            | Word::Await
+            | Word::LeftRound
+            | Word::LeftSquare
+            | Word::Number
+            | Word::Const
+            | Word::Ellipsis
+            | Word::Dots
+            | Word::MetaDots
+            | Word::Str
+            | Word::FStr
+            | Word::StrAny
+            | Word::LeftBrace
+            | Word::BraceDots
+            | Word::DeepOpen
+            | Word::Yield
+    )
 }
 
 /// Whether a `for` clause begins there.
@@ -229,7 +432,10 @@ pub fn starts_cop(items: &[Item<'_>], at: usize) -> bool
     ensures test { result ≡ has (sets.first Cop) (class (token_at items.now at).word) }
     ensures within { result ≡ true → at < length items.now }
 {
-    matches!(word_at(items, at), Word::Compare | Word::In | Word::Not | Word::Is)
+    matches!(
+        word_at(items, at),
+        Word::Compare | Word::In | Word::Not | Word::Is
+    )
 }
 
 /// Whether what stands behind an atom begins there.
@@ -238,7 +444,10 @@ pub fn starts_suffix(items: &[Item<'_>], at: usize) -> bool
     ensures test { result ≡ has (sets.first Suffix) (class (token_at items.now at).word) }
     ensures within { result ≡ true → at < length items.now }
 {
-    matches!(word_at(items, at), Word::Dot | Word::LeftRound | Word::LeftSquare)
+    matches!(
+        word_at(items, at),
+        Word::Dot | Word::LeftRound | Word::LeftSquare
+    )
 }
 
 /// Whether a brace opens there.
@@ -273,10 +482,7 @@ pub fn is_operator(items: &[Item<'_>], at: usize, level: Binary) -> bool
         Binary::Ampersand => matches!(word_at(items, at), Word::Ampersand),
         Binary::Shift => matches!(word_at(items, at), Word::Shift),
         Binary::Sign => matches!(word_at(items, at), Word::Sign),
-        Binary::Factor => matches!(
-            word_at(items, at),
-            Word::Times | Word::Slash | Word::Factor
-        ),
+        Binary::Factor => matches!(word_at(items, at), Word::Times | Word::Slash | Word::Factor),
     }
 }
 

@@ -7,6 +7,6 @@ mod operators;
 mod primaries;
 
 pub use arguments::{args, params};
-pub use lists::{exprs, star, targs, target, yields};
+pub use lists::{exprs, star, target, targs, yields};
 pub use operators::{awaited, binary, cmp, named, not, power, test, unary};
 pub use primaries::{atom, prim};

@@ -34,13 +34,7 @@ fn quote_width(bytes: &[u8]) -> usize
     ensures some { (0 < result) × (result < 4) }
 {
     match bytes {
-        [a, b, c, _, _, _, ..] => {
-            if *a == *b && *b == *c {
-                3
-            } else {
-                1
-            }
-        }
+        [a, b, c, _, _, _, ..] => { if *a == *b && *b == *c { 3 } else { 1 } }
         _ => 1,
     }
 }

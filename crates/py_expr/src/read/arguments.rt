@@ -10,12 +10,14 @@ ghost use Rattle.py_expr.specs.Parts.{node};
 ghost use Rattle.py_expr.specs.Build.{token_at, end_of};
 ghost use Rattle.py_expr.specs.Build as build;
 
-use crate::build::{After, absent, ident, leaf, list_of, node_of, one, or_absent, over, text_at, three};
+use crate::build::{
+    After, absent, ident, leaf, list_of, node_of, one, or_absent, over, text_at, three,
+};
 use crate::item::Item;
 use crate::level::Place;
 use crate::look::{end_before, is, is_dots, is_name, start_at, starts_starred};
 use crate::read::lists::after;
-use crate::read::operators::{named, assigned, test};
+use crate::read::operators::{assigned, named, test};
 use crate::word::Word;
 use node_tree::{Kind, Memory, Node, ReadFault, Text};
 use std::alloc::Global;

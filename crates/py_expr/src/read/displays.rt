@@ -5,12 +5,15 @@ ghost use Rattle.py_expr.specs.Gives.{Gives};
 ghost use Rattle.py_expr.specs.Reading as reading;
 ghost use Rattle.py_expr.specs.Table.{Braces, FirstEntry, Dotted, Pairs, Pair, Comprehension, Clause, ForClause};
 
-use crate::build::{After, Entries, displayed, append, leaf, node_of, one, over, text_at, two};
+use crate::build::{After, Entries, append, displayed, leaf, node_of, one, over, text_at, two};
 use crate::item::Item;
 use crate::level::{Binary, Place};
-use crate::look::{end_before, is, is_dots, is_name, set_place, start_at, starts_clause, starts_entry, starts_for, starts_pair};
-use crate::read::lists::{targs, starred, double_starred, after};
-use crate::read::operators::{assigned, test, binary};
+use crate::look::{
+    end_before, is, is_dots, is_name, set_place, start_at, starts_clause, starts_entry, starts_for,
+    starts_pair,
+};
+use crate::read::lists::{after, double_starred, starred, targs};
+use crate::read::operators::{assigned, binary, test};
 use crate::word::Word;
 use node_tree::{Kind, List, Node, ReadFault, Text};
 use std::alloc::Global;
@@ -69,7 +72,10 @@ fn closed(
         return Err(ReadFault::NoTree);
     }
     let to = end_before(items, close + 1);
-    Ok((node_of(found.kind, found.text, from, to, found.kids), close + 1))
+    Ok((
+        node_of(found.kind, found.text, from, to, found.kids),
+        close + 1,
+    ))
 }
 
 /// The entries of a dictionary or a set, or one and the clauses of a comprehension, which only a first one takes.
@@ -310,12 +316,7 @@ fn pair_or_dots(
 /// `test ":" test | "**" bor`
 #[cycle(reader)]
 #[tactic(auto, using(crate::proofs::Steps::pair_step, crate::proofs::Steps::level_none))]
-fn pair(
-    alloc: Global,
-    items: &[Item<'_>],
-    room: u32,
-    at: usize,
-) -> Result<(Node, usize), ReadFault>
+fn pair(alloc: Global, items: &[Item<'_>], room: u32, at: usize) -> Result<(Node, usize), ReadFault>
     requires { at ≤ length items.now }
     ensures within { IfOk result (λ x. x.1 ≤ length items.now) }
     ensures gives { Gives reading.one result (reading.level items.now room Pair at) }

@@ -8,10 +8,13 @@ ghost use Rattle.py_expr.specs.Table.{Exprs, Star, Targs, Target, Index, Piece, 
 use crate::build::{After, absent, grouped, one, over, slice};
 use crate::item::Item;
 use crate::level::{Binary, Place};
-use crate::look::{end_before, is, is_comma, is_name, start_at, starts_for, starts_item, starts_star, starts_test, takes_clauses};
+use crate::look::{
+    end_before, is, is_comma, is_name, start_at, starts_for, starts_item, starts_star, starts_test,
+    takes_clauses,
+};
 use crate::read::arguments::{arg, param};
 use crate::read::displays::comprehension;
-use crate::read::operators::{named, assigned, test, binary};
+use crate::read::operators::{assigned, binary, named, test};
 use crate::word::Word;
 use node_tree::{Kind, List, Node, ReadFault};
 use std::alloc::Global;

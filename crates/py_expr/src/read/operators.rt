@@ -5,10 +5,16 @@ ghost use Rattle.py_expr.specs.Gives.{Gives};
 ghost use Rattle.py_expr.specs.Reading as reading;
 ghost use Rattle.py_expr.specs.Table.{Named, Test, LambdaTest, Not, Cmp, Cop, Unary, Power, Await};
 
-use crate::build::{Tail, TOO_DEEP, attached, farther, ident, lambda_of, node_of, one, over, spine, text_at, three, two, two_words};
+use crate::build::{
+    TOO_DEEP, Tail, attached, farther, ident, lambda_of, node_of, one, over, spine, text_at, three,
+    two, two_words,
+};
 use crate::item::Item;
 use crate::level::Binary;
-use crate::look::{end_before, is, is_comparison, is_name, is_operator, is_sign, start_at, starts_cop, starts_param};
+use crate::look::{
+    end_before, is, is_comparison, is_name, is_operator, is_sign, start_at, starts_cop,
+    starts_param,
+};
 use crate::read::arguments::lambda_params;
 use crate::read::primaries::prim;
 use crate::word::Word;
@@ -295,12 +301,7 @@ pub fn cmp(
 
 /// An operator of a comparison, of one word or two with a space between them.
 #[tactic(auto, using(crate::proofs::Steps::cop_step, crate::proofs::Steps::level_none))]
-fn cop(
-    alloc: Global,
-    items: &[Item<'_>],
-    room: u32,
-    at: usize,
-) -> Result<(Text, usize), ReadFault>
+fn cop(alloc: Global, items: &[Item<'_>], room: u32, at: usize) -> Result<(Text, usize), ReadFault>
     requires { at ≤ length items.now }
     ensures within { IfOk result (λ x. x.1 ≤ length items.now) }
     ensures gives { Gives reading.one_sign result (reading.level items.now room Cop at) }

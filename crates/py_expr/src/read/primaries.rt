@@ -5,13 +5,19 @@ ghost use Rattle.py_expr.specs.Gives.{Gives};
 ghost use Rattle.py_expr.specs.Reading as reading;
 ghost use Rattle.py_expr.specs.Table.{Prim, Suffix, Attr, Call, Sub, Atom, Strings, MoreStrings, Paren, Inner, Items, ListLit, Deep};
 
-use crate::build::{After, Tail, TOO_DEEP, attached, before, farther, grouped, ident, leaf, listed, one, over, spine, text_at};
+use crate::build::{
+    After, TOO_DEEP, Tail, attached, before, farther, grouped, ident, leaf, listed, one, over,
+    spine, text_at,
+};
 use crate::item::Item;
 use crate::level::Place;
-use crate::look::{end_before, is, is_name, is_scalar, is_string, start_at, starts_arg, starts_braces, starts_inner, starts_star, starts_suffix};
+use crate::look::{
+    end_before, is, is_name, is_scalar, is_string, start_at, starts_arg, starts_braces,
+    starts_inner, starts_star, starts_suffix,
+};
 use crate::read::arguments::args;
 use crate::read::displays::braces;
-use crate::read::lists::{exprs, index, starred, yields, after};
+use crate::read::lists::{after, exprs, index, starred, yields};
 use crate::read::operators::named;
 use crate::word::Word;
 use node_tree::{Kind, List, Node, ReadFault, Text};
@@ -80,12 +86,7 @@ fn suffix(
 
 /// `"." NAME`
 #[tactic(auto, using(crate::proofs::Steps::attr_step, crate::proofs::Steps::level_none))]
-fn attr(
-    alloc: Global,
-    items: &[Item<'_>],
-    room: u32,
-    at: usize,
-) -> Result<(Tail, usize), ReadFault>
+fn attr(alloc: Global, items: &[Item<'_>], room: u32, at: usize) -> Result<(Tail, usize), ReadFault>
     requires { at ≤ length items.now }
     ensures within { IfOk result (λ x. x.1 ≤ length items.now) }
     ensures gives { Gives reading.one_tail result (reading.level items.now room Attr at) }
@@ -112,12 +113,7 @@ fn attr(
 /// `"(" [args] ")"`
 #[cycle(reader)]
 #[tactic(auto, using(crate::proofs::Steps::call_step, crate::proofs::Steps::level_none))]
-fn call(
-    alloc: Global,
-    items: &[Item<'_>],
-    room: u32,
-    at: usize,
-) -> Result<(Tail, usize), ReadFault>
+fn call(alloc: Global, items: &[Item<'_>], room: u32, at: usize) -> Result<(Tail, usize), ReadFault>
     requires { at ≤ length items.now }
     ensures within { IfOk result (λ x. x.1 ≤ length items.now) }
     ensures gives { Gives reading.one_tail result (reading.level items.now room Call at) }
@@ -157,12 +153,7 @@ fn call(
 /// `"[" subs "]"`
 #[cycle(reader)]
 #[tactic(auto, using(crate::proofs::Steps::sub_step, crate::proofs::Steps::level_none))]
-fn sub(
-    alloc: Global,
-    items: &[Item<'_>],
-    room: u32,
-    at: usize,
-) -> Result<(Tail, usize), ReadFault>
+fn sub(alloc: Global, items: &[Item<'_>], room: u32, at: usize) -> Result<(Tail, usize), ReadFault>
     requires { at ≤ length items.now }
     ensures within { IfOk result (λ x. x.1 ≤ length items.now) }
     ensures gives { Gives reading.one_tail result (reading.level items.now room Sub at) }
@@ -417,12 +408,7 @@ fn list_lit(
 /// `"<..." exprs "...>"`
 #[cycle(reader)]
 #[tactic(auto, using(crate::proofs::Steps::deep_step, crate::proofs::Steps::level_none))]
-fn deep(
-    alloc: Global,
-    items: &[Item<'_>],
-    room: u32,
-    at: usize,
-) -> Result<(Node, usize), ReadFault>
+fn deep(alloc: Global, items: &[Item<'_>], room: u32, at: usize) -> Result<(Node, usize), ReadFault>
     requires { at ≤ length items.now }
     ensures within { IfOk result (λ x. x.1 ≤ length items.now) }
     ensures gives { Gives reading.one result (reading.level items.now room Deep at) }
