@@ -5,3 +5,6 @@ pub mod Lasts
 pub mod Rows
 pub mod Readings
 pub mod Signs
+pub mod Sound
+pub mod Complete
+pub mod Whole
