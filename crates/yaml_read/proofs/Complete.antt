@@ -1,7 +1,7 @@
 -- What cells build is read from them.
-use Rattle.std.proofs.Common.{◌≡◌, ◌⊎◌, inl, inr, ℕ, zero, suc, ◌+◌, ◌≤◌, ◌<◌, Bool, true, false, eqb, List, [], ◌∷◌, ◌++◌, length, Option, Some, None, refl, sym, ap, ◌∙◌, subst, arith, append_assoc, length-append}
-use Rattle.std.specs.Option.{option_map, option_and_then}
-use Rattle.std.specs.Prelude.{map, cond, nat_le}
+use Rattle.std.proofs.Common.{◌≡◌, ◌⊎◌, inl, inr, ℕ, zero, suc, ◌+◌, ◌≤◌, ◌<◌, true, false, eqb, List, [], ◌∷◌, ◌++◌, length, Option, Some, refl, sym, ap, ◌∙◌, subst, arith, append_assoc, length-append}
+use Rattle.std.specs.Option.{option_and_then}
+use Rattle.std.specs.Prelude.{nat_le}
 use Rattle.yaml_read.specs.declared.cell.Cell.{Cell}
 use Rattle.yaml_read.specs.declared.cell.Cell.TheVariants.{Dash, Key, Scalar, Open, Close, Comma}
 use Rattle.yaml_read.specs.declared.value.YValue.{YValue}

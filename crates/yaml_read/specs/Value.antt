@@ -1,6 +1,6 @@
 -- The value of a YAML text.
-use Rattle.std.specs.Prelude.{◌≡◌, ℕ, ◌+◌, ◌-◌, List, [], ◌∷◌, ◌++◌, ◌==◌, ◌||◌, nat_lt, if◌then◌else◌, Bool, false, Option, Some, None, Result, Ok, Err, length, map, get_or, reverse}
-use Rattle.std.specs.Option.{option_map, option_and_then}
+use Rattle.std.specs.Prelude.{◌≡◌, ℕ, ◌+◌, ◌-◌, List, [], ◌∷◌, ◌++◌, ◌||◌, nat_lt, if◌then◌else◌, Bool, Option, Some, None, Result, Ok, Err, length, map, get_or, reverse}
+use Rattle.std.specs.Option.{option_and_then}
 use Rattle.std.specs.Str.Lines.{lines}
 use Rattle.yaml_lines.specs.Lines.{lines_of, past_order_mark, is_some}
 use Rattle.yaml_lines.specs.Feature.{begins_with}
