@@ -1,6 +1,6 @@
 -- Cells behind others.
-use Rattle.std.proofs.Common.{◌≡◌, List, [], ◌∷◌, ◌++◌, Option, Some, None, refl, sym, ap, ◌∙◌, append_assoc}
-use Rattle.std.specs.Option.{option_map, option_and_then}
+use Rattle.std.proofs.Common.{◌≡◌, List, ◌++◌, Option, Some, None, refl, sym, ap, ◌∙◌, append_assoc}
+use Rattle.std.specs.Option.{option_map}
 use Rattle.yaml_read.specs.declared.cell.Cell.{Cell}
 use Rattle.yaml_read.specs.Flow.{before_cells}
 

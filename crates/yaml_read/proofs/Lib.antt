@@ -5,3 +5,7 @@ pub mod Lasts
 pub mod Rows
 pub mod Readings
 pub mod Signs
+pub mod Distinct
+pub mod Sound
+pub mod Complete
+pub mod Whole

@@ -1,12 +1,11 @@
 -- The rows of block scalars.
 use Rattle.std.proofs.Common.{◌≡◌, ℕ, ◌+◌, ◌<◌, Bool, true, false, List, [], ◌∷◌, ◌++◌, length, get_or, drop, Option, Some, None, refl, sym, ap, ◌∙◌, subst, arith, append_assoc}
-use Rattle.std.specs.Option.{option_map}
 use Rattle.std.proofs.lemmas.List.{drop_more}
 use Rattle.std.specs.Str.{IsUtf8, is_utf8}
 use Rattle.std.proofs.lemmas.Str.{is_utf8-from_IsUtf8}
 use Rattle.yaml_lines.proofs.Steps.{not_text}
 use Rattle.yaml_read.specs.declared.block.Header.{Header}
-use Rattle.yaml_read.specs.Block.{block_from, past_column, before, before_row, is_kept, with_row}
+use Rattle.yaml_read.specs.Block.{block_from, past_column, before, before_row, is_kept}
 
 rows_more : (body : List (List ℕ)) (at : ℕ) (d line : List ℕ) → at < length body → line ≡ get_or body at d → drop at body ≡ line ∷ drop (at + 1) body
 rows_more body at d line h e = drop_more body at d h ∙ ap (λ (x : List ℕ). x ∷ drop (at + 1) body) (sym e)

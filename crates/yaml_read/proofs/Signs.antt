@@ -1,10 +1,10 @@
 -- The pieces of a flow sequence.
-use Rattle.std.proofs.Common.{◌≡◌, ℕ, ◌+◌, ◌-◌, ◌<◌, ◌≤◌, Bool, true, false, List, [], ◌∷◌, ◌++◌, length, get_or, drop, take, Option, Some, None, refl, sym, ap, ◌∙◌, subst, arith, append_assoc, length-drop}
+use Rattle.std.proofs.Common.{◌≡◌, ℕ, ◌+◌, ◌-◌, ◌<◌, ◌≤◌, Bool, true, false, List, [], ◌∷◌, ◌++◌, length, get_or, drop, take, Option, Some, None, refl, sym, ap, ◌∙◌, arith, append_assoc, length-drop}
 use Rattle.std.specs.Option.{option_map}
 use Rattle.std.proofs.lemmas.List.{drop_more, take_more, get_or-drop}
 use Rattle.yaml_lines.specs.declared.scan.Scan.{Scan}
 use Rattle.yaml_read.specs.declared.cell.Cell.{Cell}
-use Rattle.yaml_read.specs.Flow.{flow_from, is_sign, step, is_gap, piece_cells, sign_of, before_cells}
+use Rattle.yaml_read.specs.Flow.{flow_from, is_sign, step, is_gap, piece_cells, sign_of}
 use Rattle.yaml_read.proofs.Cells.{behind, behind-before}
 
 pushed : (mid new : List Cell) (x : Cell) (r : Option (List Cell)) → new ≡ mid ++ (x ∷ []) → behind mid (option_map (λ cs. x ∷ cs) r) ≡ behind new r

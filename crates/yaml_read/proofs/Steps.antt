@@ -1,15 +1,15 @@
 -- One step of each loop.
-use Rattle.std.proofs.Common.{◌≡◌, ◌≢◌, reverse, Result, Ok, Err, ℕ, zero, suc, ◌+◌, ◌-◌, ◌<◌, ◌≤◌, Bool, true, false, List, [], ◌∷◌, ◌++◌, length, Option, Some, None, refl, sym, ap, ◌∙◌, subst, arith, append_assoc}
+use Rattle.std.proofs.Common.{◌≡◌, ◌≢◌, reverse, Result, Ok, Err, ℕ, zero, suc, ◌+◌, ◌-◌, ◌<◌, ◌≤◌, true, false, List, [], ◌∷◌, ◌++◌, length, Option, Some, None, refl, sym, ap, ◌∙◌, arith, append_assoc}
 use Rattle.std.proofs.lemmas.List.{length-reverse}
 use Rattle.yaml_lines.specs.declared.fault.YFault.{YFault}
 use Rattle.yaml_lines.specs.declared.fault.YFault.TheVariants.{Memory, NotUtf8, OutsideProfile, NoValue}
 use Rattle.yaml_read.specs.declared.cell.First.TheVariants as firsts
-use Rattle.yaml_read.specs.declared.value.YValue.TheVariants.{Seq, Map}
+use Rattle.yaml_read.specs.declared.value.YValue.TheVariants.{Seq}
 use Rattle.std.specs.Option.{option_map, option_and_then}
 use Rattle.yaml_read.specs.declared.cell.Cell.{Cell}
 use Rattle.yaml_read.specs.declared.value.YValue.{YValue}
-use Rattle.yaml_read.specs.Cells.{first_of, scalar_at, is_dash, is_close, is_comma, is_item, key_at, cells_past, Keyed}
-use Rattle.yaml_read.specs.Building.{Built, AllBuilt, EntriesBuilt, items_at, entries_at, entry_at, flow_at, flow_item, after_item, with_item, with_entry, below_key, go_on, steps, as_seq, as_map, node_at, node_from, sequence_at, mapping_at, bracketed_at, Leaves, IsMapping}
+use Rattle.yaml_read.specs.Cells.{first_of, scalar_at, is_dash, is_close, is_item, key_at, cells_past}
+use Rattle.yaml_read.specs.Building.{Built, AllBuilt, EntriesBuilt, items_at, entries_at, flow_at, below_key, go_on, steps, as_seq, as_map, node_at, node_from, sequence_at, mapping_at, bracketed_at, Leaves, IsMapping}
 
 -- items before those that are read behind them
 abbrev pub with_items : List YValue → Option AllBuilt → Option AllBuilt

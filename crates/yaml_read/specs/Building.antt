@@ -1,10 +1,10 @@
 -- The value at the start of some cells, read from the left.
-use Rattle.std.specs.Prelude.{◌≡◌, ℕ, zero, suc, ◌+◌, List, [], ◌∷◌, ◌==◌, if◌then◌else◌, Bool, true, false, Option, Some, None, Result, Ok, Err, length, map}
+use Rattle.std.specs.Prelude.{◌≡◌, ℕ, zero, suc, ◌+◌, List, [], ◌∷◌, if◌then◌else◌, Bool, true, false, Option, Some, None, Result, Ok, Err, length}
 use Rattle.std.specs.Option.{option_map, option_and_then}
 use Rattle.yaml_lines.specs.declared.fault.YFault.{YFault}
 use Rattle.yaml_lines.specs.declared.fault.YFault.TheVariants.{Memory, NoValue}
 use Rattle.yaml_read.specs.declared.cell.Cell.{Cell}
-use Rattle.yaml_read.specs.declared.cell.Cell.TheVariants.{Dash, Key, Scalar, Open, Close, Comma}
+use Rattle.yaml_read.specs.declared.cell.Cell.TheVariants.{Dash}
 use Rattle.yaml_read.specs.declared.cell.First.{First}
 use Rattle.yaml_read.specs.declared.cell.First.TheVariants as firsts
 use Rattle.yaml_read.specs.declared.value.YValue.{YValue}

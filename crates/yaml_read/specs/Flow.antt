@@ -1,8 +1,8 @@
 -- The cells of flow sequences: YAML 1.2.2, 7.4.1.
-use Rattle.std.specs.Prelude.{ℕ, ◌+◌, List, [], ◌∷◌, ◌++◌, ◌==◌, ◌||◌, ◌&&◌, nat_lt, if◌then◌else◌, Bool, true, false, Option, Some, None, take}
+use Rattle.std.specs.Prelude.{ℕ, List, [], ◌∷◌, ◌++◌, ◌==◌, ◌||◌, ◌&&◌, nat_lt, if◌then◌else◌, Bool, true, false, Option, Some, None, take}
 use Rattle.std.specs.List.{slice_split}
 use Rattle.std.specs.Option.{option_map, option_and_then}
-use Rattle.yaml_lines.specs.Blanks.{is_blank, past_blanks, is_skipped}
+use Rattle.yaml_lines.specs.Blanks.{is_blank, is_skipped}
 use Rattle.yaml_lines.specs.Scan.{scan_line, at_place, next_line, after, begins_comment}
 use Rattle.yaml_lines.specs.declared.scan.Place.{Place}
 use Rattle.yaml_lines.specs.declared.scan.Place.TheVariants.{Begin, Inside, Single, SingleEnd, Double, Escape}

@@ -9,4 +9,5 @@ pub mod Flow
 pub mod Leaf
 pub mod Keys
 pub mod Building
+pub mod Builds
 pub mod Value

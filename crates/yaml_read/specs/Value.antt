@@ -1,6 +1,6 @@
 -- The value of a YAML text.
-use Rattle.std.specs.Prelude.{◌≡◌, ℕ, ◌+◌, ◌-◌, List, [], ◌∷◌, ◌++◌, ◌==◌, ◌||◌, nat_lt, if◌then◌else◌, Bool, false, Option, Some, None, Result, Ok, Err, length, map, get_or, reverse}
-use Rattle.std.specs.Option.{option_map, option_and_then}
+use Rattle.std.specs.Prelude.{◌≡◌, ℕ, ◌+◌, ◌-◌, List, [], ◌∷◌, ◌++◌, ◌||◌, nat_lt, if◌then◌else◌, Bool, Option, Some, None, Result, Ok, Err, length, map, get_or, reverse}
+use Rattle.std.specs.Option.{option_and_then}
 use Rattle.std.specs.Str.Lines.{lines}
 use Rattle.yaml_lines.specs.Lines.{lines_of, past_order_mark, is_some}
 use Rattle.yaml_lines.specs.Feature.{begins_with}
@@ -13,6 +13,7 @@ use Rattle.yaml_read.specs.declared.value.YValue.{YValue}
 use Rattle.yaml_read.specs.Flow.{before_cells}
 use Rattle.yaml_read.specs.Leaf.{leaf_cells}
 use Rattle.yaml_read.specs.Building.{Built, node_at}
+use Rattle.yaml_read.specs.Builds.{Builds}
 
 -- the line with a number, counted from 1
 abbrev pub line_at : List (List ℕ) → ℕ → List ℕ
@@ -72,11 +73,23 @@ abbrev pub or_none : Option YValue → Result YValue YFault
 or_none None = Err NoValue
 or_none (Some v) = Ok v
 
+-- the lines of a text
+abbrev pub text_lines : List ℕ → List (List ℕ)
+text_lines bytes = lines (past_order_mark bytes)
+
 -- the value of a text that has these lines
 abbrev pub value_with : List ℕ → Result (List YLine) YFault → Result YValue YFault
 value_with bytes (Err e) = Err e
-value_with bytes (Ok ls) = or_none (option_and_then built (cells_of (lines (past_order_mark bytes)) (ends_line bytes) ls))
+value_with bytes (Ok ls) = or_none (option_and_then built (cells_of (text_lines bytes) (ends_line bytes) ls))
 
 -- the value of a text, or why there is none
 abbrev pub value_of : List ℕ → Result YValue YFault
 value_of bytes = value_with bytes (lines_of bytes)
+
+-- a value of a text: its lines have no feature outside the profile, each scalar in it is one, and all its cells build the value, of depth at most 100
+pub record IsValueOf (bytes : List ℕ) (v : YValue) : Type 0 where
+  pub found : List YLine
+  pub lines : lines_of bytes ≡ Ok found
+  pub cells : List Cell
+  pub scalars : cells_of (text_lines bytes) (ends_line bytes) found ≡ Some cells
+  pub builds : Builds 100 0 cells v

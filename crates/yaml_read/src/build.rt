@@ -1,6 +1,6 @@
 //! The value that cells build.
 
-ghost use Rattle.std.specs.Prelude.{◌≡◌, ◌+◌, ◌<◌, ◌≤◌, reverse, length, drop};
+ghost use Rattle.std.specs.Prelude.{◌≡◌, ◌+◌, ◌<◌, ◌≤◌, reverse, IfOk};
 ghost use Rattle.yaml_read.specs.Building.{Leaves, IsMapping, WentOn};
 ghost use Rattle.yaml_read.specs.Cells.{scalar_at};
 ghost use Rattle.yaml_read.specs.Building as spec;
@@ -10,52 +10,24 @@ use crate::cell::{
     Cell, First, first_of, is_close, is_comma, is_dash, is_item, skip, take_key, take_scalar,
 };
 use crate::value::YValue;
-use node_tree::{List, Text};
+use node_tree::{List, Memory, Text};
 use std::alloc::Global;
+use std::collections::BTreeSet;
 use yaml_lines::YFault;
 
-/// Whether two texts have the same bytes.
-fn is_same(a: &[u8], b: &[u8]) -> bool
-    ensures { result ≡ keys.is_same a.now b.now }
-{
-    let mut xs = a;
-    let mut ys = b;
-    'bytes: while let Some((x, more)) = xs.split_first() {
-        let Some((y, others)) = ys.split_first() else {
-            return false;
-        };
-        if *x != *y {
-            return false;
-        }
-        xs = more;
-        ys = others;
-    }
-    ys.is_empty()
-}
-
-/// Whether a key is that of an entry from a place on.
-fn is_among(key: &Text, entries: &[(Text, YValue)], from: usize) -> bool
-    requires { from ≤ length entries.now }
-    ensures { result ≡ keys.is_among key.now (drop from entries.now) }
-{
-    for at in from..entries.len() {
-        if is_same(key.as_str().as_bytes(), entries[at].0.as_str().as_bytes()) {
-            return true;
-        }
-    }
-    false
-}
-
 /// Whether each key stands once.
-fn is_distinct(entries: &[(Text, YValue)]) -> bool
-    ensures { result ≡ keys.is_distinct entries.now }
+fn is_distinct(alloc: Global, entries: &[(Text, YValue)]) -> Result<bool, Memory>
+    ensures { IfOk result (λ distinct. distinct ≡ keys.is_distinct entries.now) }
 {
-    for (at, entry) in entries.iter().enumerate() {
-        if is_among(&entry.0, entries, at + 1) {
-            return false;
+    let mut seen: BTreeSet<&str> = BTreeSet::new(alloc);
+    let mut at = entries.len();
+    'entries: while at > 0 {
+        at -= 1;
+        if !seen.insert(entries[at].0.as_str())? {
+            return Ok(false);
         }
     }
-    true
+    Ok(true)
 }
 
 /// The least column of a value below a key: a block sequence may stand at the key's own column.
@@ -79,10 +51,10 @@ fn scalar(cells: &mut List<Cell>) -> Result<YValue, YFault>
 }
 
 /// The mapping with these entries, if each key stands once.
-fn mapping(entries: List<(Text, YValue)>) -> Result<YValue, YFault>
+fn mapping(alloc: Global, entries: List<(Text, YValue)>) -> Result<YValue, YFault>
     ensures { IsMapping entries result }
 {
-    if is_distinct(entries.as_slice()) {
+    if is_distinct(alloc, entries.as_slice())? {
         Ok(YValue::Map(entries))
     } else {
         Err(YFault::NoValue)
@@ -150,7 +122,7 @@ fn entries(alloc: Global, cells: &mut List<Cell>, room: u32, column: u32) -> Res
     let most = cells.len();
     for turn in 0..=most {
         let Some(key) = take_key(cells, column) else {
-            return mapping(all);
+            return mapping(alloc, all);
         };
         let least = below_key(cells, column);
         let value = node(alloc, cells, room, least)?;

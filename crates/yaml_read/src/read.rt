@@ -1,10 +1,14 @@
 //! The value of a text.
 
-ghost use Rattle.std.specs.Prelude.{◌≡◌, ◌≤◌, ◌++◌, ◌^◌, length, map, reverse, Some, IfOk, OnOk};
+ghost use Rattle.std.specs.Prelude.{◌≡◌, ◌≤◌, ◌++◌, ◌^◌, ℕ, length, reverse, Ok, Err, IfOk, OnOk};
 ghost use Rattle.yaml_lines.specs.Body.{texts, AreShort};
-ghost use Rattle.yaml_lines.specs.Lines.{Gives};
+ghost use Rattle.yaml_lines.specs.Lines.{Gives, lines_of};
+ghost use Rattle.yaml_lines.specs.declared.fault.Feature.{Feature};
+ghost use Rattle.yaml_lines.specs.declared.fault.YFault.{YFault};
+ghost use Rattle.yaml_lines.specs.declared.fault.YFault.TheVariants.{NotUtf8, OutsideProfile, NoValue};
 ghost use Rattle.yaml_read.specs.Leaf.{Adds};
 ghost use Rattle.yaml_read.specs.Value as spec;
+ghost use Rattle.yaml_read.specs.declared.value.YValue.{YValue};
 
 use crate::build::node;
 use crate::cell::Cell;
@@ -131,8 +135,8 @@ fn built(alloc: Global, mut cells: List<Cell>) -> Result<YValue, YFault>
     }
 }
 
-/// The value of a YAML text.
-pub fn read_yaml(alloc: Global, bytes: &[u8]) -> Result<YValue, YFault>
+/// The value of a YAML text, as it is read from the left.
+fn value_in(alloc: Global, bytes: &[u8]) -> Result<YValue, YFault>
     requires { length bytes.now ≤ 1000000 }
     ensures { Gives (spec.value_of bytes.now) result }
 {
@@ -144,4 +148,21 @@ pub fn read_yaml(alloc: Global, bytes: &[u8]) -> Result<YValue, YFault>
     let mut cells = cells_of(alloc, all.as_slice(), ends_line(bytes), found.as_slice())?;
     cells.reverse();
     built(alloc, cells)
+}
+
+/// The value of a YAML text (YAML 1.2.2, without anchors, aliases, tags, flow mappings, complex keys, directives and
+/// further documents), of depth at most 100.
+///
+/// The error is `NotUtf8` where the bytes, without a byte order mark at their start, are no UTF-8, `OutsideProfile` with the
+/// first line (counted from 1) that has a feature outside the profile, and `NoValue` where there is no value.
+pub fn read_yaml(alloc: Global, bytes: &[u8]) -> Result<YValue, YFault>
+    requires { length bytes.now ≤ 1000000 }
+    ensures value { IfOk result (spec.IsValueOf bytes.now) }
+    ensures only { (value : YValue) → spec.IsValueOf bytes.now value → Gives (Ok value) result }
+    ensures no_value { result ≡ Err NoValue → (value : YValue) → spec.IsValueOf bytes.now value → ⊥ }
+    ensures not_utf8 { result ≡ Err NotUtf8 → lines_of bytes.now ≡ Err NotUtf8 }
+    ensures outside { (feature : Feature) (line : ℕ) → result ≡ Err (OutsideProfile feature line) → lines_of bytes.now ≡ Err (OutsideProfile feature line) }
+    ensures refused { (fault : YFault) → lines_of bytes.now ≡ Err fault → Gives (Err fault) result }
+{
+    value_in(alloc, bytes)
 }

@@ -1,5 +1,5 @@
-use Rattle.std.proofs.Common.{[], ap, sym, ◌∙◌, arith, ◌++◌, List, ℕ, ◌+◌, drop, Some}
-use Rattle.yaml_read.specs.Block.{before, block_from, before_row}
+use Rattle.std.proofs.Common.{ap, sym, ◌∙◌, arith, ◌+◌, drop}
+use Rattle.yaml_read.specs.Block.{before}
 use Rattle.yaml_read.proofs.Rows.{row_gap, row_bad, row_said, row_pushed, empty}
 use Rattle.yaml_read.proofs.block.block_of.Goals as goal
 use Rattle.yaml_read.proofs.block.block_of.Goals.{in-None, in-Some+in-Ok+in_ok-push_before-in-Some+in_ok-push-in-Some}

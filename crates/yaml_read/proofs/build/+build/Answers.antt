@@ -1,4 +1,4 @@
-use Rattle.std.proofs.Common.{◌≡◌, ◌+◌, ◌-◌, suc, List, ℕ, Option, reverse, ap, sym, ◌∙◌, subst, arith, Err, refl}
+use Rattle.std.proofs.Common.{◌+◌, ◌-◌, suc, List, ℕ, Option, reverse, ap, sym, ◌∙◌, subst, arith, refl}
 use Rattle.std.proofs.lemmas.Result.{err_from_is_err_and}
 use Rattle.yaml_read.specs.declared.value.YValue.{YValue}
 use Rattle.yaml_read.specs.Building.{Built, Leaves, node_at, items_at, entries_at, flow_at}

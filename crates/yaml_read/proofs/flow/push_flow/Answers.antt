@@ -1,6 +1,5 @@
 use Rattle.yaml_read.specs.declared.cell.Cell.{Cell}
-use Rattle.std.proofs.Common.{◌++◌, ◌∷◌, [], get_or, ap, sym, ◌∙◌, arith, refl, take, drop, ◌-◌, ◌+◌}
-use Rattle.yaml_read.proofs.Cells.{behind}
+use Rattle.std.proofs.Common.{◌++◌, ◌∷◌, [], get_or, ap, sym, ◌∙◌, arith, refl, take, drop, ◌-◌}
 use Rattle.yaml_read.proofs.Signs.{flow_sign, flow_byte}
 use Rattle.yaml_read.proofs.flow.push_flow.Goals as goal
 use Rattle.yaml_read.proofs.flow.push_flow.Goals.{then-is_sign+in_ok-push_piece+in_ok-push, else-is_sign}

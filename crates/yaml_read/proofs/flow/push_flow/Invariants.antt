@@ -1,4 +1,4 @@
-use Rattle.std.proofs.Common.{◌≡◌, ◌++◌, ◌-◌, ◌≤◌, drop, take}
+use Rattle.std.proofs.Common.{◌≡◌, ◌-◌, ◌≤◌, drop, take}
 use Rattle.yaml_read.specs.Flow.{flow_from, flow_cells}
 use Rattle.yaml_read.proofs.Cells.{behind}
 use Rattle.yaml_read.proofs.flow.push_flow.Given as goal

@@ -1,8 +1,6 @@
-use Rattle.std.proofs.Common.{◌++◌, List, ap, sym, ◌∙◌, append_assoc}
-use Rattle.yaml_read.specs.Value.{mark_cells, dash_cells, key_cells, line_at, is_ended, value_column}
-use Rattle.yaml_read.specs.Leaf.{leaf_cells}
+use Rattle.std.proofs.Common.{◌++◌, List, ap, ◌∙◌, append_assoc}
+use Rattle.yaml_read.specs.Value.{mark_cells, dash_cells, key_cells}
 use Rattle.yaml_read.specs.declared.cell.Cell.{Cell}
-use Rattle.yaml_lines.specs.Body.{texts}
 use Rattle.yaml_read.proofs.Readings.{adds_behind, length-texts}
 use Rattle.yaml_read.proofs.read.push_line.Goals as goal
 
