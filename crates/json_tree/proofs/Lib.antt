@@ -5,6 +5,5 @@ pub mod Depths
 pub mod Counting
 pub mod Whole
 pub mod Places
-pub mod Texts
 pub mod Spans
 pub mod Trees

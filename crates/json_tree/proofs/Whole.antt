@@ -12,7 +12,7 @@ use Rattle.json_tree.specs.Table.{Value, grammar}
 use Rattle.json_tree.specs.Build.{node, source, depth_all}
 use Rattle.json_tree.specs.Sets.{sets, ranks}
 use Rattle.json_tree.specs.Reading.{level, one, round_at}
-use Rattle.json_tree.specs.Gives.{Gives}
+use Rattle.node_tree.specs.Gives.{Gives}
 use Rattle.json_tree.specs.Spells.{IsValueOf, IsTreeOf}
 use Rattle.json_tree.specs.Lexing.{IsTokensOf}
 use Rattle.node_tree.specs.declared.view.Mode.{Mode}

@@ -1,4 +1,3 @@
-pub mod Gives
 pub mod Words
 pub mod Tokens
 pub mod Lexing

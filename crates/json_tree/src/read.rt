@@ -3,7 +3,7 @@
 ghost use Rattle.std.specs.Prelude.{◌≤◌, length, IfOk, Some};
 ghost use Rattle.node_tree.specs.Spans.{SpansLieIn};
 ghost use Rattle.node_tree.specs.declared.node.Node.{Node as node};
-ghost use Rattle.json_tree.specs.Gives.{Gives};
+ghost use Rattle.node_tree.specs.Gives.{Gives};
 ghost use Rattle.json_tree.specs.Spells.{IsTreeOf, IsValueOf};
 
 use crate::lex::lex;

@@ -3,7 +3,7 @@
 ghost use Rattle.std.specs.Prelude.{◌≡◌, ◌≢◌, ◌<◌, ◌≤◌, true, List, length, IfOk, eqb};
 ghost use Rattle.grammar.specs.Rule.{has};
 ghost use Rattle.json_tree.specs.declared.token.Word.TheVariants.{End};
-ghost use Rattle.json_tree.specs.Gives.{Gives};
+ghost use Rattle.node_tree.specs.Gives.{Gives};
 ghost use Rattle.json_tree.specs.Words.{class};
 ghost use Rattle.json_tree.specs.Table.{Value, Member, Deep};
 ghost use Rattle.json_tree.specs.Table as table;

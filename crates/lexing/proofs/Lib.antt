@@ -7,3 +7,4 @@ pub mod Whole
 pub mod Conditions
 pub mod Reading
 pub mod Languages
+pub mod Quotes
