@@ -1,0 +1,12 @@
+pub mod Classes
+pub mod Passes
+pub mod Closes
+pub mod Tokens
+pub mod Steps
+pub mod Orders
+pub mod Cuts
+pub mod Measures
+pub mod Depths
+pub mod Counting
+pub mod Modes
+pub mod Runs

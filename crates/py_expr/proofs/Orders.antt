@@ -1,0 +1,11 @@
+-- Lists from the end on.
+use Rattle.std.proofs.Common.{◌≡◌, List, [], ◌∷◌, ◌++◌, refl, length-append}
+use Rattle.std.specs.Prelude.{reverse}
+use Rattle.std.proofs.lemmas.List.{append-nil, reverse-append, reverse-reverse}
+use Rattle.node_tree.specs.declared.node.Node.{Node}
+use Rattle.py_expr.proofs.Steps.{push_more}
+
+pub reverse_last : (xs : List Node) (x : Node) → reverse (xs ++ x ∷ []) ≡ x ∷ reverse xs
+reverse_last xs x = reverse-append xs (x ∷ [])
+
+pub ruleset order_laws = (append-nil, reverse-reverse, reverse_last, push_more, length-append)

@@ -1,0 +1,197 @@
+-- What is read of a level is the closed run, and the closed run is what is read.
+use Rattle.std.proofs.Common.{◌≡◌, ℕ, suc, ◌+◌, ◌<◌, ◌≤◌, List, [], ◌∷◌, length, refl, sym, subst, ap, ◌∙◌, arith, Option, Some, None, Err, inl, inr}
+use Rattle.std.specs.Prelude.{Bool, true, false, leb, not}
+use Rattle.std.proofs.lemmas.List.{get_or_past}
+use Rattle.node_tree.specs.declared.node.Node.{Node}
+use Rattle.node_tree.specs.declared.fault.ReadFault.{ReadFault}
+use Rattle.node_tree.specs.declared.fault.ReadFault.TheVariants as faults
+use Rattle.node_tree.specs.declared.view.Mode.{Mode}
+use Rattle.node_tree.specs.declared.view.Mode.TheVariants as modes
+use Rattle.node_tree.specs.Tree.{depth_of}
+use Rattle.grammar.specs.Rule.{has}
+use Rattle.grammar.specs.Check.{closes_runs}
+use Rattle.grammar.proofs.Facts.{none_some, some_pair}
+use Rattle.grammar.proofs.Theorem.{read_forward, read_run, run_read}
+use Rattle.py_expr.specs.declared.item.Item.{Item}
+use Rattle.py_expr.specs.declared.level.PyLevel.{PyLevel}
+use Rattle.py_expr.specs.Parts.{Part, whole, depth_all}
+use Rattle.py_expr.specs.Table.{Level, Exprs, Star, Named, Test, LambdaTest, Or, OrTail, And, AndTail, Not, Cmp, CmpTail, Cop, Bor, BorTail, Xor, XorTail, Band, BandTail, Shift, ShiftTail, Sum, SumTail, Term, TermTail, Unary, Power, Await, Prim, PrimTail, Suffix, Attr, Call, Sub, Atom, Strings, MoreStrings, StringsTail, Paren, Inner, Items, ListLit, Braces, FirstEntry, FirstValue, LaterEntry, LaterValue, Dotted, DottedTail, DotsLeaf, Pairs, DottedPairs, PairsTail, Pair, AfterPair, AfterFirstPair, Deep, Comprehension, ClausesTail, Clause, ForClause, Yield, Targs, Target, Index, Piece, SliceEnd, Bound, Args, FirstArg, Arg, PlainArg, Params, Param, Given, LambdaParams, LambdaParam, LambdaGiven, AfterStar, Stars, StarsTail, AfterItem, AfterTarget, Targets, TargetsTail, AfterPiece, Pieces, PiecesTail, AfterArg, AfterFirstArg, MoreArgs, MoreArgsTail, AfterParam, MoreParams, MoreParamsTail, AfterLambdaParam, MoreLambdaParams, MoreLambdaParamsTail, grammar}
+use Rattle.py_expr.specs.Build.{source}
+use Rattle.py_expr.specs.Sets.{sets, ranks}
+use Rattle.py_expr.specs.Reading.{level, one, round_at}
+use Rattle.node_tree.specs.Gives.{Gives}
+use Rattle.py_expr.specs.Runs.{of_mode, level_at, IsRunTree, AreOf}
+use Rattle.py_expr.proofs.Passes.{pass}
+use Rattle.py_expr.proofs.Closes.{close_text, close_pattern}
+use Rattle.py_expr.proofs.Depths.{deepens}
+use Rattle.py_lex.specs.declared.token.PyToken.{PyToken}
+use Rattle.py_expr.specs.Items.{items}
+use Rattle.py_expr.proofs.Modes.{end_of_mode, all_of_mode}
+
+close : (mode : Mode) (l : Level) → closes_runs grammar sets ranks (of_mode mode) 36 l ≡ true
+close modes.Text l = close_text l
+close modes.Pattern l = close_pattern l
+
+shut_level : (l : Level) → ranks.shut l ≡ true
+shut_level Exprs = refl
+shut_level Star = refl
+shut_level Named = refl
+shut_level Test = refl
+shut_level LambdaTest = refl
+shut_level Or = refl
+shut_level OrTail = refl
+shut_level And = refl
+shut_level AndTail = refl
+shut_level Not = refl
+shut_level Cmp = refl
+shut_level CmpTail = refl
+shut_level Cop = refl
+shut_level Bor = refl
+shut_level BorTail = refl
+shut_level Xor = refl
+shut_level XorTail = refl
+shut_level Band = refl
+shut_level BandTail = refl
+shut_level Shift = refl
+shut_level ShiftTail = refl
+shut_level Sum = refl
+shut_level SumTail = refl
+shut_level Term = refl
+shut_level TermTail = refl
+shut_level Unary = refl
+shut_level Power = refl
+shut_level Await = refl
+shut_level Prim = refl
+shut_level PrimTail = refl
+shut_level Suffix = refl
+shut_level Attr = refl
+shut_level Call = refl
+shut_level Sub = refl
+shut_level Atom = refl
+shut_level Strings = refl
+shut_level MoreStrings = refl
+shut_level StringsTail = refl
+shut_level Paren = refl
+shut_level Inner = refl
+shut_level Items = refl
+shut_level ListLit = refl
+shut_level Braces = refl
+shut_level FirstEntry = refl
+shut_level FirstValue = refl
+shut_level LaterEntry = refl
+shut_level LaterValue = refl
+shut_level Dotted = refl
+shut_level DottedTail = refl
+shut_level DotsLeaf = refl
+shut_level Pairs = refl
+shut_level DottedPairs = refl
+shut_level PairsTail = refl
+shut_level Pair = refl
+shut_level AfterPair = refl
+shut_level AfterFirstPair = refl
+shut_level Deep = refl
+shut_level Comprehension = refl
+shut_level ClausesTail = refl
+shut_level Clause = refl
+shut_level ForClause = refl
+shut_level Yield = refl
+shut_level Targs = refl
+shut_level Target = refl
+shut_level Index = refl
+shut_level Piece = refl
+shut_level SliceEnd = refl
+shut_level Bound = refl
+shut_level Args = refl
+shut_level FirstArg = refl
+shut_level Arg = refl
+shut_level PlainArg = refl
+shut_level Params = refl
+shut_level Param = refl
+shut_level Given = refl
+shut_level LambdaParams = refl
+shut_level LambdaParam = refl
+shut_level LambdaGiven = refl
+shut_level AfterStar = refl
+shut_level Stars = refl
+shut_level StarsTail = refl
+shut_level AfterItem = refl
+shut_level AfterTarget = refl
+shut_level Targets = refl
+shut_level TargetsTail = refl
+shut_level AfterPiece = refl
+shut_level Pieces = refl
+shut_level PiecesTail = refl
+shut_level AfterArg = refl
+shut_level AfterFirstArg = refl
+shut_level MoreArgs = refl
+shut_level MoreArgsTail = refl
+shut_level AfterParam = refl
+shut_level MoreParams = refl
+shut_level MoreParamsTail = refl
+shut_level AfterLambdaParam = refl
+shut_level MoreLambdaParams = refl
+shut_level MoreLambdaParamsTail = refl
+
+-- what is read, within the limits, is the closed run
+pub read_is_tree : (mode : Mode) (ts : List Item) (l : PyLevel) (from : ℕ) (n : Node) (to : ℕ) → level ts 1002 (level_at l) from ≡ Some (whole n ∷ [], to) → to ≤ length ts → depth_of n ≤ 500 → ((k : ℕ) → from ≤ k → k < to → round_at ts from k ≤ 500) → IsRunTree mode ts l from n to
+unfolding level round_at
+read_is_tree mode ts l from n to h within shallow few = record {
+  within = within;
+  run = read_run grammar sets ranks pass depth_all (source ts) (deepens ts) (suc (length ts)) (of_mode mode) 36 (close mode) 1002 (level_at l) (whole n ∷ []) from to (shut_level (level_at l)) h (omega (arith, shallow)) few;
+}
+
+-- the closed run is read
+pub tree_is_read : (mode : Mode) (ts : List Item) (l : PyLevel) (from : ℕ) (n : Node) (to : ℕ) → AreOf mode ts → IsRunTree mode ts l from n to → level ts 1002 (level_at l) from ≡ Some (whole n ∷ [], to)
+unfolding level
+tree_is_read mode ts l from n to all r = run_read grammar sets ranks pass depth_all (source ts) (deepens ts) (suc (length ts)) (of_mode mode) 36 (close mode) (level_at l) (whole n ∷ []) from to (shut_level (level_at l)) (end_of_mode mode) all r.run (omega (arith, r.within))
+
+pub forward : (ts : List Item) (l : PyLevel) (from : ℕ) (n : Node) (to : ℕ) → level ts 1002 (level_at l) from ≡ Some (whole n ∷ [], to) → from ≤ to
+unfolding level
+forward ts l from n to h = read_forward grammar sets ranks pass depth_all (source ts) (deepens ts) (suc (length ts)) 1002 (level_at l) (whole n ∷ []) from to h
+
+-- two answers of the reader are one
+pub one_tree : (mode : Mode) (ts : List Item) (l : PyLevel) (from : ℕ) (n m : Node) (i j : ℕ) → AreOf mode ts → IsRunTree mode ts l from n i → level ts 1002 (level_at l) from ≡ Some (whole m ∷ [], j) → (n ≡ m) × (i ≡ j)
+one_tree mode ts l from n m i j all r h = let p : _ = some_pair (whole n ∷ []) (whole m ∷ []) i j (sym (tree_is_read mode ts l from n i all r) ∙ h) in (head_of p.0, p.1)
+  where
+    head_of : whole n ∷ [] ≡ whole m ∷ [] → n ≡ m
+    head_of e = cc
+
+pub tree_is_shallow : (mode : Mode) (ts : List Item) (l : PyLevel) (from : ℕ) (n : Node) (to : ℕ) → IsRunTree mode ts l from n to → depth_of n ≤ 500
+tree_is_shallow mode ts l from n to r = omega (arith, r.run.piece.shallow)
+
+pub tree_is_bracketed : (mode : Mode) (ts : List Item) (l : PyLevel) (from : ℕ) (n : Node) (to : ℕ) → IsRunTree mode ts l from n to → (k : ℕ) → from ≤ k → k < to → round_at ts from k ≤ 500
+unfolding round_at
+tree_is_bracketed mode ts l from n to r k a b = r.run.piece.few_brackets k a b
+
+-- a fault that comes although there is a tree is want of memory
+pub fails_still : {X Y : Type 0} (view : X → Y) (e : ReadFault) (o : Option Y) (y : Y) (x : X) → Gives view (Err e) o → o ≡ Some y → Gives (λ (z : X). z) (Err e) (Some x)
+fails_still view faults.Memory o y x f h = tt
+fails_still view faults.NoTree o y x f h = absurd (none_some y (sym f ∙ h))
+
+pub leb_true : (a b : ℕ) → leb a b ≡ true → a ≤ b
+leb_true a b h = grind arith
+
+pub same_answer : (n m : Node) (i j : ℕ) → (n ≡ m) × (i ≡ j) → ◌≡◌ {A = Option (Node × ℕ)} (Some (n, i)) (Some (m, j))
+same_answer n m i j e = rw (e.0, e.1) refl
+
+-- ---- from the tokens
+
+pub items_length : (mode : Mode) (ts : List PyToken) → length (items mode ts) ≡ length ts
+unfolding items
+items_length mode [] = refl
+items_length mode (t ∷ ts) = ap suc (items_length mode ts)
+
+pub from_within : (mode : Mode) (ts : List PyToken) (is : List Item) (from : ℕ) → is ≡ items mode ts → from < length ts → from ≤ length is
+from_within mode ts is from e h = rw e (omega (arith, h, items_length mode ts))
+
+pub all_here : (mode : Mode) (ts : List PyToken) (is : List Item) → is ≡ items mode ts → AreOf mode is
+all_here mode ts is e = rw e (all_of_mode mode ts)
+
+pub tree_here : (mode : Mode) (ts : List PyToken) (is : List Item) (l : PyLevel) (from : ℕ) (n : Node) (to : ℕ) → is ≡ items mode ts → IsRunTree mode (items mode ts) l from n to → IsRunTree mode is l from n to
+tree_here mode ts is l from n to e r = rw e r
+
+pub tree_there : (mode : Mode) (ts : List PyToken) (is : List Item) (l : PyLevel) (from : ℕ) (n : Node) (i j : ℕ) → is ≡ items mode ts → i ≡ j → IsRunTree mode is l from n i → IsRunTree mode (items mode ts) l from n j
+tree_there mode ts is l from n i j e h r = rw (← h) (rw e at r)
+
+pub answer_there : (n m : Node) (i j k : ℕ) → j ≡ k → ◌≡◌ {A = Option (Node × ℕ)} (Some (n, i)) (Some (m, j)) → ◌≡◌ {A = Option (Node × ℕ)} (Some (n, i)) (Some (m, k))
+answer_there n m i j k h e = rw h at e

@@ -1,0 +1,9 @@
+pub mod Words
+pub mod Items
+pub mod Strings
+pub mod Parts
+pub mod Table
+pub mod Build
+pub mod Sets
+pub mod Reading
+pub mod Runs

@@ -1,0 +1,145 @@
+-- The words of the grammar: what a token is for it.
+use Rattle.std.specs.Prelude.{ℕ, Bool, true, false, ◌==◌, ◌&&◌, if◌then◌else◌, List, [], ◌∷◌, codes}
+use Rattle.std.specs.Str.{bytes_eq}
+use Rattle.node_tree.specs.declared.view.Mode.{Mode}
+use Rattle.node_tree.specs.declared.view.Mode.TheVariants.{Text, Pattern}
+use Rattle.lexing.specs.WordList.{is_among}
+use Rattle.py_lex.specs.declared.token.PyToken.{PyToken, out-PyToken}
+use Rattle.py_lex.specs.declared.token.PyWord.{PyWord}
+use Rattle.py_lex.specs.declared.token.PyWord.TheVariants as lexed
+use Rattle.py_expr.specs.declared.word.Word.{Word}
+use Rattle.py_expr.specs.declared.word.Word.TheVariants.{Other, Name, Meta, Number, Const, Ellipsis, Dots, MetaDots, Str, FStr, StrAny, LeftRound, RightRound, LeftSquare, RightSquare, LeftBrace, BraceDots, RightBrace, Comma, CommaDots, Colon, Dot, Equal, Walrus, Times, Slash, Factor, Sign, Tilde, Power, Shift, Ampersand, Caret, Bar, Compare, In, Is, Not, And, Or, If, Else, Lambda, For, Async, Await, Yield, From, DeepOpen, DeepClose}
+
+-- the class of a word in the grammar
+unfoldable pub class : Word → ℕ
+class Other = 0
+class Name = 1
+class Meta = 2
+class Number = 3
+class Const = 4
+class Ellipsis = 5
+class Dots = 6
+class MetaDots = 7
+class Str = 8
+class FStr = 9
+class StrAny = 10
+class LeftRound = 11
+class RightRound = 12
+class LeftSquare = 13
+class RightSquare = 14
+class LeftBrace = 15
+class BraceDots = 16
+class RightBrace = 17
+class Comma = 18
+class CommaDots = 19
+class Colon = 20
+class Dot = 21
+class Equal = 22
+class Walrus = 23
+class Times = 24
+class Slash = 25
+class Factor = 26
+class Sign = 27
+class Tilde = 28
+class Power = 29
+class Shift = 30
+class Ampersand = 31
+class Caret = 32
+class Bar = 33
+class Compare = 34
+class In = 35
+class Is = 36
+class Not = 37
+class And = 38
+class Or = 39
+class If = 40
+class Else = 41
+class Lambda = 42
+class For = 43
+class Async = 44
+class Await = 45
+class Yield = 46
+class From = 47
+class DeepOpen = 48
+class DeepClose = 49
+
+-- the word of a mark of one byte
+abbrev pub short_mark : ℕ → Word
+short_mark c = if c == 40 then LeftRound else (if c == 41 then RightRound else (if c == 91 then LeftSquare else (if c == 93 then RightSquare else (if c == 123 then LeftBrace else (if c == 125 then RightBrace else (if c == 44 then Comma else (if c == 58 then Colon else (if c == 46 then Dot else (if c == 61 then Equal else (if c == 42 then Times else (if c == 47 then Slash else (if c == 37 then Factor else (if c == 64 then Factor else (if c == 43 then Sign else (if c == 45 then Sign else (if c == 126 then Tilde else (if c == 38 then Ampersand else (if c == 94 then Caret else (if c == 124 then Bar else (if c == 60 then Compare else (if c == 62 then Compare else Other)))))))))))))))))))))
+
+-- a word that patterns alone have
+abbrev pub in_pattern : Mode → Word → Word
+in_pattern Text word = Other
+in_pattern Pattern word = word
+
+abbrev pub dots_word : Mode → Word
+dots_word Text = Ellipsis
+dots_word Pattern = Dots
+
+-- the word of a mark of several bytes
+abbrev pub long_mark : Mode → List ℕ → Word
+long_mark mode text =
+    if bytes_eq text (codes ":=") then Walrus else (if bytes_eq text (codes "**") then Power else (if bytes_eq text (codes "//") then Factor else (if bytes_eq text (codes "==") then Compare else (if bytes_eq text (codes "!=") then Compare else (if bytes_eq text (codes "<=") then Compare else (if bytes_eq text (codes ">=") then Compare else (if bytes_eq text (codes "<<") then Shift else (if bytes_eq text (codes ">>") then Shift else (if bytes_eq text (codes "...") then dots_word mode else (if bytes_eq text (codes "<...") then in_pattern mode DeepOpen else (if bytes_eq text (codes "...>") then in_pattern mode DeepClose else Other)))))))))))
+
+abbrev pub mark_word : Mode → List ℕ → Word
+mark_word mode (c ∷ []) = short_mark c
+mark_word mode text = long_mark mode text
+
+-- the word of a keyword
+abbrev pub keyword_word : List ℕ → Word
+keyword_word text =
+    if bytes_eq text (codes "in") then In else (if bytes_eq text (codes "is") then Is else (if bytes_eq text (codes "not") then Not else (if bytes_eq text (codes "and") then And else (if bytes_eq text (codes "or") then Or else (if bytes_eq text (codes "if") then If else (if bytes_eq text (codes "else") then Else else (if bytes_eq text (codes "None") then Const else (if bytes_eq text (codes "True") then Const else (if bytes_eq text (codes "False") then Const else (if bytes_eq text (codes "lambda") then Lambda else (if bytes_eq text (codes "for") then For else (if bytes_eq text (codes "async") then Async else (if bytes_eq text (codes "await") then Await else (if bytes_eq text (codes "yield") then Yield else (if bytes_eq text (codes "from") then From else Other)))))))))))))))
+
+-- a string whose content is `...` and that has no prefix but `u`
+abbrev pub dots_strings : List (List ℕ)
+dots_strings = codes "'...'" ∷ codes "\"...\"" ∷ codes "'''...'''" ∷ codes "\"\"\"...\"\"\"" ∷ codes "u'...'" ∷ codes "u\"...\"" ∷ codes "u'''...'''" ∷ codes "u\"\"\"...\"\"\"" ∷ codes "U'...'" ∷ codes "U\"...\"" ∷ codes "U'''...'''" ∷ codes "U\"\"\"...\"\"\"" ∷ []
+
+abbrev pub is_dots_string : List ℕ → Bool
+is_dots_string text = is_among dots_strings text
+
+abbrev pub string_word : Mode → List ℕ → Word
+string_word Text text = Str
+string_word Pattern text = if is_dots_string text then StrAny else Str
+
+-- the token is `...` or `$...NAME`
+abbrev pub dots_of : PyWord → List ℕ → Bool
+dots_of lexed.MetaDots text = true
+dots_of lexed.Op text = bytes_eq text (codes "...")
+dots_of _ text = false
+
+abbrev pub is_dots : PyToken → Bool
+is_dots t = dots_of (out-PyToken t).word (out-PyToken t).text
+
+-- the token is a comma or a closing brace
+abbrev pub ends_of : PyWord → List ℕ → Bool
+ends_of lexed.Op text = if bytes_eq text (codes ",") then true else bytes_eq text (codes "}")
+ends_of _ text = false
+
+abbrev pub ends_item : PyToken → Bool
+ends_item t = ends_of (out-PyToken t).word (out-PyToken t).text
+
+-- dots stand first, and then a comma or a closing brace
+abbrev pub lone_dots : List PyToken → Bool
+lone_dots (first ∷ second ∷ ts) = is_dots first && ends_item second
+lone_dots ts = false
+
+-- a comma or a brace of a pattern that stands before such dots has a word of its own
+abbrev pub before_dots : Mode → Word → List PyToken → Word
+before_dots Text word after = word
+before_dots Pattern Comma after = if lone_dots after then CommaDots else Comma
+before_dots Pattern LeftBrace after = if lone_dots after then BraceDots else LeftBrace
+before_dots Pattern word after = word
+
+abbrev pub word_by : Mode → PyWord → List ℕ → List PyToken → Word
+word_by mode lexed.Name text after = Name
+word_by mode lexed.Number text after = Number
+word_by mode lexed.Keyword text after = keyword_word text
+word_by mode lexed.Str text after = string_word mode text
+word_by mode lexed.Op text after = before_dots mode (mark_word mode text) after
+word_by mode lexed.Meta text after = in_pattern mode Meta
+word_by mode lexed.MetaDots text after = in_pattern mode MetaDots
+word_by mode _ text after = Other
+
+-- the word of a token before some others
+abbrev pub word_of : Mode → PyToken → List PyToken → Word
+word_of mode t after = word_by mode (out-PyToken t).word (out-PyToken t).text after

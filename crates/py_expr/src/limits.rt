@@ -1,0 +1,65 @@
+//! The limits of what is read.
+
+ghost use Rattle.std.specs.Prelude.{◌≡◌, ℕ, ◌<◌, ◌≤◌, true, false, length, leb};
+ghost use Rattle.node_tree.specs.Tree.{depth_of};
+ghost use Rattle.grammar.specs.Rule.{behind};
+ghost use Rattle.py_expr.specs.Words.{class};
+ghost use Rattle.py_expr.specs.Table.{grammar};
+ghost use Rattle.py_expr.specs.Reading.{round_at};
+
+use crate::item::Item;
+use crate::word::Word;
+use node_tree::Node;
+
+/// The depth of a tree, and the number of brackets round a token, that are read at most.
+pub const LIMIT: u32 = 500;
+
+/// How many brackets are open behind a token, before which so many were.
+#[tactic(auto, unfolding(crate::specs::Words::class))]
+fn open_behind(word: Word, count: u32) -> u32
+    requires { count < 502 }
+    ensures { result ≡ behind grammar.opens grammar.closes (class word) count }
+{
+    match word {
+        Word::LeftRound | Word::LeftSquare | Word::LeftBrace | Word::BraceDots => count + 1,
+        Word::RightRound | Word::RightSquare | Word::RightBrace => count.saturating_sub(1),
+        _ => count,
+    }
+}
+
+/// Whether no token between the places stands inside more than 500 brackets.
+#[tactic(auto, using(crate::proofs::Counting::open_next, crate::proofs::Counting::open_start, crate::proofs::Counting::round_is))]
+pub fn few_brackets(items: &[Item<'_>], from: usize, to: usize) -> bool
+    requires ordered { from ≤ to }
+    requires within { to ≤ length items.now }
+    ensures few { result ≡ true → (n : ℕ) → from ≤ n → n < to → round_at items.now from n ≤ 500 }
+    ensures many { result ≡ false → (n : ℕ) × (from ≤ n) × (n < to) × (500 < round_at items.now from n) }
+{
+    let mut count = 0;
+    for at in from..to {
+        let next = open_behind(items[at].word, count);
+        if count > LIMIT {
+            if next > LIMIT {
+                return false;
+            }
+        }
+        count = next;
+    }
+    true
+}
+
+/// Whether a tree is at most so deep.
+#[tactic(auto, using(crate::proofs::Counting::depth_opened, crate::proofs::Counting::depths_from, crate::proofs::Counting::depths_past, crate::proofs::Counting::leb_max))]
+pub fn is_shallow(node: &Node, most: u32) -> bool
+    ensures { result ≡ leb (depth_of node.now) most }
+{
+    if most == 0 {
+        return false;
+    }
+    for kid in node.kids.as_slice() {
+        if !is_shallow(kid, most - 1) {
+            return false;
+        }
+    }
+    true
+}

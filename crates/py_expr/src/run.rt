@@ -1,0 +1,104 @@
+//! The public call: from tokens to the tree of a run.
+
+ghost use Rattle.std.specs.Prelude.{◌≡◌, ◌<◌, ◌≤◌, ℕ, length, IfOk, Some};
+ghost use Rattle.node_tree.specs.declared.node.Node.{Node as node};
+ghost use Rattle.node_tree.specs.Gives.{Gives};
+ghost use Rattle.py_expr.specs.Reading as reading;
+ghost use Rattle.node_tree.specs.declared.view.Mode.{Mode as mode_of};
+ghost use Rattle.py_expr.specs.Runs.{IsTree, IsRunTree, AreOf, level_at};
+
+use crate::item::{Item, items};
+use crate::level::{Binary, PyLevel};
+use crate::limits::{LIMIT, few_brackets, is_shallow};
+use crate::read;
+use node_tree::{List, Mode, Node, ReadFault};
+use py_lex::PyToken;
+use std::alloc::Global;
+
+/// How many steps deeper the reader may go: 500 for depth, 500 for brackets, and two.
+const ROOM: u32 = 1002;
+
+/// What a level reads from a place.
+fn at_level(
+    alloc: Global,
+    items: &[Item<'_>],
+    level: PyLevel,
+    at: usize,
+) -> Result<(Node, usize), ReadFault>
+    requires { at ≤ length items.now }
+    ensures within { IfOk result (λ x. x.1 ≤ length items.now) }
+    ensures gives { Gives reading.one result (reading.level items.now 1002 (level_at level) at) }
+{
+    match level {
+        PyLevel::Exprs => read::exprs(alloc, items, ROOM, at),
+        PyLevel::Star => read::star(alloc, items, ROOM, at),
+        PyLevel::Named => read::named(alloc, items, ROOM, at),
+        PyLevel::Test => read::test(alloc, items, ROOM, at),
+        PyLevel::Or => read::binary(alloc, items, Binary::Or, ROOM, at),
+        PyLevel::And => read::binary(alloc, items, Binary::And, ROOM, at),
+        PyLevel::Not => read::not(alloc, items, ROOM, at),
+        PyLevel::Cmp => read::cmp(alloc, items, ROOM, at),
+        PyLevel::Bor => read::binary(alloc, items, Binary::Bar, ROOM, at),
+        PyLevel::Unary => read::unary(alloc, items, ROOM, at),
+        PyLevel::Power => read::power(alloc, items, ROOM, at),
+        PyLevel::Await => read::awaited(alloc, items, ROOM, at),
+        PyLevel::Prim => read::prim(alloc, items, ROOM, at),
+        PyLevel::Atom => read::atom(alloc, items, ROOM, at),
+        PyLevel::Yield => read::yields(alloc, items, ROOM, at),
+        PyLevel::Targs => read::targs(alloc, items, ROOM, at),
+        PyLevel::Target => read::target(alloc, items, ROOM, at),
+        PyLevel::Params => read::params(alloc, items, ROOM, at),
+        PyLevel::Args => read::args(alloc, items, ROOM, at),
+    }
+}
+
+/// Reads the closed run of a level that begins at an item: its tree, and the number of the item behind it.
+fn read_items(
+    alloc: Global,
+    items: &[Item<'_>],
+    from: usize,
+    level: PyLevel,
+) -> Result<(Node, usize), ReadFault>
+    requires { from ≤ length items.now }
+    ensures found { IfOk result (λ x. (mode : mode_of) → IsRunTree mode items.now level from x.0 x.1) }
+    ensures only { (mode : mode_of) (n : node) (to : ℕ) → AreOf mode items.now → IsRunTree mode items.now level from n to → Gives (λ x. x) result (Some (n, to)) }
+{
+    let (node, end) = at_level(alloc, items, level, from)?;
+    if !is_shallow(&node, LIMIT) {
+        return Err(ReadFault::NoTree);
+    }
+    if !few_brackets(items, from, end) {
+        return Err(ReadFault::NoTree);
+    }
+    Ok((node, end))
+}
+
+/// Reads the closed run of a level of Python's expressions that begins at the token `from`: its tree, and the number of the
+/// token behind it.
+///
+/// The levels are those of the Python reference, section "Expressions", in the profile that docs/PYTHON.md tells. A run is
+/// closed where the token behind it cannot go on with it. In a pattern `...` (`Dots`), `$...NAME` (`MetaDots`), `$NAME`
+/// (`Meta`) and `<... exprs ...>` (`Deep`) are atoms, and the string `"..."` is a `StrAny`. Spans are in bytes, from 0.
+///
+/// NoTree comes exactly where no closed run of the level begins at `from` whose tree is at most 500 deep and none of whose
+/// tokens stands inside more than 500 open brackets of the run. No f-string is read so far: one stands in no expression.
+pub fn read_py(
+    alloc: Global,
+    tokens: &List<PyToken>,
+    from: u32,
+    level: PyLevel,
+    mode: Mode,
+) -> Result<(Node, u32), ReadFault>
+    requires { from < length tokens.now }
+    // What is read is the closed run.
+    ensures found { IfOk result (λ x. IsTree mode tokens.now level from x.0 x.1) }
+    // Each closed run is what is read, unless memory runs out. So there is at most one.
+    ensures only { (n : node) (to : ℕ) → IsTree mode tokens.now level from n to → Gives (λ x. x) result (Some (n, to)) }
+{
+    let items = items(alloc, mode, tokens.as_slice())?;
+    let (node, end) = read_items(alloc, items.as_slice(), from as usize, level)?;
+    let Ok(end) = u32::try_from(end) else {
+        return Err(ReadFault::Memory);
+    };
+    Ok((node, end))
+}
