@@ -28,11 +28,11 @@ use Rattle.py_lex.specs.declared.token.PyToken.{PyToken}
 use Rattle.py_expr.specs.Items.{items}
 use Rattle.py_expr.proofs.Modes.{end_of_mode, all_of_mode}
 
-close : (mode : Mode) (l : Level) → closes_runs grammar sets ranks (of_mode mode) 36 l ≡ true
+pub close : (mode : Mode) (l : Level) → closes_runs grammar sets ranks (of_mode mode) 36 l ≡ true
 close modes.Text l = close_text l
 close modes.Pattern l = close_pattern l
 
-shut_level : (l : Level) → ranks.shut l ≡ true
+pub shut_level : (l : Level) → ranks.shut l ≡ true
 shut_level Exprs = refl
 shut_level Star = refl
 shut_level Named = refl
@@ -145,10 +145,6 @@ pub tree_is_read : (mode : Mode) (ts : List Item) (l : PyLevel) (from : ℕ) (n 
 unfolding level
 tree_is_read mode ts l from n to all r = run_read grammar sets ranks pass depth_all (source ts) (deepens ts) (suc (length ts)) (of_mode mode) 36 (close mode) (level_at l) (whole n ∷ []) from to (shut_level (level_at l)) (end_of_mode mode) all r.run (omega (arith, r.within))
 
-pub forward : (ts : List Item) (l : PyLevel) (from : ℕ) (n : Node) (to : ℕ) → level ts 1002 (level_at l) from ≡ Some (whole n ∷ [], to) → from ≤ to
-unfolding level
-forward ts l from n to h = read_forward grammar sets ranks pass depth_all (source ts) (deepens ts) (suc (length ts)) 1002 (level_at l) (whole n ∷ []) from to h
-
 -- two answers of the reader are one
 pub one_tree : (mode : Mode) (ts : List Item) (l : PyLevel) (from : ℕ) (n m : Node) (i j : ℕ) → AreOf mode ts → IsRunTree mode ts l from n i → level ts 1002 (level_at l) from ≡ Some (whole m ∷ [], j) → (n ≡ m) × (i ≡ j)
 one_tree mode ts l from n m i j all r h = let p : _ = some_pair (whole n ∷ []) (whole m ∷ []) i j (sym (tree_is_read mode ts l from n i all r) ∙ h) in (head_of p.0, p.1)
@@ -158,10 +154,6 @@ one_tree mode ts l from n m i j all r h = let p : _ = some_pair (whole n ∷ [])
 
 pub tree_is_shallow : (mode : Mode) (ts : List Item) (l : PyLevel) (from : ℕ) (n : Node) (to : ℕ) → IsRunTree mode ts l from n to → depth_of n ≤ 500
 tree_is_shallow mode ts l from n to r = omega (arith, r.run.piece.shallow)
-
-pub tree_is_bracketed : (mode : Mode) (ts : List Item) (l : PyLevel) (from : ℕ) (n : Node) (to : ℕ) → IsRunTree mode ts l from n to → (k : ℕ) → from ≤ k → k < to → round_at ts from k ≤ 500
-unfolding round_at
-tree_is_bracketed mode ts l from n to r k a b = r.run.piece.few_brackets k a b
 
 -- a fault that comes although there is a tree is want of memory
 pub fails_still : {X Y : Type 0} (view : X → Y) (e : ReadFault) (o : Option Y) (y : Y) (x : X) → Gives view (Err e) o → o ≡ Some y → Gives (λ (z : X). z) (Err e) (Some x)

@@ -9,7 +9,7 @@ ghost use Rattle.py_expr.specs.Runs.{IsTree, IsRunTree, AreOf, level_at};
 
 use crate::item::{Item, items};
 use crate::level::{Binary, PyLevel};
-use crate::limits::{LIMIT, few_brackets, is_shallow};
+use crate::limits::{LIMIT, is_shallow, shallow_end};
 use crate::read;
 use node_tree::{List, Mode, Node, ReadFault};
 use py_lex::PyToken;
@@ -63,11 +63,9 @@ fn read_items(
     ensures found { IfOk result (λ x. (mode : mode_of) → IsRunTree mode items.now level from x.0 x.1) }
     ensures only { (mode : mode_of) (n : node) (to : ℕ) → AreOf mode items.now → IsRunTree mode items.now level from n to → Gives (λ x. x) result (Some (n, to)) }
 {
-    let (node, end) = at_level(alloc, items, level, from)?;
+    let shallow = &items[..shallow_end(items, from)];
+    let (node, end) = at_level(alloc, shallow, level, from)?;
     if !is_shallow(&node, LIMIT) {
-        return Err(ReadFault::NoTree);
-    }
-    if !few_brackets(items, from, end) {
         return Err(ReadFault::NoTree);
     }
     Ok((node, end))
