@@ -171,8 +171,11 @@ decreases-pairs l = 128 * l.room + 80
 abbrev pub decreases-operand : goal.decreases-operand
 decreases-operand l = 128 * l.room + of_operand l.level
 
+abbrev pub decreases-chained : goal.decreases-chained
+decreases-chained l = 128 * l.room + (of_operand l.level + 1)
+
 abbrev pub decreases-binary : goal.decreases-binary
-decreases-binary l = 128 * l.room + (of_operand l.level + 1)
+decreases-binary l = 128 * l.room + (of_operand l.level + 2)
 
 abbrev pub decreases-one_item : goal.decreases-one_item
 decreases-one_item l = 128 * l.room + of_item l.place
@@ -183,8 +186,8 @@ decreases-further l = 128 * l.room + (of_item l.place + 1)
 abbrev pub decreases-after : goal.decreases-after
 decreases-after l = 128 * l.room + (of_item l.place + 2)
 
-abbrev pub invariant-binary-loop-turn : goal.invariant-binary-loop-turn
-invariant-binary-loop-turn l = record {
+abbrev pub invariant-chained-loop-turn : goal.invariant-chained-loop-turn
+invariant-chained-loop-turn l = record {
   within : l.end ≤ length l.items;
   turns : l.turn ≤ suc (length l.items);
   rest : level l.fn.items l.fn.room (level_of l.fn.level) l.fn.at ≡ (binary_rest l.fn.items l.fn.room l.fn.level (suc (length l.fn.items) - l.turn) l.end >>= λ y. Some (whole (chain_from (token_at l.fn.items l.fn.at).span.from l.far l.node y.0) ∷ [], y.1));
