@@ -154,6 +154,16 @@ fn kind_of(word: Word) -> Kind
     }
 }
 
+/// The same where a name is no expression.
+fn ident_kind(word: Word) -> Kind
+    ensures { result ≡ build.ident_kind word }
+{
+    match word {
+        Word::Name => Kind::Id,
+        other => kind_of(other),
+    }
+}
+
 /// The text of the node that a token makes.
 fn shown(alloc: Global, word: Word, text: &str) -> Result<Text, Memory>
     ensures { IfOk result (λ t. t ≡ build.shown word text.now) }
@@ -194,10 +204,7 @@ pub fn ident(alloc: Global, items: &[Item<'_>], at: usize) -> Result<Node, Memor
     ensures { IfOk result (λ n. n ≡ build.leaf_of (build.ident_kind (token_at items.now at).word) (token_at items.now at)) }
 {
     let item = &items[at];
-    match item.word {
-        Word::Name => leaf_of(alloc, Kind::Id, item),
-        word => leaf_of(alloc, kind_of(word), item),
-    }
+    leaf_of(alloc, ident_kind(item.word), item)
 }
 
 /// The text of the token there.

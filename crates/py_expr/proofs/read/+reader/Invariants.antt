@@ -9,224 +9,227 @@ use Rattle.py_expr.proofs.Steps.{binary_rest, prim_rest, cmp_rest, dotted_rest, 
 use Rattle.py_expr.proofs.Measures.{of_operand, of_item}
 use Rattle.py_expr.proofs.read.+reader.Given as goal
 
-abbrev pub decreases-named : goal.decreases-named
-decreases-named l = 128 * l.room + 76
+abbrev pub decreases-operators::named : goal.decreases-operators::named
+decreases-operators::named l = 128 * l.room + 76
 
-abbrev pub decreases-assigned : goal.decreases-assigned
-decreases-assigned l = 128 * l.room + 73
+abbrev pub decreases-operators::assigned : goal.decreases-operators::assigned
+decreases-operators::assigned l = 128 * l.room + 73
 
-abbrev pub decreases-test : goal.decreases-test
-decreases-test l = 128 * l.room + 72
+abbrev pub decreases-operators::test : goal.decreases-operators::test
+decreases-operators::test l = 128 * l.room + 72
 
-abbrev pub decreases-lambda : goal.decreases-lambda
-decreases-lambda l = 128 * l.room + 4
+abbrev pub decreases-operators::lambda : goal.decreases-operators::lambda
+decreases-operators::lambda l = 128 * l.room + 4
 
-abbrev pub decreases-some_params : goal.decreases-some_params
-decreases-some_params l = 128 * l.room + 3
+abbrev pub decreases-operators::some_params : goal.decreases-operators::some_params
+decreases-operators::some_params l = 128 * l.room + 3
 
-abbrev pub decreases-not : goal.decreases-not
-decreases-not l = 128 * l.room + 60
+abbrev pub decreases-operators::not : goal.decreases-operators::not
+decreases-operators::not l = 128 * l.room + 60
 
-abbrev pub decreases-cmp : goal.decreases-cmp
-decreases-cmp l = 128 * l.room + 56
+abbrev pub decreases-operators::cmp : goal.decreases-operators::cmp
+decreases-operators::cmp l = 128 * l.room + 56
 
-abbrev pub decreases-unary : goal.decreases-unary
-decreases-unary l = 128 * l.room + 28
+abbrev pub decreases-operators::unary : goal.decreases-operators::unary
+decreases-operators::unary l = 128 * l.room + 28
 
-abbrev pub decreases-power : goal.decreases-power
-decreases-power l = 128 * l.room + 24
+abbrev pub decreases-operators::power : goal.decreases-operators::power
+decreases-operators::power l = 128 * l.room + 24
 
-abbrev pub decreases-awaited : goal.decreases-awaited
-decreases-awaited l = 128 * l.room + 20
+abbrev pub decreases-operators::awaited : goal.decreases-operators::awaited
+decreases-operators::awaited l = 128 * l.room + 20
 
-abbrev pub decreases-prim : goal.decreases-prim
-decreases-prim l = 128 * l.room + 16
+abbrev pub decreases-primaries::prim : goal.decreases-primaries::prim
+decreases-primaries::prim l = 128 * l.room + 16
 
-abbrev pub decreases-suffix : goal.decreases-suffix
-decreases-suffix l = 128 * l.room + 8
+abbrev pub decreases-primaries::suffix : goal.decreases-primaries::suffix
+decreases-primaries::suffix l = 128 * l.room + 8
 
-abbrev pub decreases-call : goal.decreases-call
-decreases-call l = 128 * l.room + 4
+abbrev pub decreases-primaries::call : goal.decreases-primaries::call
+decreases-primaries::call l = 128 * l.room + 4
 
-abbrev pub decreases-sub : goal.decreases-sub
-decreases-sub l = 128 * l.room + 4
+abbrev pub decreases-primaries::sub : goal.decreases-primaries::sub
+decreases-primaries::sub l = 128 * l.room + 4
 
-abbrev pub decreases-atom : goal.decreases-atom
-decreases-atom l = 128 * l.room + 12
+abbrev pub decreases-primaries::atom : goal.decreases-primaries::atom
+decreases-primaries::atom l = 128 * l.room + 12
 
-abbrev pub decreases-paren : goal.decreases-paren
-decreases-paren l = 128 * l.room + 4
+abbrev pub decreases-primaries::paren : goal.decreases-primaries::paren
+decreases-primaries::paren l = 128 * l.room + 4
 
-abbrev pub decreases-inner : goal.decreases-inner
-decreases-inner l = 128 * l.room + 100
+abbrev pub decreases-primaries::inner : goal.decreases-primaries::inner
+decreases-primaries::inner l = 128 * l.room + 100
 
-abbrev pub decreases-first_items : goal.decreases-first_items
-decreases-first_items l = 128 * l.room + 92
+abbrev pub decreases-primaries::first_items : goal.decreases-primaries::first_items
+decreases-primaries::first_items l = 128 * l.room + 92
 
-abbrev pub decreases-list_lit : goal.decreases-list_lit
-decreases-list_lit l = 128 * l.room + 4
+abbrev pub decreases-primaries::list_lit : goal.decreases-primaries::list_lit
+decreases-primaries::list_lit l = 128 * l.room + 4
 
-abbrev pub decreases-deep : goal.decreases-deep
-decreases-deep l = 128 * l.room + 4
+abbrev pub decreases-primaries::deep : goal.decreases-primaries::deep
+decreases-primaries::deep l = 128 * l.room + 4
 
-abbrev pub decreases-braces : goal.decreases-braces
-decreases-braces l = 128 * l.room + 4
+abbrev pub decreases-displays::braces : goal.decreases-displays::braces
+decreases-displays::braces l = 128 * l.room + 4
 
-abbrev pub decreases-dotted : goal.decreases-dotted
-decreases-dotted l = 128 * l.room + 96
+abbrev pub decreases-displays::dotted : goal.decreases-displays::dotted
+decreases-displays::dotted l = 128 * l.room + 96
 
-abbrev pub decreases-decided : goal.decreases-decided
-decreases-decided l = 128 * l.room + 95
+abbrev pub decreases-displays::decided : goal.decreases-displays::decided
+decreases-displays::decided l = 128 * l.room + 95
 
-abbrev pub decreases-pair : goal.decreases-pair
-decreases-pair l = 128 * l.room + 76
+abbrev pub decreases-displays::pair : goal.decreases-displays::pair
+decreases-displays::pair l = 128 * l.room + 76
 
-abbrev pub decreases-pair_or_dots : goal.decreases-pair_or_dots
-decreases-pair_or_dots l = 128 * l.room + 77
+abbrev pub decreases-displays::pair_or_dots : goal.decreases-displays::pair_or_dots
+decreases-displays::pair_or_dots l = 128 * l.room + 77
 
-abbrev pub decreases-comprehension : goal.decreases-comprehension
-decreases-comprehension l = 128 * l.room + 80
+abbrev pub decreases-displays::comprehension : goal.decreases-displays::comprehension
+decreases-displays::comprehension l = 128 * l.room + 80
 
-abbrev pub decreases-clause : goal.decreases-clause
-decreases-clause l = 128 * l.room + 76
+abbrev pub decreases-displays::clause : goal.decreases-displays::clause
+decreases-displays::clause l = 128 * l.room + 76
 
-abbrev pub decreases-for_clause : goal.decreases-for_clause
-decreases-for_clause l = 128 * l.room + 72
+abbrev pub decreases-displays::for_clause : goal.decreases-displays::for_clause
+decreases-displays::for_clause l = 128 * l.room + 72
 
-abbrev pub decreases-for_part : goal.decreases-for_part
-decreases-for_part l = 128 * l.room + 71
+abbrev pub decreases-displays::for_part : goal.decreases-displays::for_part
+decreases-displays::for_part l = 128 * l.room + 71
 
-abbrev pub decreases-exprs : goal.decreases-exprs
-decreases-exprs l = 128 * l.room + 92
+abbrev pub decreases-lists::exprs : goal.decreases-lists::exprs
+decreases-lists::exprs l = 128 * l.room + 92
 
-abbrev pub decreases-targs : goal.decreases-targs
-decreases-targs l = 128 * l.room + 68
+abbrev pub decreases-lists::targs : goal.decreases-lists::targs
+decreases-lists::targs l = 128 * l.room + 68
 
-abbrev pub decreases-index : goal.decreases-index
-decreases-index l = 128 * l.room + 96
+abbrev pub decreases-lists::index : goal.decreases-lists::index
+decreases-lists::index l = 128 * l.room + 96
 
-abbrev pub decreases-star : goal.decreases-star
-decreases-star l = 128 * l.room + 80
+abbrev pub decreases-lists::star : goal.decreases-lists::star
+decreases-lists::star l = 128 * l.room + 80
 
-abbrev pub decreases-starred : goal.decreases-starred
-decreases-starred l = 128 * l.room + 53
+abbrev pub decreases-lists::starred : goal.decreases-lists::starred
+decreases-lists::starred l = 128 * l.room + 53
 
-abbrev pub decreases-double_starred : goal.decreases-double_starred
-decreases-double_starred l = 128 * l.room + 53
+abbrev pub decreases-lists::double_starred : goal.decreases-lists::double_starred
+decreases-lists::double_starred l = 128 * l.room + 53
 
-abbrev pub decreases-target : goal.decreases-target
-decreases-target l = 128 * l.room + 56
+abbrev pub decreases-lists::target : goal.decreases-lists::target
+decreases-lists::target l = 128 * l.room + 56
 
-abbrev pub decreases-piece : goal.decreases-piece
-decreases-piece l = 128 * l.room + 84
+abbrev pub decreases-lists::piece : goal.decreases-lists::piece
+decreases-lists::piece l = 128 * l.room + 84
 
-abbrev pub decreases-slice_end : goal.decreases-slice_end
-decreases-slice_end l = 128 * l.room + 80
+abbrev pub decreases-lists::slice_end : goal.decreases-lists::slice_end
+decreases-lists::slice_end l = 128 * l.room + 80
 
-abbrev pub decreases-bound : goal.decreases-bound
-decreases-bound l = 128 * l.room + 76
+abbrev pub decreases-lists::bound : goal.decreases-lists::bound
+decreases-lists::bound l = 128 * l.room + 76
 
-abbrev pub decreases-yields : goal.decreases-yields
-decreases-yields l = 128 * l.room + 96
+abbrev pub decreases-lists::yields : goal.decreases-lists::yields
+decreases-lists::yields l = 128 * l.room + 96
 
-abbrev pub decreases-args : goal.decreases-args
-decreases-args l = 128 * l.room + 100
+abbrev pub decreases-arguments::args : goal.decreases-arguments::args
+decreases-arguments::args l = 128 * l.room + 100
 
-abbrev pub decreases-first_arg : goal.decreases-first_arg
-decreases-first_arg l = 128 * l.room + 96
+abbrev pub decreases-arguments::first_arg : goal.decreases-arguments::first_arg
+decreases-arguments::first_arg l = 128 * l.room + 96
 
-abbrev pub decreases-arg : goal.decreases-arg
-decreases-arg l = 128 * l.room + 84
+abbrev pub decreases-arguments::arg : goal.decreases-arguments::arg
+decreases-arguments::arg l = 128 * l.room + 84
 
-abbrev pub decreases-plain_arg : goal.decreases-plain_arg
-decreases-plain_arg l = 128 * l.room + 80
+abbrev pub decreases-arguments::plain_arg : goal.decreases-arguments::plain_arg
+decreases-arguments::plain_arg l = 128 * l.room + 80
 
-abbrev pub decreases-marked_arg : goal.decreases-marked_arg
-decreases-marked_arg l = 128 * l.room + 73
+abbrev pub decreases-arguments::marked_arg : goal.decreases-arguments::marked_arg
+decreases-arguments::marked_arg l = 128 * l.room + 73
 
-abbrev pub decreases-lambda_params : goal.decreases-lambda_params
-decreases-lambda_params l = 128 * l.room + 92
+abbrev pub decreases-arguments::lambda_params : goal.decreases-arguments::lambda_params
+decreases-arguments::lambda_params l = 128 * l.room + 92
 
-abbrev pub decreases-param : goal.decreases-param
-decreases-param l = 128 * l.room + 80
+abbrev pub decreases-arguments::param : goal.decreases-arguments::param
+decreases-arguments::param l = 128 * l.room + 80
 
-abbrev pub decreases-given : goal.decreases-given
-decreases-given l = 128 * l.room + 76
+abbrev pub decreases-arguments::given : goal.decreases-arguments::given
+decreases-arguments::given l = 128 * l.room + 76
 
-abbrev pub decreases-annotation : goal.decreases-annotation
-decreases-annotation l = 128 * l.room + 74
+abbrev pub decreases-arguments::annotation : goal.decreases-arguments::annotation
+decreases-arguments::annotation l = 128 * l.room + 74
 
-abbrev pub decreases-marked : goal.decreases-marked
-decreases-marked l = 128 * l.room + 73
+abbrev pub decreases-arguments::marked : goal.decreases-arguments::marked
+decreases-arguments::marked l = 128 * l.room + 73
 
-abbrev pub decreases-entry : goal.decreases-entry
-decreases-entry l = 128 * l.room + 92
+abbrev pub decreases-displays::entry : goal.decreases-displays::entry
+decreases-displays::entry l = 128 * l.room + 92
 
-abbrev pub decreases-after_pair : goal.decreases-after_pair
-decreases-after_pair l = 128 * l.room + 84
+abbrev pub decreases-displays::after_pair : goal.decreases-displays::after_pair
+decreases-displays::after_pair l = 128 * l.room + 84
 
-abbrev pub decreases-pairs : goal.decreases-pairs
-decreases-pairs l = 128 * l.room + 80
+abbrev pub decreases-displays::pairs : goal.decreases-displays::pairs
+decreases-displays::pairs l = 128 * l.room + 80
 
-abbrev pub decreases-operand : goal.decreases-operand
-decreases-operand l = 128 * l.room + of_operand l.level
+abbrev pub decreases-operators::operand : goal.decreases-operators::operand
+decreases-operators::operand l = 128 * l.room + of_operand l.level
 
-abbrev pub decreases-binary : goal.decreases-binary
-decreases-binary l = 128 * l.room + (of_operand l.level + 1)
+abbrev pub decreases-operators::chained : goal.decreases-operators::chained
+decreases-operators::chained l = 128 * l.room + (of_operand l.level + 1)
 
-abbrev pub decreases-one_item : goal.decreases-one_item
-decreases-one_item l = 128 * l.room + of_item l.place
+abbrev pub decreases-operators::binary : goal.decreases-operators::binary
+decreases-operators::binary l = 128 * l.room + (of_operand l.level + 2)
 
-abbrev pub decreases-further : goal.decreases-further
-decreases-further l = 128 * l.room + (of_item l.place + 1)
+abbrev pub decreases-lists::one_item : goal.decreases-lists::one_item
+decreases-lists::one_item l = 128 * l.room + of_item l.place
 
-abbrev pub decreases-after : goal.decreases-after
-decreases-after l = 128 * l.room + (of_item l.place + 2)
+abbrev pub decreases-lists::further : goal.decreases-lists::further
+decreases-lists::further l = 128 * l.room + (of_item l.place + 1)
 
-abbrev pub invariant-binary-loop-turn : goal.invariant-binary-loop-turn
-invariant-binary-loop-turn l = record {
+abbrev pub decreases-lists::after : goal.decreases-lists::after
+decreases-lists::after l = 128 * l.room + (of_item l.place + 2)
+
+abbrev pub invariant-operators::chained-loop-turn : goal.invariant-operators::chained-loop-turn
+invariant-operators::chained-loop-turn l = record {
   within : l.end ≤ length l.items;
   turns : l.turn ≤ suc (length l.items);
   rest : level l.fn.items l.fn.room (level_of l.fn.level) l.fn.at ≡ (binary_rest l.fn.items l.fn.room l.fn.level (suc (length l.fn.items) - l.turn) l.end >>= λ y. Some (whole (chain_from (token_at l.fn.items l.fn.at).span.from l.far l.node y.0) ∷ [], y.1));
 }
 
-abbrev pub invariant-prim-loop-turn : goal.invariant-prim-loop-turn
-invariant-prim-loop-turn l = record {
+abbrev pub invariant-primaries::prim-loop-turn : goal.invariant-primaries::prim-loop-turn
+invariant-primaries::prim-loop-turn l = record {
   within : l.end ≤ length l.items;
   turns : l.turn ≤ suc (length l.items);
   rest : level l.fn.items l.fn.room Prim l.fn.at ≡ (prim_rest l.fn.items l.fn.room (suc (length l.fn.items) - l.turn) l.end >>= λ y. Some (whole (chain_from (token_at l.fn.items l.fn.at).span.from l.far l.node y.0) ∷ [], y.1));
 }
 
-abbrev pub invariant-cmp-loop-turn : goal.invariant-cmp-loop-turn
-invariant-cmp-loop-turn l = record {
+abbrev pub invariant-operators::cmp-loop-turn : goal.invariant-operators::cmp-loop-turn
+invariant-operators::cmp-loop-turn l = record {
   within : l.end ≤ length l.items;
   turns : l.turn ≤ suc (length l.items);
   rest : level l.fn.items l.fn.room Cmp l.fn.at ≡ (cmp_rest l.fn.items l.fn.room (suc (length l.fn.items) - l.turn) l.end >>= λ y. Some (whole (node k.Compare (operators l.text y.0) (token_at l.fn.items l.fn.at).span.from (end_of l.fn.items y.1) (l.kids ++ nodes_of y.0)) ∷ [], y.1));
 }
 
-abbrev pub invariant-further-loop-turn : goal.invariant-further-loop-turn
-invariant-further-loop-turn l = record {
+abbrev pub invariant-lists::further-loop-turn : goal.invariant-lists::further-loop-turn
+invariant-lists::further-loop-turn l = record {
   within : l.end ≤ length l.items;
   turns : l.turn ≤ suc (length l.items);
   rest : level l.fn.items l.fn.room (further_of l.fn.place) l.fn.at ≡ (further_rest l.fn.items l.fn.room l.fn.place (suc (length l.fn.items) - l.turn) l.end >>= λ y. Some (wholes l.kids ++ y.0, y.1));
 }
 
-abbrev pub invariant-pairs-loop-turn : goal.invariant-pairs-loop-turn
-invariant-pairs-loop-turn l = record {
+abbrev pub invariant-displays::pairs-loop-turn : goal.invariant-displays::pairs-loop-turn
+invariant-displays::pairs-loop-turn l = record {
   within : l.end ≤ length l.items;
   turns : l.turn ≤ suc (length l.items);
   rest : level l.fn.items l.fn.room (pairs_of l.fn.dots) l.fn.at ≡ (pairs_rest l.fn.items l.fn.room (suc (length l.fn.items) - l.turn) l.end >>= λ y. Some (wholes l.kids ++ y.0, y.1));
 }
 
-abbrev pub invariant-dotted-loop-turn : goal.invariant-dotted-loop-turn
-invariant-dotted-loop-turn l = record {
+abbrev pub invariant-displays::dotted-loop-turn : goal.invariant-displays::dotted-loop-turn
+invariant-displays::dotted-loop-turn l = record {
   within : l.end ≤ length l.items;
   turns : l.turn ≤ suc (length l.items);
   rest : level l.fn.items l.fn.room Dotted l.fn.at ≡ (dotted_rest l.fn.items l.fn.room (suc (length l.fn.items) - l.turn) l.end >>= λ y. Some (undecided l.kids y.0 ∷ [], y.1));
 }
 
-abbrev pub invariant-comprehension-loop-turn : goal.invariant-comprehension-loop-turn
-invariant-comprehension-loop-turn l = record {
+abbrev pub invariant-displays::comprehension-loop-turn : goal.invariant-displays::comprehension-loop-turn
+invariant-displays::comprehension-loop-turn l = record {
   within : l.end ≤ length l.items;
   turns : l.turn ≤ suc (length l.items);
   rest : level l.fn.items l.fn.room Comprehension l.fn.at ≡ (comprehension_rest l.fn.items l.fn.room (suc (length l.fn.items) - l.turn) l.end >>= λ y. Some (clauses (l.kids ++ nodes_of y.0) ∷ [], y.1));
