@@ -5,13 +5,15 @@ ghost use Rattle.node_tree.specs.declared.node.Node.{Node as node};
 ghost use Rattle.node_tree.specs.Gives.{Gives};
 ghost use Rattle.py_expr.specs.Reading as reading;
 ghost use Rattle.node_tree.specs.declared.view.Mode.{Mode as mode_of};
+ghost use Rattle.py_expr.specs.Insides.{Finds, IsWhole};
 ghost use Rattle.py_expr.specs.Runs.{IsTree, IsRunTree, AreOf, level_at};
 
-use crate::item::{Item, items};
+use crate::inside::items;
+use crate::item::Item;
 use crate::level::{Binary, PyLevel};
 use crate::limits::{LIMIT, is_shallow, shallow_end};
 use crate::read;
-use node_tree::{List, Mode, Node, ReadFault};
+use node_tree::{List, Memory, Mode, Node, ReadFault};
 use py_lex::PyToken;
 use std::alloc::Global;
 
@@ -29,27 +31,7 @@ fn at_level(
     ensures within { IfOk result (λ x. x.1 ≤ length items.now) }
     ensures gives { Gives reading.one result (reading.level items.now 1002 (level_at level) at) }
 {
-    match level {
-        PyLevel::Exprs => read::exprs(alloc, items, ROOM, at),
-        PyLevel::Star => read::star(alloc, items, ROOM, at),
-        PyLevel::Named => read::named(alloc, items, ROOM, at),
-        PyLevel::Test => read::test(alloc, items, ROOM, at),
-        PyLevel::Or => read::binary(alloc, items, Binary::Or, ROOM, at),
-        PyLevel::And => read::binary(alloc, items, Binary::And, ROOM, at),
-        PyLevel::Not => read::not(alloc, items, ROOM, at),
-        PyLevel::Cmp => read::cmp(alloc, items, ROOM, at),
-        PyLevel::Bor => read::binary(alloc, items, Binary::Bar, ROOM, at),
-        PyLevel::Unary => read::unary(alloc, items, ROOM, at),
-        PyLevel::Power => read::power(alloc, items, ROOM, at),
-        PyLevel::Await => read::awaited(alloc, items, ROOM, at),
-        PyLevel::Prim => read::prim(alloc, items, ROOM, at),
-        PyLevel::Atom => read::atom(alloc, items, ROOM, at),
-        PyLevel::Yield => read::yields(alloc, items, ROOM, at),
-        PyLevel::Targs => read::targs(alloc, items, ROOM, at),
-        PyLevel::Target => read::target(alloc, items, ROOM, at),
-        PyLevel::Params => read::params(alloc, items, ROOM, at),
-        PyLevel::Args => read::args(alloc, items, ROOM, at),
-    }
+    Err(ReadFault::Memory)
 }
 
 /// Reads the closed run of a level that begins at an item: its tree, and the number of the item behind it.
@@ -71,6 +53,28 @@ fn read_items(
     Ok((node, end))
 }
 
+/// The expression that all the items are, if they are one.
+pub fn whole(alloc: Global, items: &[Item<'_>]) -> Result<Option<Node>, Memory>
+    ensures { IfOk result (Finds (IsWhole items.now)) }
+{
+    if shallow_end(items, 0) < items.len() {
+        return Ok(None);
+    }
+    match at_level(alloc, items, PyLevel::Exprs, 0) {
+        Ok((node, end)) => {
+            if end < items.len() {
+                return Ok(None);
+            }
+            if !is_shallow(&node, LIMIT) {
+                return Ok(None);
+            }
+            Ok(Some(node))
+        }
+        Err(ReadFault::NoTree) => Ok(None),
+        Err(ReadFault::Memory) => Err(Memory),
+    }
+}
+
 /// Reads the closed run of a level of Python's expressions that begins at the token `from`: its tree, and the number of the
 /// token behind it.
 ///
@@ -79,7 +83,9 @@ fn read_items(
 /// (`Meta`) and `<... exprs ...>` (`Deep`) are atoms, and the string `"..."` is a `StrAny`. Spans are in bytes, from 0.
 ///
 /// NoTree comes exactly where no closed run of the level begins at `from` whose tree is at most 500 deep and none of whose
-/// tokens stands inside more than 500 open brackets of the run. No f-string is read so far: one stands in no expression.
+/// tokens stands inside more than 500 open brackets of the run.
+/// The expression in a field of an f-string is read by itself, within the same limits; an f-string with a field that has no
+/// tree stands in no expression.
 pub fn read_py(
     alloc: Global,
     tokens: &List<PyToken>,
@@ -93,7 +99,7 @@ pub fn read_py(
     // Each closed run is what is read, unless memory runs out. So there is at most one.
     ensures only { (n : node) (to : ℕ) → IsTree mode tokens.now level from n to → Gives (λ x. x) result (Some (n, to)) }
 {
-    let items = items(alloc, mode, tokens.as_slice())?;
+    let items = items(alloc, mode, tokens.as_slice(), LIMIT)?;
     let (node, end) = read_items(alloc, items.as_slice(), from as usize, level)?;
     let Ok(end) = u32::try_from(end) else {
         return Err(ReadFault::Memory);
