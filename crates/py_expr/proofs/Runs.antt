@@ -208,13 +208,22 @@ items_length I mode (t ∷ ts) is (i, more, is_item, are, e) = ap length e ∙ a
 pub from_within : (I : Insides) (mode : Mode) (ts : List PyToken) (is : List Item) (from : ℕ) → AreItems I mode ts is → from < length ts → from ≤ length is
 from_within I mode ts is from are h = omega (arith, h, items_length I mode ts is are)
 
+-- What is made of tokens: these items, and no others.
+pub record AreMade (mode : Mode) (ts : List PyToken) (is : List Item) : Type 0 where
+  pub are : AreItems (HasNodes 500 mode) mode ts is
+  pub only : (js : List Item) → AreItems (HasNodes 500 mode) mode ts js → js ≡ is
+
+-- the same, as other variables have them
+pub are_made : (mode : Mode) (ts us : List PyToken) (is js : List Item) → us ≡ ts → js ≡ is → AreItems (HasNodes 500 mode) mode us is → ((ks : List Item) → AreItems (HasNodes 500 mode) mode us ks → ks ≡ is) → AreMade mode ts js
+are_made mode ts us is js e h are only = let m : AreMade mode us is = record { are = are; only = only } in rw h (rw e at m)
+
 -- the tree of the items is that of the tokens
-pub tree_of_tokens : (mode : Mode) (ts : List PyToken) (is : List Item) (l : PyLevel) (from : ℕ) (n : Node) (i j : ℕ) → AreItems (HasNodes 500 mode) mode ts is → i ≡ j → IsRunTree mode is l from n i → IsTree mode ts l from n j
-tree_of_tokens mode ts is l from n i j are h r = record { items = is; are = are; reads = rw (← h) r }
+pub tree_of_tokens : (mode : Mode) (ts : List PyToken) (is : List Item) (l : PyLevel) (from : ℕ) (n : Node) (i j : ℕ) → AreMade mode ts is → i ≡ j → IsRunTree mode is l from n i → IsTree mode ts l from n j
+tree_of_tokens mode ts is l from n i j are h r = record { items = is; are = are.are; reads = rw (← h) r }
 
 -- the items of the tree are those that were made
-pub tree_of_items : (mode : Mode) (ts : List PyToken) (is : List Item) (l : PyLevel) (from : ℕ) (n : Node) (to : ℕ) → ((js : List Item) → AreItems (HasNodes 500 mode) mode ts js → js ≡ is) → IsTree mode ts l from n to → IsRunTree mode is l from n to
-tree_of_items mode ts is l from n to only r = rw (← only r.items r.are) r.reads
+pub tree_of_items : (mode : Mode) (ts : List PyToken) (is : List Item) (l : PyLevel) (from : ℕ) (n : Node) (to : ℕ) → AreMade mode ts is → IsTree mode ts l from n to → IsRunTree mode is l from n to
+tree_of_items mode ts is l from n to are r = rw (← are.only r.items r.are) r.reads
 
 pub answer_there : (n m : Node) (i j k : ℕ) → j ≡ k → ◌≡◌ {A = Option (Node × ℕ)} (Some (n, i)) (Some (m, j)) → ◌≡◌ {A = Option (Node × ℕ)} (Some (n, i)) (Some (m, k))
 answer_there n m i j k h e = rw h at e

@@ -31,7 +31,27 @@ fn at_level(
     ensures within { IfOk result (λ x. x.1 ≤ length items.now) }
     ensures gives { Gives reading.one result (reading.level items.now 1002 (level_at level) at) }
 {
-    Err(ReadFault::Memory)
+    match level {
+        PyLevel::Exprs => read::exprs(alloc, items, ROOM, at),
+        PyLevel::Star => read::star(alloc, items, ROOM, at),
+        PyLevel::Named => read::named(alloc, items, ROOM, at),
+        PyLevel::Test => read::test(alloc, items, ROOM, at),
+        PyLevel::Or => read::binary(alloc, items, Binary::Or, ROOM, at),
+        PyLevel::And => read::binary(alloc, items, Binary::And, ROOM, at),
+        PyLevel::Not => read::not(alloc, items, ROOM, at),
+        PyLevel::Cmp => read::cmp(alloc, items, ROOM, at),
+        PyLevel::Bor => read::binary(alloc, items, Binary::Bar, ROOM, at),
+        PyLevel::Unary => read::unary(alloc, items, ROOM, at),
+        PyLevel::Power => read::power(alloc, items, ROOM, at),
+        PyLevel::Await => read::awaited(alloc, items, ROOM, at),
+        PyLevel::Prim => read::prim(alloc, items, ROOM, at),
+        PyLevel::Atom => read::atom(alloc, items, ROOM, at),
+        PyLevel::Yield => read::yields(alloc, items, ROOM, at),
+        PyLevel::Targs => read::targs(alloc, items, ROOM, at),
+        PyLevel::Target => read::target(alloc, items, ROOM, at),
+        PyLevel::Params => read::params(alloc, items, ROOM, at),
+        PyLevel::Args => read::args(alloc, items, ROOM, at),
+    }
 }
 
 /// Reads the closed run of a level that begins at an item: its tree, and the number of the item behind it.
