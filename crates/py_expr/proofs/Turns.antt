@@ -10,11 +10,11 @@ use Rattle.py_expr.specs.declared.level.Binary.{Binary}
 use Rattle.py_expr.specs.declared.level.Binary.TheVariants as binaries
 use Rattle.py_expr.specs.Words.{class}
 use Rattle.py_expr.specs.Parts.{Part, whole, lacking, sign, nodes_of, node}
-use Rattle.py_expr.specs.Table.{Test, Or, And, Not, Bor, Xor, Band, Shift, Sum, Term, Unary, Suffix, Cop}
-use Rattle.py_expr.specs.Build.{token_at, end_of, chain_from, farther, attached, operators, spaced}
+use Rattle.py_expr.specs.Table.{Test, Or, And, Not, Power, Await, Bor, Xor, Band, Shift, Sum, Term, Unary, Suffix, Cop}
+use Rattle.py_expr.specs.Build.{token_at, end_of, chain_from, farther, attached, spine, too_deep, operators, spaced}
 use Rattle.py_expr.specs.Sets.{sets}
 use Rattle.py_expr.specs.Reading.{level, level_of, operand_of, operators_of}
-use Rattle.py_expr.proofs.Steps.{test_step, binary_step, binary_rest, binary_turn, prim_rest, prim_turn, cmp_rest, cmp_turn, push_more}
+use Rattle.py_expr.proofs.Steps.{test_step, power_step, binary_step, binary_rest, binary_turn, prim_rest, prim_turn, cmp_rest, cmp_turn, push_more}
 
 pub one_before : (o : Option (List Part × ℕ)) (p : Part) (f : List Part → ℕ → List Part) → ◌>>=◌ {B = List Part × ℕ} (◌>>=◌ {B = List Part × ℕ} o (λ v. Some (p ∷ v.0, v.1))) (λ y. Some (f y.0 y.1, y.1)) ≡ ◌>>=◌ {B = List Part × ℕ} o (λ y. Some (f (p ∷ y.0) y.1, y.1))
 one_before None p f = refl
@@ -70,6 +70,11 @@ xor_none ts room i h e = none_above ts room binaries.Caret i h e
 
 pub ruleset none_laws = (and_none, term_none, sum_none, shift_none, band_none, xor_none)
 
-pub test_read : (ts : List Item) (room i j m e : ℕ) (first condition last : Node) → zero < room → eqb (class w.Lambda) (class (token_at ts i).word) ≡ false → level ts room Or i ≡ Some (whole first ∷ [], j) → eqb (class w.If) (class (token_at ts j).word) ≡ true → level ts room Or (j + 1) ≡ Some (whole condition ∷ [], m) → eqb (class w.Else) (class (token_at ts m).word) ≡ true → level ts (room - 1) Test (m + 1) ≡ Some (whole last ∷ [], e)
-    → level ts room Test i ≡ Some (whole (node k.Cond [] (token_at ts i).span.from (end_of ts e) (condition ∷ first ∷ last ∷ [])) ∷ [], e)
-test_read ts room i j m e first condition last h lambda read mark second other third = test_step ts room i h ∙ rw lambda (rw read (rw mark (rw (rw add-one at second) (rw other (rw (rw add-one at third) refl)))))
+-- what stands behind an operand, with the node that is made of both
+pub test_read : (ts : List Item) (room i j m e : ℕ) (first condition last found : Node) → zero < room → eqb (class w.Lambda) (class (token_at ts i).word) ≡ false → level ts room Or i ≡ Some (whole first ∷ [], j) → eqb (class w.If) (class (token_at ts j).word) ≡ true → level ts room Or (j + 1) ≡ Some (whole condition ∷ [], m) → eqb (class w.Else) (class (token_at ts m).word) ≡ true → level ts (room - 1) Test (m + 1) ≡ Some (whole last ∷ [], e)
+    → found ≡ node k.Cond [] (token_at ts i).span.from (end_of ts e) (condition ∷ first ∷ last ∷ []) → level ts room Test i ≡ Some (whole found ∷ [], e)
+test_read ts room i j m e first condition last found h lambda read mark second other third made = rw made (test_step ts room i h ∙ rw lambda (rw read (rw mark (rw (rw add-one at second) (rw other (rw (rw add-one at third) refl))))))
+
+pub power_read : (ts : List Item) (room i j e far : ℕ) (first right found : Node) → zero < room → level ts room Await i ≡ Some (whole first ∷ [], j) → eqb (class w.Power) (class (token_at ts j).word) ≡ true → level ts (room - 1) Unary (j + 1) ≡ Some (whole right ∷ [], e) → far ≡ spine too_deep first → found ≡ attached (token_at ts i).span.from far first (lacking k.Binary (token_at ts j).text (end_of ts e) (right ∷ []))
+    → level ts room Power i ≡ Some (whole found ∷ [], e)
+power_read ts room i j e far first right found h read mark second reach made = rw (made, reach) (power_step ts room i h ∙ rw read (rw mark (rw (rw add-one at second) refl)))
