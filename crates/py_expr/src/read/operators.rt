@@ -156,7 +156,7 @@ fn some_params(
 
 /// `next {op next}`, from the left, for the operators of a level.
 #[cycle(reader)]
-#[tactic(auto, using(crate::proofs::Steps::level_none))]
+#[tactic(auto, using(crate::proofs::Steps::binary_step, crate::proofs::Steps::level_none))]
 pub fn binary(
     alloc: Global,
     items: &[Item<'_>],
@@ -178,7 +178,7 @@ pub fn binary(
 
 /// An operand of the operators of a level: the tightest of all, and then the chains of the tighter levels in turn.
 #[cycle(reader)]
-#[tactic(auto, using(crate::proofs::Steps::level_none))]
+#[tactic(auto, using(crate::proofs::Turns::none_laws, crate::proofs::Steps::level_none))]
 fn operand(
     alloc: Global,
     items: &[Item<'_>],
@@ -422,12 +422,15 @@ pub fn power(
     }
     let text = text_at(alloc, items, end)?;
     let (right, end) = unary(alloc, items, room - 1, end + 1)?;
-    let kids = two(alloc, first, right)?;
     let from = start_at(items, at);
-    Ok((
-        node_of(Kind::Binary, text, from, end_before(items, end), kids),
-        end,
-    ))
+    let far = spine(&first, TOO_DEEP);
+    let tail = Tail {
+        kind: Kind::Binary,
+        text,
+        to: end_before(items, end),
+        kid: Some(right),
+    };
+    Ok((attached(alloc, from, far, first, tail)?, end))
 }
 
 /// `["await"] prim`
