@@ -3,6 +3,7 @@ pub mod Passes
 pub mod Closes
 pub mod Tokens
 pub mod Steps
+pub mod Rounds
 pub mod Orders
 pub mod Cuts
 pub mod Measures
