@@ -4,6 +4,7 @@ pub mod Closes
 pub mod Tokens
 pub mod Steps
 pub mod Turns
+pub mod Rounds
 pub mod Orders
 pub mod Cuts
 pub mod Measures

@@ -20,7 +20,7 @@ use Rattle.py_expr.specs.Table as rows
 use Rattle.py_expr.specs.Table.{Level, Exprs, Star, Named, Test, LambdaTest, Or, OrTail, And, AndTail, Not, Cmp, CmpTail, Cop, Bor, BorTail, Xor, XorTail, Band, BandTail, Shift, ShiftTail, Sum, SumTail, Term, TermTail, Unary, Power, Await, Prim, PrimTail, Suffix, Attr, Call, Sub, Atom, Strings, MoreStrings, StringsTail, Paren, Inner, Items, ListLit, Braces, FirstEntry, FirstValue, LaterEntry, LaterValue, Dotted, DottedTail, DotsLeaf, Pairs, DottedPairs, PairsTail, Pair, AfterPair, AfterFirstPair, Deep, Comprehension, ClausesTail, Clause, ForClause, Yield, Targs, Target, Index, Piece, SliceEnd, Bound, Args, FirstArg, Arg, PlainArg, Params, Param, Given, LambdaParams, LambdaParam, LambdaGiven, AfterStar, Stars, StarsTail, AfterItem, AfterTarget, Targets, TargetsTail, AfterPiece, Pieces, PiecesTail, AfterArg, AfterFirstArg, MoreArgs, MoreArgsTail, AfterParam, MoreParams, MoreParamsTail, AfterLambdaParam, MoreLambdaParams, MoreLambdaParamsTail, Row, table, grammar, commas, names, dots, stars, strings, Own, Ident}
 use Rattle.py_expr.specs.Build.{token_at, end_of, source, build, chain, compared, entry, displayed, undecided, parameter, slice, sliced, leaf}
 use Rattle.py_expr.specs.Sets.{sets, ranks}
-use Rattle.py_expr.specs.Reading.{level, row, level_of, operand_of, operators_of, item_of, after_of, further_of, takes_clauses, set_place, entry_of, after_pair_of, pairs_of, pair_of, param_of, given_of, starred, double_starred, marked, annotation, marked_arg}
+use Rattle.py_expr.specs.Reading.{level, row, level_of, operand_of, operators_of, item_of, after_of, further_of, takes_clauses, set_place, entry_of, after_pair_of, pairs_of, pair_of, param_of, given_of, starred, double_starred, marked, annotation, marked_arg, marked_param}
 use Rattle.py_expr.proofs.Passes.{pass}
 
 -- ---- lists of parts
@@ -501,8 +501,27 @@ pub given_step : (ts : List Item) (room : ℕ) (b : Bool) (i : ℕ) → zero < r
 given_step ts room true i h = level_row ts room Given i h
 given_step ts room false i h = level_row ts room LambdaGiven i h
 
-pub param_step : (ts : List Item) (room : ℕ) (b : Bool) (i : ℕ) → zero < room → level ts room (param_of b) i ≡ cond {A = Option (List Part × ℕ)} (has dots (class (token_at ts i).word)) (cond {A = Option (List Part × ℕ)} (has dots (class (token_at ts i).word)) (Some (leaf Own (token_at ts i) ∷ [], suc i)) None) (cond {A = Option (List Part × ℕ)} (has names (class (token_at ts i).word)) (◌>>=◌ {B = List Part × ℕ} (level ts room (given_of b) i) (λ z. Some (parameter [] (token_at ts i).span.from (end_of ts z.1) z.0, z.1)))
+-- a mark before what V reads, or before what it may read
+marked_part : (c : Bool) (d : ℕ → Bool) (V : ℕ → Option (List Part × ℕ)) (mk : ℕ → List Part → List Part) (Z : Option (List Part × ℕ)) (i : ℕ) → cond {A = Option (List Part × ℕ)} (c || false) (◌>>=◌ {B = List Part × ℕ} (◌>>=◌ {B = List Part × ℕ} (cond {A = Option (List Part × ℕ)} (c || false) (Some ([], suc i)) None) (λ x. ◌>>=◌ {B = List Part × ℕ} (cond {A = Option (List Part × ℕ)} (d x.1) (V x.1) (Some ([], x.1))) (λ y. Some (x.0 ++ y.0, y.1)))) (λ z. Some (mk z.1 z.0, z.1))) Z ≡ cond {A = Option (List Part × ℕ)} c (cond {A = Option (List Part × ℕ)} (d (suc i)) (◌>>=◌ {B = List Part × ℕ} (V (suc i)) (λ z. Some (mk z.1 z.0, z.1))) (Some (mk (suc i) [], suc i))) Z
+marked_part false d V mk Z i = refl
+marked_part true d V mk Z i = by_name (d (suc i))
+  where
+    by_name : (e : Bool) → ◌>>=◌ {B = List Part × ℕ} (◌>>=◌ {B = List Part × ℕ} (cond {A = Option (List Part × ℕ)} e (V (suc i)) (Some ([], suc i))) (λ y. Some ([] ++ y.0, y.1))) (λ z. Some (mk z.1 z.0, z.1)) ≡ cond {A = Option (List Part × ℕ)} e (◌>>=◌ {B = List Part × ℕ} (V (suc i)) (λ z. Some (mk z.1 z.0, z.1))) (Some (mk (suc i) [], suc i))
+    by_name false = refl
+    by_name true = ap (λ (o : Option (List Part × ℕ)). ◌>>=◌ {B = List Part × ℕ} o (λ z. Some (mk z.1 z.0, z.1))) (front (V (suc i)))
+
+alone_part : (c : Bool) (mk : ℕ → List Part → List Part) (i : ℕ) → ◌>>=◌ {B = List Part × ℕ} (cond {A = Option (List Part × ℕ)} (c || false) (Some ([], suc i)) None) (λ z. Some (mk z.1 z.0, z.1)) ≡ cond {A = Option (List Part × ℕ)} c (Some (mk (suc i) [], suc i)) None
+alone_part false mk i = refl
+alone_part true mk i = refl
+
+param_row : (ts : List Item) (room : ℕ) (b : Bool) (i : ℕ) → zero < room → level ts room (param_of b) i ≡ cond {A = Option (List Part × ℕ)} (has dots (class (token_at ts i).word)) (cond {A = Option (List Part × ℕ)} (has dots (class (token_at ts i).word)) (Some (leaf Own (token_at ts i) ∷ [], suc i)) None) (cond {A = Option (List Part × ℕ)} (has names (class (token_at ts i).word)) (◌>>=◌ {B = List Part × ℕ} (level ts room (given_of b) i) (λ z. Some (parameter [] (token_at ts i).span.from (end_of ts z.1) z.0, z.1)))
     (cond {A = Option (List Part × ℕ)} ((eqb (class w.Times) (class (token_at ts i).word)) || false) (◌>>=◌ {B = List Part × ℕ} (◌>>=◌ {B = List Part × ℕ} (cond {A = Option (List Part × ℕ)} ((eqb (class w.Times) (class (token_at ts i).word)) || false) (Some ([], suc i)) None) (λ x. ◌>>=◌ {B = List Part × ℕ} (cond {A = Option (List Part × ℕ)} (has names (class (token_at ts x.1).word)) (level ts room (given_of b) x.1) (Some ([], x.1))) (λ y. Some (x.0 ++ y.0, y.1)))) (λ z. Some (parameter (token_at ts i).text (token_at ts i).span.from (end_of ts z.1) z.0, z.1)))
     (cond {A = Option (List Part × ℕ)} ((eqb (class w.Power) (class (token_at ts i).word)) || false) (◌>>=◌ {B = List Part × ℕ} (◌>>=◌ {B = List Part × ℕ} (cond {A = Option (List Part × ℕ)} ((eqb (class w.Power) (class (token_at ts i).word)) || false) (Some ([], suc i)) None) (λ x. ◌>>=◌ {B = List Part × ℕ} (level ts room (given_of b) x.1) (λ y. Some (x.0 ++ y.0, y.1)))) (λ z. Some (parameter (token_at ts i).text (token_at ts i).span.from (end_of ts z.1) z.0, z.1))) (◌>>=◌ {B = List Part × ℕ} (cond {A = Option (List Part × ℕ)} ((eqb (class w.Slash) (class (token_at ts i).word)) || false) (Some ([], suc i)) None) (λ z. Some (parameter (token_at ts i).text (token_at ts i).span.from (end_of ts z.1) z.0, z.1))))))
-param_step ts room true i h = level_row ts room Param i h
-param_step ts room false i h = level_row ts room LambdaParam i h
+param_row ts room true i h = level_row ts room Param i h
+param_row ts room false i h = level_row ts room LambdaParam i h
+
+pub param_step : (ts : List Item) (room : ℕ) (b : Bool) (i : ℕ) → zero < room → level ts room (param_of b) i ≡ cond {A = Option (List Part × ℕ)} (has dots (class (token_at ts i).word)) (cond {A = Option (List Part × ℕ)} (has dots (class (token_at ts i).word)) (Some (leaf Own (token_at ts i) ∷ [], suc i)) None) (cond {A = Option (List Part × ℕ)} (has names (class (token_at ts i).word)) (◌>>=◌ {B = List Part × ℕ} (level ts room (given_of b) i) (λ z. Some (parameter [] (token_at ts i).span.from (end_of ts z.1) z.0, z.1)))
+    (cond {A = Option (List Part × ℕ)} (eqb (class w.Times) (class (token_at ts i).word)) (cond {A = Option (List Part × ℕ)} (has names (class (token_at ts (suc i)).word)) (marked_param ts room b i) (Some (parameter (token_at ts i).text (token_at ts i).span.from (end_of ts (suc i)) [], suc i))) (cond {A = Option (List Part × ℕ)} (eqb (class w.Power) (class (token_at ts i).word)) (marked_param ts room b i) (cond {A = Option (List Part × ℕ)} (eqb (class w.Slash) (class (token_at ts i).word)) (Some (parameter (token_at ts i).text (token_at ts i).span.from (end_of ts (suc i)) [], suc i)) None))))
+param_step ts room b i h = param_row ts room b i h ∙ ap (λ (o : Option (List Part × ℕ)). cond {A = Option (List Part × ℕ)} (has dots (class (token_at ts i).word)) (cond {A = Option (List Part × ℕ)} (has dots (class (token_at ts i).word)) (Some (leaf Own (token_at ts i) ∷ [], suc i)) None) (cond {A = Option (List Part × ℕ)} (has names (class (token_at ts i).word)) (◌>>=◌ {B = List Part × ℕ} (level ts room (given_of b) i) (λ z. Some (parameter [] (token_at ts i).span.from (end_of ts z.1) z.0, z.1))) o)) (marked_part (eqb (class w.Times) (class (token_at ts i).word)) (λ j. has names (class (token_at ts j).word)) (level ts room (given_of b)) (λ j ps. parameter (token_at ts i).text (token_at ts i).span.from (end_of ts j) ps) (cond {A = Option (List Part × ℕ)} ((eqb (class w.Power) (class (token_at ts i).word)) || false) (◌>>=◌ {B = List Part × ℕ} (◌>>=◌ {B = List Part × ℕ} (cond {A = Option (List Part × ℕ)} ((eqb (class w.Power) (class (token_at ts i).word)) || false) (Some ([], suc i)) None) (λ x. ◌>>=◌ {B = List Part × ℕ} (level ts room (given_of b) x.1) (λ y. Some (x.0 ++ y.0, y.1)))) (λ z. Some (parameter (token_at ts i).text (token_at ts i).span.from (end_of ts z.1) z.0, z.1))) (◌>>=◌ {B = List Part × ℕ} (cond {A = Option (List Part × ℕ)} ((eqb (class w.Slash) (class (token_at ts i).word)) || false) (Some ([], suc i)) None) (λ z. Some (parameter (token_at ts i).text (token_at ts i).span.from (end_of ts z.1) z.0, z.1)))) i
+    ∙ ap (λ (o : Option (List Part × ℕ)). cond {A = Option (List Part × ℕ)} (eqb (class w.Times) (class (token_at ts i).word)) (cond {A = Option (List Part × ℕ)} (has names (class (token_at ts (suc i)).word)) (marked_param ts room b i) (Some (parameter (token_at ts i).text (token_at ts i).span.from (end_of ts (suc i)) [], suc i))) o) (marked_part (eqb (class w.Power) (class (token_at ts i).word)) (λ j. true) (level ts room (given_of b)) (λ j ps. parameter (token_at ts i).text (token_at ts i).span.from (end_of ts j) ps) (◌>>=◌ {B = List Part × ℕ} (cond {A = Option (List Part × ℕ)} ((eqb (class w.Slash) (class (token_at ts i).word)) || false) (Some ([], suc i)) None) (λ z. Some (parameter (token_at ts i).text (token_at ts i).span.from (end_of ts z.1) z.0, z.1))) i
+    ∙ ap (λ (o : Option (List Part × ℕ)). cond {A = Option (List Part × ℕ)} (eqb (class w.Power) (class (token_at ts i).word)) (marked_param ts room b i) o) (alone_part (eqb (class w.Slash) (class (token_at ts i).word)) (λ j ps. parameter (token_at ts i).text (token_at ts i).span.from (end_of ts j) ps) i)))

@@ -19,7 +19,7 @@ use Rattle.py_expr.specs.Parts.{Part, whole, lacking, call, more, clauses, displ
 use Rattle.py_expr.specs.Table.{Level, Or, And, Not, Bor, Xor, Band, Shift, Sum, Term, Unary, Star, Target, Piece, Arg, Param, LambdaParam, AfterStar, AfterItem, AfterTarget, AfterPiece, AfterArg, AfterFirstArg, AfterParam, AfterLambdaParam, Stars, Targets, Pieces, MoreArgs, MoreParams, MoreLambdaParams, FirstEntry, LaterEntry, AfterPair, AfterFirstPair, Pairs, DottedPairs, Pair, DotsLeaf, Test, Given, LambdaGiven, LambdaParams, Further, Row, Ident, tok, table, grammar, factors}
 use Rattle.py_expr.specs.declared.word.Word.{Word}
 use Rattle.py_expr.specs.Table as rows
-use Rattle.py_expr.specs.Build.{token_at, end_of, empty_list, undecided, leaf, source}
+use Rattle.py_expr.specs.Build.{token_at, end_of, empty_list, undecided, parameter, leaf, source}
 use Rattle.py_expr.specs.Sets.{sets, ranks}
 
 -- the reader of a level, by the table
@@ -239,3 +239,7 @@ annotation ts room false i = Some (more [] ∷ [], i)
 -- a test behind a mark
 abbrev pub marked_arg : List Item → ℕ → Kind → ℕ → Option (List Part × ℕ)
 marked_arg ts room kind i = ◌>>=◌ {B = List Part × ℕ} (level ts room Test (i + 1)) (λ x. Some (whole (node kind [] (token_at ts i).span.from (end_of ts x.1) (nodes_of x.0)) ∷ [], x.1))
+
+-- a parameter behind a mark
+abbrev pub marked_param : List Item → ℕ → Bool → ℕ → Option (List Part × ℕ)
+marked_param ts room b i = ◌>>=◌ {B = List Part × ℕ} (level ts room (given_of b) (suc i)) (λ z. Some (parameter (token_at ts i).text (token_at ts i).span.from (end_of ts z.1) z.0, z.1))

@@ -15,7 +15,7 @@ use crate::build::{
 };
 use crate::item::Item;
 use crate::level::Place;
-use crate::look::{end_before, is, is_dots, is_name, start_at, starts_starred};
+use crate::look::{end_before, is, is_dots, is_name, start_at};
 use crate::read::lists::after;
 use crate::read::operators::{assigned, named, test};
 use crate::word::Word;
@@ -234,16 +234,34 @@ pub fn param(
         ));
     }
     if is(items, at, Word::Times) {
-        if !is_name(items, at + 1) {
-            return Ok((bare(alloc, items, at)?, at + 1));
+        if is_name(items, at + 1) {
+            return marked_param(alloc, items, typed, room, at);
         }
-    }
-    if is(items, at, Word::Slash) {
         return Ok((bare(alloc, items, at)?, at + 1));
     }
-    if !starts_starred(items, at) {
+    if is(items, at, Word::Power) {
+        return marked_param(alloc, items, typed, room, at);
+    }
+    if !is(items, at, Word::Slash) {
         return Err(ReadFault::NoTree);
     }
+    Ok((bare(alloc, items, at)?, at + 1))
+}
+
+/// A name behind one or two stars.
+#[cycle(reader)]
+fn marked_param(
+    alloc: Global,
+    items: &[Item<'_>],
+    typed: bool,
+    room: u32,
+    at: usize,
+) -> Result<(Node, usize), ReadFault>
+    requires { at < length items.now }
+    ensures within { IfOk result (λ x. x.1 ≤ length items.now) }
+    ensures gives { Gives reading.one result (reading.marked_param items.now room typed at) }
+{
+    let from = start_at(items, at);
     let mark = text_at(alloc, items, at)?;
     let (name, annotation, value, end) = given(alloc, items, typed, room, at + 1)?;
     let to = end_before(items, end);

@@ -1,9 +1,13 @@
 //! Dictionaries, sets and comprehensions.
 
-ghost use Rattle.std.specs.Prelude.{◌≡◌, ◌≢◌, ◌+◌, ◌<◌, ◌≤◌, [], ◌∷◌, length, IfOk};
+ghost use Rattle.std.specs.Prelude.{◌≡◌, ◌≢◌, ◌+◌, ◌<◌, ◌≤◌, ◌&&◌, true, [], ◌∷◌, length, IfOk, eqb};
+ghost use Rattle.grammar.specs.Rule.{has};
 ghost use Rattle.node_tree.specs.Gives.{Gives};
 ghost use Rattle.py_expr.specs.Reading as reading;
-ghost use Rattle.py_expr.specs.Table.{Braces, FirstEntry, Dotted, Pairs, Pair, Comprehension, Clause, ForClause};
+ghost use Rattle.py_expr.specs.declared.word.Word.TheVariants.{Walrus};
+ghost use Rattle.py_expr.specs.Words.{class};
+ghost use Rattle.py_expr.specs.Build.{token_at};
+ghost use Rattle.py_expr.specs.Table.{Braces, FirstEntry, Dotted, Pairs, Pair, Comprehension, Clause, ForClause, names};
 
 use crate::build::{After, Entries, append, displayed, leaf, node_of, one, over, text_at, two};
 use crate::item::Item;
@@ -36,24 +40,24 @@ pub fn braces(
     }
 
     let from = start_at(items, at);
-    if is(items, at, Word::BraceDots) {
-        let (found, close) = dotted(alloc, items, room - 1, at + 1)?;
+    if is(items, at, Word::LeftBrace) {
+        if !starts_entry(items, at + 1) {
+            if !is(items, at + 1, Word::RightBrace) {
+                return Err(ReadFault::NoTree);
+            }
+            let to = end_before(items, at + 2);
+            return Ok((
+                over(alloc, Kind::DictLit, from, to, List::new(alloc)),
+                at + 2,
+            ));
+        }
+        let (found, close) = entry(alloc, items, true, room - 1, at + 1)?;
         return closed(items, from, found, close);
     }
-    if !is(items, at, Word::LeftBrace) {
+    if !is(items, at, Word::BraceDots) {
         return Err(ReadFault::NoTree);
     }
-    if !starts_entry(items, at + 1) {
-        if !is(items, at + 1, Word::RightBrace) {
-            return Err(ReadFault::NoTree);
-        }
-        let to = end_before(items, at + 2);
-        return Ok((
-            over(alloc, Kind::DictLit, from, to, List::new(alloc)),
-            at + 2,
-        ));
-    }
-    let (found, close) = entry(alloc, items, true, room - 1, at + 1)?;
+    let (found, close) = dotted(alloc, items, room - 1, at + 1)?;
     closed(items, from, found, close)
 }
 
@@ -76,6 +80,19 @@ fn closed(
         node_of(found.kind, found.text, from, to, found.kids),
         close + 1,
     ))
+}
+
+/// Whether a name with `:=` behind it stands there.
+fn is_assigned(items: &[Item<'_>], at: usize) -> bool
+    requires { at ≤ length items.now }
+    ensures test { result ≡ (has names (class (token_at items.now at).word) && eqb (class Walrus) (class (token_at items.now (at + 1)).word)) }
+    ensures within { result ≡ true → at < length items.now }
+{
+    if is_name(items, at) {
+        is(items, at + 1, Word::Walrus)
+    } else {
+        false
+    }
 }
 
 /// The entries of a dictionary or a set, or one and the clauses of a comprehension, which only a first one takes.
@@ -106,12 +123,10 @@ fn entry(
         let (after, end) = after(alloc, items, Place::Star, room, end)?;
         return Ok((displayed(alloc, Kind::SetLit, "set", node, after)?, end));
     }
-    if is_name(items, at) {
-        if is(items, at + 1, Word::Walrus) {
-            let (node, end) = assigned(alloc, items, Kind::Walrus, room, at)?;
-            let (after, end) = after(alloc, items, set_place(first), room, end)?;
-            return Ok((displayed(alloc, Kind::SetLit, "set", node, after)?, end));
-        }
+    if is_assigned(items, at) {
+        let (node, end) = assigned(alloc, items, Kind::Walrus, room, at)?;
+        let (after, end) = after(alloc, items, set_place(first), room, end)?;
+        return Ok((displayed(alloc, Kind::SetLit, "set", node, after)?, end));
     }
     let (node, end) = test(alloc, items, room, at)?;
     if !is(items, end, Word::Colon) {

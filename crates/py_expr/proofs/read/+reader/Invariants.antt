@@ -150,6 +150,9 @@ decreases-arguments::lambda_params l = 128 * l.room + 92
 abbrev pub decreases-arguments::param : goal.decreases-arguments::param
 decreases-arguments::param l = 128 * l.room + 80
 
+abbrev pub decreases-arguments::marked_param : goal.decreases-arguments::marked_param
+decreases-arguments::marked_param l = 128 * l.room + 78
+
 abbrev pub decreases-arguments::given : goal.decreases-arguments::given
 decreases-arguments::given l = 128 * l.room + 76
 
