@@ -1,5 +1,5 @@
 -- What a builder makes of parts whose spans lie in a text has its spans in the text.
-use Rattle.std.proofs.Common.{◌≡◌, ℕ, suc, ◌≤◌, List, [], ◌∷◌, ◌++◌, refl, sym, subst, arith, Bool, cond}
+use Rattle.std.proofs.Common.{ℕ, ◌≤◌, List, [], ◌∷◌, ◌++◌, sym, subst, arith, Bool, cond}
 use Rattle.std.specs.Prelude.{All, true, false, ltb, codes}
 use Rattle.std.specs.Str.{IsCharBoundary}
 use Rattle.std.proofs.lemmas.List.Elements.{All-nil, All-cons, All-head, All-tail}
@@ -31,16 +31,17 @@ some_right P (x ∷ xs) ys h = some_right P xs ys (All-tail P x (xs ++ ys) h)
 abbrev Within : List ℕ → Node → Type 0
 Within text n = LiesIn text (span_of n)
 
-split : (text : List ℕ) (n : Node) (ns : List Node) → AllLieIn text (n ∷ ns) → All (Within text) (pre_of n ++ pre_all ns)
-split text n ns h = subst (λ (ms : List Node). All (Within text) ms) (flat_map-cons pre_of n ns) h
+divided : (text : List ℕ) (n : Node) (ns : List Node) → AllLieIn text (n ∷ ns) → All (Within text) (pre_of n ++ pre_all ns)
+divided text n ns h = subst (λ (ms : List Node). All (Within text) ms) (flat_map-cons pre_of n ns) h
 
-pub first_lies : (text : List ℕ) (n : Node) (ns : List Node) → AllLieIn text (n ∷ ns) → SpansLieIn text n
-first_lies text n ns h = some_left (Within text) (pre_of n) (pre_all ns) (split text n ns h)
+-- some nodes lie where each does
+first_lies : (text : List ℕ) (n : Node) (ns : List Node) → AllLieIn text (n ∷ ns) → SpansLieIn text n
+first_lies text n ns h = some_left (Within text) (pre_of n) (pre_all ns) (divided text n ns h)
 
-pub rest_lie : (text : List ℕ) (n : Node) (ns : List Node) → AllLieIn text (n ∷ ns) → AllLieIn text ns
-rest_lie text n ns h = some_right (Within text) (pre_of n) (pre_all ns) (split text n ns h)
+rest_lie : (text : List ℕ) (n : Node) (ns : List Node) → AllLieIn text (n ∷ ns) → AllLieIn text ns
+rest_lie text n ns h = some_right (Within text) (pre_of n) (pre_all ns) (divided text n ns h)
 
-pub both_lie : (text : List ℕ) (xs ys : List Node) → AllLieIn text xs → AllLieIn text ys → AllLieIn text (xs ++ ys)
+both_lie : (text : List ℕ) (xs ys : List Node) → AllLieIn text xs → AllLieIn text ys → AllLieIn text (xs ++ ys)
 both_lie text [] ys h g = g
 both_lie text (x ∷ xs) ys h g = more_lie text x (xs ++ ys) (first_lies text x xs h) (both_lie text xs ys (rest_lie text x xs h) g)
 
@@ -74,6 +75,7 @@ PartLies text A (display kind written ns) = AllLieIn text ns
 PartLies text A (sign s) = Unit {0}
 PartLies text A (bounds hs ss) = AllLieIn text hs × AllLieIn text ss
 
+-- some parts
 abbrev pub Lie : List ℕ → (ℕ → Type 0) → List Part → Type 0
 Lie text A [] = Unit {0}
 Lie text A (p ∷ ps) = PartLies text A p × Lie text A ps
@@ -162,6 +164,8 @@ module _ (text : List ℕ) (A : ℕ → Type 0) (from to : ℕ) (lies : LiesIn t
   chain_from_lies : (far : ℕ) (ps : List Part) (n : Node) → SpansLieIn text n → Lie text A ps → SpansLieIn text (chain_from from far n ps)
   chain_from_lies far [] n h g = h
   chain_from_lies far (p ∷ ps) n h g = chain_from_lies (farther far) ps (attached from far n p) (attached_lies far n p h g.0) g.1
+
+  -- ---- what each builder makes
 
   chain_lies : (ps : List Part) → Lie text A ps → Lie text A (chain from ps)
   chain_lies [] h = h

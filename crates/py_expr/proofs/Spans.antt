@@ -1,5 +1,5 @@
 -- The spans of an expression's tree lie in each text in which its tokens lie.
-use Rattle.std.proofs.Common.{◌≡◌, ℕ, zero, suc, ◌-◌, ◌<◌, ◌≤◌, List, [], ◌∷◌, ◌++◌, length, get_or, refl, sym, subst, ap, arith, Bool, true, false, cond, inl, inr}
+use Rattle.std.proofs.Common.{◌≡◌, ℕ, zero, suc, ◌-◌, ◌<◌, ◌≤◌, List, [], ◌∷◌, length, get_or, refl, arith, Bool, true, false, cond, inl, inr}
 use Rattle.std.specs.Prelude.{None}
 use Rattle.std.specs.Str.{IsCharBoundary}
 use Rattle.node_tree.specs.declared.node.Node.{Node}
@@ -25,19 +25,19 @@ use Rattle.py_expr.specs.declared.item.Item.{Item}
 use Rattle.py_expr.specs.declared.level.PyLevel.{PyLevel}
 use Rattle.py_expr.specs.Items.{Insides, IsItemBy, AreItems}
 use Rattle.py_expr.specs.Insides.{IsValue, HasNodes, AreParts, is_equal, without_equal, field_node, format_list}
-use Rattle.py_expr.specs.Parts.{Part, whole, node, nodes_of}
-use Rattle.py_expr.specs.Table.{Leaf, Own, Ident, Operator, Builder, Over, Signed, Lacking, SignedLacking, Chain, Joint, Further, Clauses, Grouped, Listed, ListOf, Braced, Entry, PairEntry, Undecided, Lambda, Conditional, Compared, Joined, Called, Sign, Yielded, Bounds, Slice, Sliced, Parameter, SignedParameter, table, grammar}
+use Rattle.py_expr.specs.Parts.{Part, whole, node}
+use Rattle.py_expr.specs.Table.{Leaf, Own, Ident, Operator, Builder, Further, table, grammar}
 use Rattle.py_expr.specs.Table as levels
-use Rattle.py_expr.specs.Build.{token_at, end_of, kind_of, ident_kind, shown, leaf, leaf_of, source, empty_list}
+use Rattle.py_expr.specs.Build.{token_at, end_of, kind_of, ident_kind, shown, leaf, leaf_of, source}
 use Rattle.py_expr.specs.Sets.{sets, ranks}
 use Rattle.py_expr.specs.Runs.{IsTree, level_at}
 use Rattle.py_expr.proofs.Passes.{pass}
-use Rattle.py_expr.proofs.SpanBuilders.{both_lie, over_lies, span_lies, at_place, Lie, joined_lie, less_lie, nodes_lie, made_lies}
+use Rattle.py_expr.proofs.SpanBuilders.{over_lies, span_lies, at_place, Lie, joined_lie, less_lie, nodes_lie, made_lies}
 
 -- ---- items
 
 -- items lie in the text, one behind the other, and so do the nodes inside them
-abbrev pub ItemsLie : List ℕ → ℕ → List Item → ℕ → Type 0
+abbrev ItemsLie : List ℕ → ℕ → List Item → ℕ → Type 0
 ItemsLie text from [] to = from ≤ to
 ItemsLie text from (t ∷ ts) to = (from ≤ t.span.from) × LiesIn text t.span × AllLieIn text t.inside × ItemsLie text t.span.to ts to
 
