@@ -4,6 +4,7 @@ pub mod Closes
 pub mod Tokens
 pub mod Steps
 pub mod Rounds
+pub mod Turns
 pub mod Orders
 pub mod Cuts
 pub mod Measures

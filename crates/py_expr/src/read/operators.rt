@@ -1,6 +1,6 @@
 //! Operators, from the loosest to the tightest.
 
-ghost use Rattle.std.specs.Prelude.{◌≡◌, ◌≢◌, ◌+◌, ◌<◌, ◌≤◌, [], ◌∷◌, length, IfOk};
+ghost use Rattle.std.specs.Prelude.{◌≡◌, ◌≢◌, ◌+◌, ◌<◌, ◌≤◌, [], ◌∷◌, Some, length, IfOk};
 ghost use Rattle.node_tree.specs.Gives.{Gives};
 ghost use Rattle.py_expr.specs.Reading as reading;
 ghost use Rattle.py_expr.specs.Table.{Named, Test, LambdaTest, Not, Cmp, Cop, Unary, Power, Await};
@@ -106,7 +106,7 @@ pub fn test(
 
 /// `"lambda" [params] ":" test`
 #[cycle(reader)]
-#[tactic(auto, using(crate::proofs::Steps::lambda_step, crate::proofs::Steps::level_none))]
+#[tactic(auto, using(crate::proofs::Steps::lambda_test_step, crate::proofs::Steps::level_none))]
 fn lambda(
     alloc: Global,
     items: &[Item<'_>],
@@ -156,7 +156,7 @@ fn some_params(
 
 /// `next {op next}`, from the left, for the operators of a level.
 #[cycle(reader)]
-#[tactic(auto, using(crate::proofs::Steps::binary_step, crate::proofs::Steps::binary_turn, crate::proofs::Steps::binary_turned, crate::proofs::Steps::level_none))]
+#[tactic(auto, using(crate::proofs::Steps::binary_step, crate::proofs::Steps::level_none))]
 pub fn binary(
     alloc: Global,
     items: &[Item<'_>],
@@ -172,34 +172,13 @@ pub fn binary(
         return Err(ReadFault::NoTree);
     }
 
-    let (mut node, mut end) = operand(alloc, items, level, room, at)?;
-    if !is_operator(items, end, level) {
-        return Ok((node, end));
-    }
-    let from = start_at(items, at);
-    let mut far = spine(&node, TOO_DEEP);
-    for turn in 0..=items.len() {
-        if !is_operator(items, end, level) {
-            return Ok((node, end));
-        }
-        let text = text_at(alloc, items, end)?;
-        let (right, next) = operand(alloc, items, level, room, end + 1)?;
-        let tail = Tail {
-            kind: Kind::Binary,
-            text,
-            to: end_before(items, next),
-            kid: Some(right),
-        };
-        node = attached(alloc, from, far, node, tail)?;
-        far = farther(far);
-        end = next;
-    }
-    Err(ReadFault::NoTree)
+    let (first, end) = operand(alloc, items, level, room, at)?;
+    chained(alloc, items, level, room, at, first, end)
 }
 
-/// An operand of the operators of a level.
+/// An operand of the operators of a level: the tightest of all, and then the chains of the tighter levels in turn.
 #[cycle(reader)]
-#[tactic(auto, using(crate::proofs::Steps::level_none))]
+#[tactic(auto, using(crate::proofs::Turns::none_laws, crate::proofs::Steps::level_none))]
 fn operand(
     alloc: Global,
     items: &[Item<'_>],
@@ -215,16 +194,78 @@ fn operand(
         return Err(ReadFault::NoTree);
     }
 
-    match level {
-        Binary::Or => binary(alloc, items, Binary::And, room, at),
-        Binary::And => not(alloc, items, room, at),
-        Binary::Bar => binary(alloc, items, Binary::Caret, room, at),
-        Binary::Caret => binary(alloc, items, Binary::Ampersand, room, at),
-        Binary::Ampersand => binary(alloc, items, Binary::Shift, room, at),
-        Binary::Shift => binary(alloc, items, Binary::Sign, room, at),
-        Binary::Sign => binary(alloc, items, Binary::Factor, room, at),
-        Binary::Factor => unary(alloc, items, room, at),
+    if let Binary::And = level {
+        return not(alloc, items, room, at);
     }
+    if let Binary::Or = level {
+        let (first, end) = not(alloc, items, room, at)?;
+        return chained(alloc, items, Binary::And, room, at, first, end);
+    }
+    let (first, end) = unary(alloc, items, room, at)?;
+    if let Binary::Factor = level {
+        return Ok((first, end));
+    }
+    let (first, end) = chained(alloc, items, Binary::Factor, room, at, first, end)?;
+    if let Binary::Sign = level {
+        return Ok((first, end));
+    }
+    let (first, end) = chained(alloc, items, Binary::Sign, room, at, first, end)?;
+    if let Binary::Shift = level {
+        return Ok((first, end));
+    }
+    let (first, end) = chained(alloc, items, Binary::Shift, room, at, first, end)?;
+    if let Binary::Ampersand = level {
+        return Ok((first, end));
+    }
+    let (first, end) = chained(alloc, items, Binary::Ampersand, room, at, first, end)?;
+    if let Binary::Caret = level {
+        return Ok((first, end));
+    }
+    chained(alloc, items, Binary::Caret, room, at, first, end)
+}
+
+/// `{op next}` behind a first operand that was read, from the left, for the operators of a level.
+#[cycle(reader)]
+#[tactic(auto, using(crate::proofs::Steps::binary_step, crate::proofs::Steps::binary_turn, crate::proofs::Steps::binary_turned))]
+fn chained(
+    alloc: Global,
+    items: &[Item<'_>],
+    level: Binary,
+    room: u32,
+    at: usize,
+    first: Node,
+    from: usize,
+) -> Result<(Node, usize), ReadFault>
+    requires here { from ≤ length items.now }
+    requires some { 0 < room }
+    requires read { reading.level items.now room (reading.operand_of level) at ≡ Some (reading.one (first, from)) }
+    ensures within { IfOk result (λ x. x.1 ≤ length items.now) }
+    ensures gives { Gives reading.one result (reading.level items.now room (reading.level_of level) at) }
+{
+    if !is_operator(items, from, level) {
+        return Ok((first, from));
+    }
+    let start = start_at(items, at);
+    let mut far = spine(&first, TOO_DEEP);
+    let mut node = first;
+    let mut end = from;
+    for turn in 0..=items.len() {
+        if !is_operator(items, end, level) {
+            return Ok((node, end));
+        }
+        let text = text_at(alloc, items, end)?;
+        let (right, next) = operand(alloc, items, level, room, end + 1)?;
+        let tail = Tail {
+            kind: Kind::Binary,
+            text,
+            to: end_before(items, next),
+            kid: Some(right),
+        };
+        node = attached(alloc, start, far, node, tail)?;
+        far = farther(far);
+        end = next;
+    }
+    Err(ReadFault::NoTree)
 }
 
 /// `"not" not | cmp`
@@ -381,12 +422,15 @@ pub fn power(
     }
     let text = text_at(alloc, items, end)?;
     let (right, end) = unary(alloc, items, room - 1, end + 1)?;
-    let kids = two(alloc, first, right)?;
     let from = start_at(items, at);
-    Ok((
-        node_of(Kind::Binary, text, from, end_before(items, end), kids),
-        end,
-    ))
+    let far = spine(&first, TOO_DEEP);
+    let tail = Tail {
+        kind: Kind::Binary,
+        text,
+        to: end_before(items, end),
+        kid: Some(right),
+    };
+    Ok((attached(alloc, from, far, first, tail)?, end))
 }
 
 /// `["await"] prim`

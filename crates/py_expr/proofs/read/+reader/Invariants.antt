@@ -174,8 +174,11 @@ decreases-displays::pairs l = 128 * l.room + 80
 abbrev pub decreases-operators::operand : goal.decreases-operators::operand
 decreases-operators::operand l = 128 * l.room + of_operand l.level
 
+abbrev pub decreases-operators::chained : goal.decreases-operators::chained
+decreases-operators::chained l = 128 * l.room + (of_operand l.level + 1)
+
 abbrev pub decreases-operators::binary : goal.decreases-operators::binary
-decreases-operators::binary l = 128 * l.room + (of_operand l.level + 1)
+decreases-operators::binary l = 128 * l.room + (of_operand l.level + 2)
 
 abbrev pub decreases-lists::one_item : goal.decreases-lists::one_item
 decreases-lists::one_item l = 128 * l.room + of_item l.place
@@ -186,8 +189,8 @@ decreases-lists::further l = 128 * l.room + (of_item l.place + 1)
 abbrev pub decreases-lists::after : goal.decreases-lists::after
 decreases-lists::after l = 128 * l.room + (of_item l.place + 2)
 
-abbrev pub invariant-operators::binary-loop-turn : goal.invariant-operators::binary-loop-turn
-invariant-operators::binary-loop-turn l = record {
+abbrev pub invariant-operators::chained-loop-turn : goal.invariant-operators::chained-loop-turn
+invariant-operators::chained-loop-turn l = record {
   within : l.end ≤ length l.items;
   turns : l.turn ≤ suc (length l.items);
   rest : level l.fn.items l.fn.room (level_of l.fn.level) l.fn.at ≡ (binary_rest l.fn.items l.fn.room l.fn.level (suc (length l.fn.items) - l.turn) l.end >>= λ y. Some (whole (chain_from (token_at l.fn.items l.fn.at).span.from l.far l.node y.0) ∷ [], y.1));
