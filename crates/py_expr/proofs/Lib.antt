@@ -3,8 +3,8 @@ pub mod Passes
 pub mod Closes
 pub mod Tokens
 pub mod Steps
-pub mod Turns
 pub mod Rounds
+pub mod Turns
 pub mod Orders
 pub mod Cuts
 pub mod Measures

@@ -105,13 +105,29 @@ or_false : (c : Bool) → (c || false) ≡ c
 or_false false = refl
 or_false true = refl
 
+-- what was read, and where it ends
+abbrev parts_in : Option (List Part × ℕ) → List Part
+parts_in None = []
+parts_in (Some y) = y.0
+
+abbrev end_in : Option (List Part × ℕ) → ℕ
+end_in None = 0
+end_in (Some y) = y.1
+
 walrus_entry : (T : Option (List Part × ℕ)) (A : ℕ → Option (List Part × ℕ)) (l : Node) (from : ℕ) (to : ℕ → ℕ) (n : Node) (e j : ℕ) (a : After) (d : Entries) → ◌>>=◌ {B = List Part × ℕ} T (λ x. Some (whole (node k.Walrus [] from (to x.1) (l ∷ nodes_of x.0)) ∷ [], x.1)) ≡ Some (whole n ∷ [], e) → A e ≡ Some (after_parts a, j) → entries_parts d ≡ displayed k.SetLit (codes "set") (whole n ∷ after_parts a)
     → ◌>>=◌ {B = List Part × ℕ} (◌>>=◌ {B = List Part × ℕ} (◌>>=◌ {B = List Part × ℕ} (◌>>=◌ {B = List Part × ℕ} T (λ z. Some (lacking k.Walrus [] (to z.1) (nodes_of z.0) ∷ [], z.1))) (λ x. ◌>>=◌ {B = List Part × ℕ} (A x.1) (λ y. Some (x.0 ++ y.0, y.1)))) (λ x. Some (joint from (whole l ∷ x.0), x.1))) (λ z. Some (build.entry from z.0, z.1)) ≡ Some (entries_parts d, j)
 walrus_entry None A l from to n e j a d value after shows = absurd cc
 walrus_entry (Some x) A l from to n e j a d value after shows =
-    let ends : x.1 ≡ e = cc in
+    let ends : x.1 ≡ e = ap end_in value in
+    let parts : whole (node k.Walrus [] from (to x.1) (l ∷ nodes_of x.0)) ∷ [] ≡ whole n ∷ [] = ap parts_in value in
     let made : node k.Walrus [] from (to x.1) (l ∷ nodes_of x.0) ≡ n = cc in
     rw (rw (sym ends) at after) (rw made (ap (λ (ps : List Part). Some (ps, j)) (entry_set from n a ∙ sym shows)))
+
+value_set : (ts : List Item) (room : ℕ) (b : Bool) (e j : ℕ) (a : After) → zero < room → eqb (class w.Colon) (class (token_at ts e).word) ≡ false → level ts room (after_of (set_place b)) e ≡ Some (after_parts a, j) → level ts room (value_of b) e ≡ Some (after_parts a, j)
+value_set ts room b e j a pos colon after = value_step ts room b e pos ∙ rw colon after
+
+value_pair : (ts : List Item) (room : ℕ) (b : Bool) (e f j : ℕ) (v : Node) (a : After) → zero < room → eqb (class w.Colon) (class (token_at ts e).word) ≡ true → level ts room Test (e + 1) ≡ Some (whole v ∷ [], f) → level ts room (after_pair_of b) f ≡ Some (after_parts a, j) → level ts room (value_of b) e ≡ Some (lacking k.Pair [] (end_of ts f) (v ∷ []) ∷ after_parts a, j)
+value_pair ts room b e f j v a pos colon value after = value_step ts room b e pos ∙ rw (colon, rw add-one at value, after) refl
 
 pub entry_assigned : (ts : List Item) (room : ℕ) (b : Bool) (i e j : ℕ) (n : Node) (a : After) (d : Entries) → zero < room → eqb (class w.Power) (class (token_at ts i).word) ≡ false → eqb (class w.Times) (class (token_at ts i).word) ≡ false → (has names (class (token_at ts i).word) && eqb (class w.Walrus) (class (token_at ts (i + 1)).word)) ≡ true → assigned ts room k.Walrus i ≡ Some (whole n ∷ [], e) → level ts room (after_of (set_place b)) e ≡ Some (after_parts a, j) → entries_parts d ≡ displayed k.SetLit (codes "set") (whole n ∷ after_parts a) → level ts room (entry_of b) i ≡ Some (entries_parts d, j)
 entry_assigned ts room b i e j n a d pos power times walrus value after shows =
@@ -120,8 +136,8 @@ entry_assigned ts room b i e j n a d pos power times walrus value after shows =
 
 pub entry_item : (ts : List Item) (room : ℕ) (b : Bool) (i e j : ℕ) (n : Node) (a : After) (d : Entries) → zero < room → eqb (class w.Power) (class (token_at ts i).word) ≡ false → eqb (class w.Times) (class (token_at ts i).word) ≡ false → (has names (class (token_at ts i).word) && eqb (class w.Walrus) (class (token_at ts (i + 1)).word)) ≡ false → level ts room Test i ≡ Some (whole n ∷ [], e) → eqb (class w.Colon) (class (token_at ts e).word) ≡ false → level ts room (after_of (set_place b)) e ≡ Some (after_parts a, j) → entries_parts d ≡ displayed k.SetLit (codes "set") (whole n ∷ after_parts a) → level ts room (entry_of b) i ≡ Some (entries_parts d, j)
 entry_item ts room b i e j n a d pos power times walrus item colon after shows =
-    entry_step ts room b i pos ∙ rw (power, times, or_false (eqb (class w.Walrus) (class (token_at ts (suc i)).word)), rw add-one at walrus, item, value_step ts room b e pos ∙ rw colon after) (ap (λ (ps : List Part). Some (ps, j)) (entry_set (token_at ts i).span.from n a ∙ sym shows))
+    entry_step ts room b i pos ∙ rw (power, times, or_false (eqb (class w.Walrus) (class (token_at ts (suc i)).word)), rw add-one at walrus, item, value_set ts room b e j a pos colon after) (ap (λ (ps : List Part). Some (ps, j)) (entry_set (token_at ts i).span.from n a ∙ sym shows))
 
 pub entry_pair : (ts : List Item) (room : ℕ) (b : Bool) (i e f j : ℕ) (n v pair : Node) (a : After) (d : Entries) → zero < room → eqb (class w.Power) (class (token_at ts i).word) ≡ false → eqb (class w.Times) (class (token_at ts i).word) ≡ false → (has names (class (token_at ts i).word) && eqb (class w.Walrus) (class (token_at ts (i + 1)).word)) ≡ false → level ts room Test i ≡ Some (whole n ∷ [], e) → eqb (class w.Colon) (class (token_at ts e).word) ≡ true → level ts room Test (e + 1) ≡ Some (whole v ∷ [], f) → pair ≡ node k.Pair [] (token_at ts i).span.from (end_of ts f) (n ∷ v ∷ []) → level ts room (after_pair_of b) f ≡ Some (after_parts a, j) → entries_parts d ≡ displayed k.DictLit (codes "dict") (whole pair ∷ after_parts a) → level ts room (entry_of b) i ≡ Some (entries_parts d, j)
 entry_pair ts room b i e f j n v pair a d pos power times walrus key colon value made after shows =
-    entry_step ts room b i pos ∙ rw (power, times, or_false (eqb (class w.Walrus) (class (token_at ts (suc i)).word)), rw add-one at walrus, key, value_step ts room b e pos ∙ rw (colon, rw add-one at value, after) refl) (ap (λ (ps : List Part). Some (ps, j)) (sym (rw made at shows)))
+    entry_step ts room b i pos ∙ rw (power, times, or_false (eqb (class w.Walrus) (class (token_at ts (suc i)).word)), rw add-one at walrus, key, value_pair ts room b e f j v a pos colon value after) (ap (λ (ps : List Part). Some (ps, j)) (sym (rw made at shows)))

@@ -86,7 +86,7 @@ fn closed(
 fn is_assigned(items: &[Item<'_>], at: usize) -> bool
     requires { at ≤ length items.now }
     ensures test { result ≡ (has names (class (token_at items.now at).word) && eqb (class Walrus) (class (token_at items.now (at + 1)).word)) }
-    ensures within { result ≡ true → at < length items.now }
+    ensures within { result ≡ true → at + 1 < length items.now }
 {
     if is_name(items, at) {
         is(items, at + 1, Word::Walrus)
