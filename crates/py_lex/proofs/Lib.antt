@@ -5,3 +5,4 @@ pub mod PartedReading
 pub mod Looking
 pub mod Between
 pub mod WordLengths
+pub mod Placing

@@ -12,6 +12,7 @@ use Rattle.py_lex.specs.Parts.{Parting}
 use Rattle.py_lex.specs.declared.layout.Line.TheVariants.{Start}
 use Rattle.py_lex.specs.declared.token.PyToken.{PyToken}
 use Rattle.py_lex.proofs.PartedReading.{IsAt, begins, turned, not_found, failed, given, only, unfinished}
+use Rattle.py_lex.proofs.Placing.{placed}
 use Rattle.py_lex.proofs.lex.tokens.Goals as goal
 
 from_first : (P : Parting) (mode : Mode) (cs rest : List ℕ) (all : List PyToken) (at : ℕ) (columns : List ℕ) → mark_len cs ≡ at → columns ≡ [] → IsAt P (py_language mode) (first_line cs) (past_mark cs) all (first_line cs) rest

@@ -1,0 +1,403 @@
+-- The tokens of a text lie in it, in order, and so do the parts of its f-strings.
+use Rattle.std.proofs.Common.{◌≡◌, ℕ, zero, suc, ◌+◌, ◌-◌, ◌≤◌, ◌==◌, Bool, true, false, List, [], ◌∷◌, ◌++◌, length, take, drop, refl, sym, ap, ◌∙◌, subst, arith, append_assoc, eqb-true, length-append, length-drop}
+use Rattle.std.specs.Prelude.{encode_utf8, encode_utf8_all, if◌then◌else◌, slice_range, nat_lt, Option, Some, None, IfSome, option_map}
+use Rattle.std.specs.Str.{chars, all_scalars, IsUtf8, IsCharBoundary}
+use Rattle.std.proofs.lemmas.Bool.{and_parts}
+use Rattle.std.proofs.lemmas.List.{append-nil, drop_at, drop-drop}
+use Rattle.std.proofs.lemmas.Str.{encodes-append, encodes-chars, scalars-chars, length-encode, IsUtf8-nil, IsUtf8-append, IsCharBoundary-from_drop}
+use Rattle.lexing.proofs.Basics.{and_both}
+use Rattle.lexing.specs.Reading.{Lexeme, Turn, Reader, Reads}
+use Rattle.lexing.specs.Mark.{past_mark, mark_len}
+use Rattle.node_tree.specs.Span.{LiesIn}
+use Rattle.node_tree.specs.declared.span.Span.{Span}
+use Rattle.py_lex.specs.declared.token.PyToken.{PyToken, out-PyToken, roll-PyToken, out-roll-PyToken}
+use Rattle.py_lex.specs.declared.token.FPart.{FPart, out-FPart, out-roll-FPart}
+use Rattle.py_lex.specs.declared.token.FPart.TheVariants.{rolls-Plain, rolls-Field}
+use Rattle.py_lex.specs.declared.token.FPart.TheVariants as parts
+use Rattle.py_lex.specs.declared.token.FPart.TheOpen as layers
+use Rattle.py_lex.specs.declared.token.FPart.TheOpen.{FPart-F, PyToken-F}
+use Rattle.py_lex.specs.declared.token.PyWord.{PyWord}
+use Rattle.py_lex.specs.declared.token.PyWord.TheVariants as words
+use Rattle.py_lex.specs.declared.class.Class.{Class}
+use Rattle.py_lex.specs.declared.class.Class.TheVariants as classes
+use Rattle.py_lex.specs.declared.layout.Line.{Line}
+use Rattle.py_lex.specs.declared.layout.Line.TheVariants as lines
+use Rattle.py_lex.specs.declared.layout.Layout.{Layout}
+use Rattle.py_lex.specs.Columns.{top}
+use Rattle.py_lex.specs.Layout.{sign, written, joined, close, open_line, begun, begin_by, begin, with_token, token_step, moved, blank_by, fresh_line, end_by, splice_by, gap_step, step_by, last_newline, ending}
+use Rattle.py_lex.specs.Layout as layout
+use Rattle.py_lex.specs.Parts.{Parting, Parted, PartedIf, is_f_string}
+use Rattle.py_lex.specs.Inside.{span, kept_gap, kept_by, has_backslash}
+use Rattle.py_lex.specs.Inside as insides
+use Rattle.py_lex.specs.declared.inside.Place.{Place}
+use Rattle.py_lex.specs.declared.inside.Place.TheVariants as places
+use Rattle.py_lex.specs.declared.inside.Field.{Field}
+use Rattle.py_lex.specs.declared.inside.Inside.{Inside}
+use Rattle.py_lex.specs.Places.{Lies, TokensLie, PartsLie, InsideLies, AreTokensIn}
+
+-- ---- characters that stand in a text
+
+scalars_left : (f r : List ℕ) → all_scalars (f ++ r) ≡ true → all_scalars f ≡ true
+scalars_left [] r h = refl
+scalars_left (c ∷ f) r h = let p = and_parts _ (all_scalars (f ++ r)) h in and_both _ (all_scalars f) p.0 (scalars_left f r p.1)
+
+scalars_right : (f r : List ℕ) → all_scalars (f ++ r) ≡ true → all_scalars r ≡ true
+scalars_right [] r h = h
+scalars_right (c ∷ f) r h = scalars_right f r (and_parts _ (all_scalars (f ++ r)) h).1
+
+-- from one place of the text to another stand these characters, and whole characters behind them
+pub record Stands (text : List ℕ) (at : ℕ) (cs : List ℕ) (to : ℕ) : Type 0 where
+  pub back : List ℕ
+  pub stands : drop at text ≡ encode_utf8_all cs ++ back
+  pub scalars : all_scalars cs ≡ true
+  pub utf8_back : IsUtf8 back
+  pub ends : at + length (encode_utf8_all cs) ≡ to
+  pub within : to ≤ length text
+
+cut : {text cs : List ℕ} {at to : ℕ} → Stands text at cs to → IsCharBoundary text at
+cut {text = text} {cs = cs} {at = at} s =
+    IsCharBoundary-from_drop text at (omega (arith, s.ends, s.within)) (subst (λ (x : List ℕ). IsUtf8 x) (sym s.stands) (IsUtf8-append (encode_utf8_all cs) s.back (cs, (s.scalars, refl)) s.utf8_back))
+
+cut_end : {text cs : List ℕ} {at to : ℕ} → Stands text at cs to → IsCharBoundary text to
+cut_end {text = text} {cs = cs} {at = at} {to = to} s =
+    IsCharBoundary-from_drop text to s.within (subst (λ (x : List ℕ). IsUtf8 x) (sym (sym (ap (λ (n : ℕ). drop n text) s.ends) ∙ sym (drop-drop (length (encode_utf8_all cs)) at text) ∙ ap (drop (length (encode_utf8_all cs))) s.stands ∙ drop_at (encode_utf8_all cs) s.back (length (encode_utf8_all cs)) refl)) s.utf8_back)
+
+front_stands : {text cs : List ℕ} {at to : ℕ} (front left : List ℕ) → Stands text at cs to → cs ≡ front ++ left → Stands text at front (at + length (encode_utf8_all front))
+front_stands {text = text} {cs = cs} {at = at} {to = to} front left s parts =
+    let e : encode_utf8_all cs ≡ encode_utf8_all front ++ encode_utf8_all left = ap encode_utf8_all parts ∙ encodes-append front left in
+    let all : all_scalars (front ++ left) ≡ true = ap all_scalars (sym parts) ∙ s.scalars in
+    record {
+      back = encode_utf8_all left ++ s.back;
+      stands = s.stands ∙ ap (λ (x : List ℕ). x ++ s.back) e ∙ append_assoc (encode_utf8_all front) (encode_utf8_all left) s.back;
+      scalars = scalars_left front left all;
+      utf8_back = IsUtf8-append (encode_utf8_all left) s.back (left, (scalars_right front left all, refl)) s.utf8_back;
+      ends = refl;
+      within = omega (arith, s.ends, s.within, ap length e, length-append (encode_utf8_all front) (encode_utf8_all left));
+    }
+
+left_stands : {text cs : List ℕ} {at to : ℕ} (front left : List ℕ) → Stands text at cs to → cs ≡ front ++ left → Stands text (at + length (encode_utf8_all front)) left to
+left_stands {text = text} {cs = cs} {at = at} {to = to} front left s parts =
+    let e : encode_utf8_all cs ≡ encode_utf8_all front ++ encode_utf8_all left = ap encode_utf8_all parts ∙ encodes-append front left in
+    let n = length (encode_utf8_all front) in
+    record {
+      back = s.back;
+      stands = sym (drop-drop n at text) ∙ ap (drop n) (s.stands ∙ ap (λ (x : List ℕ). x ++ s.back) e ∙ append_assoc (encode_utf8_all front) (encode_utf8_all left) s.back) ∙ drop_at (encode_utf8_all front) (encode_utf8_all left ++ s.back) n refl;
+      scalars = scalars_right front left (ap all_scalars (sym parts) ∙ s.scalars);
+      utf8_back = s.utf8_back;
+      ends = omega (arith, s.ends, ap length e, length-append (encode_utf8_all front) (encode_utf8_all left));
+      within = s.within;
+    }
+
+lies : {text cs : List ℕ} {at to : ℕ} → Stands text at cs to → LiesIn text (record { from = at; to = to })
+lies s = record { ordered = omega (arith, s.ends); begins = cut s; ends = cut_end s }
+
+whole : (text : List ℕ) → IsUtf8 text → Stands text 0 (chars text) (length text)
+whole text u = record {
+  back = [];
+  stands = sym (append-nil (encode_utf8_all (chars text)) ∙ encodes-chars text u);
+  scalars = scalars-chars text u;
+  utf8_back = IsUtf8-nil;
+  ends = omega (arith, ap length (encodes-chars text u));
+  within = omega arith;
+}
+
+past : (text cs : List ℕ) (to : ℕ) → Stands text 0 cs to → Stands text (mark_len cs) (past_mark cs) to
+past text [] to s = s
+past text (c ∷ cs) to s = by_mark (c == 0xfeff) refl
+  where
+    by_mark : (b : Bool) → (c == 0xfeff) ≡ b → Stands text (if b then 3 else 0) (if b then cs else c ∷ cs) to
+    by_mark true e =
+        let k : 0 + length (encode_utf8_all (c ∷ [])) ≡ 3 = ap (λ (x : ℕ). 0 + length (encode_utf8 x ++ [])) (eqb-true c 0xfeff e) ∙ ap (λ (n : ℕ). 0 + n) (length-append (encode_utf8 0xfeff) [] ∙ ap (λ (n : ℕ). n + 0) (length-encode 0xfeff)) in
+        subst (λ (n : ℕ). Stands text n cs to) k (left_stands (c ∷ []) cs s refl)
+    by_mark false e = s
+
+-- ---- lists of tokens
+
+module _ (I : Lies FPart) (text : List ℕ) where
+  tokens_le : (from : ℕ) (ts : List PyToken) (to : ℕ) → TokensLie I text from ts to → from ≤ to
+  tokens_le from [] to h = h
+  tokens_le from (t ∷ ts) to h = omega (arith, h.0, h.1.ordered, tokens_le (out-PyToken t).span.to ts to h.3)
+
+  tokens_earlier : (before from : ℕ) (ts : List PyToken) (to : ℕ) → before ≤ from → TokensLie I text from ts to → TokensLie I text before ts to
+  tokens_earlier before from [] to le h = omega (arith, le, h)
+  tokens_earlier before from (t ∷ ts) to le h = (omega (arith, le, h.0), h.1, h.2, h.3)
+
+  tokens_joined : (from : ℕ) (ts : List PyToken) (mid : ℕ) (us : List PyToken) (to : ℕ) → TokensLie I text from ts mid → TokensLie I text mid us to → TokensLie I text from (ts ++ us) to
+  tokens_joined from [] mid us to h k = tokens_earlier from mid us to h k
+  tokens_joined from (t ∷ ts) mid us to h k = (h.0, h.1, h.2, tokens_joined (out-PyToken t).span.to ts mid us to h.3 k)
+
+-- ---- lists of parts
+
+-- a part as it is open, and what is said from its end on
+abbrev Layer : Lies PyToken → Lies FPart → List ℕ → ℕ → (ℕ → Type 0) → FPart-F FPart PyToken → Type 0
+Layer T I text from next (layers.Plain written span) = (from ≤ span.from) × LiesIn text span × next span.to
+Layer T I text from next (layers.Field ts conversion format span) = (from ≤ span.from) × LiesIn text span × T span.from ts span.to × I span.from format span.to × next span.to
+
+module _ (T : Lies PyToken) (I : Lies FPart) (text : List ℕ) where
+  layer_le : (from to : ℕ) (next : ℕ → Type 0) (o : FPart-F FPart PyToken) → ((n : ℕ) → next n → n ≤ to) → Layer T I text from next o → from ≤ to
+  layer_le from to next (layers.Plain written span) f h = omega (arith, h.0, h.1.ordered, f span.to h.2)
+  layer_le from to next (layers.Field ts conversion format span) f h = omega (arith, h.0, h.1.ordered, f span.to h.4)
+
+  layer_mapped : (before from : ℕ) (next later : ℕ → Type 0) (o : FPart-F FPart PyToken) → before ≤ from → ((n : ℕ) → next n → later n) → Layer T I text from next o → Layer T I text before later o
+  layer_mapped before from next later (layers.Plain written span) le f h = (omega (arith, le, h.0), h.1, f span.to h.2)
+  layer_mapped before from next later (layers.Field ts conversion format span) le f h = (omega (arith, le, h.0), h.1, h.2, h.3, f span.to h.4)
+
+  parts_le : (from : ℕ) (ps : List FPart) (to : ℕ) → PartsLie T I text from ps to → from ≤ to
+  parts_le from [] to h = h
+  parts_le from (p ∷ ps) to h = layer_le from to (λ n. PartsLie T I text n ps to) (out-FPart p) (λ n k. parts_le n ps to k) h
+
+  parts_earlier : (before from : ℕ) (ps : List FPart) (to : ℕ) → before ≤ from → PartsLie T I text from ps to → PartsLie T I text before ps to
+  parts_earlier before from [] to le h = omega (arith, le, h)
+  parts_earlier before from (p ∷ ps) to le h = layer_mapped before from (λ n. PartsLie T I text n ps to) (λ n. PartsLie T I text n ps to) (out-FPart p) le (λ n k. k) h
+
+  parts_joined : (from : ℕ) (ps : List FPart) (mid : ℕ) (qs : List FPart) (to : ℕ) → PartsLie T I text from ps mid → PartsLie T I text mid qs to → PartsLie T I text from (ps ++ qs) to
+  parts_joined from [] mid qs to h k = parts_earlier from mid qs to h k
+  parts_joined from (p ∷ ps) mid qs to h k = layer_mapped from from (λ n. PartsLie T I text n ps mid) (λ n. PartsLie T I text n (ps ++ qs) to) (out-FPart p) (omega arith) (λ n l. parts_joined n ps mid qs to l k) h
+
+-- ---- however deep parts are looked at
+
+abbrev InTokens : List ℕ → Lies PyToken
+InTokens text from ts to = (levels : ℕ) → TokensLie (InsideLies levels text) text from ts to
+
+abbrev InParts : List ℕ → Lies FPart
+InParts text from ps to = (levels : ℕ) → InsideLies levels text from ps to
+
+module _ (text : List ℕ) where
+  no_tokens : (from to : ℕ) → from ≤ to → InTokens text from [] to
+  no_tokens from to le = λ n. le
+
+  no_parts : (from to : ℕ) → from ≤ to → InParts text from [] to
+  no_parts from to le zero = tt
+  no_parts from to le (suc n) = le
+
+  le_tokens : (from : ℕ) (ts : List PyToken) (to : ℕ) → InTokens text from ts to → from ≤ to
+  le_tokens from ts to h = tokens_le (InsideLies 0 text) text from ts to (h 0)
+
+  le_parts : (from : ℕ) (ps : List FPart) (to : ℕ) → InParts text from ps to → from ≤ to
+  le_parts from ps to h = parts_le (TokensLie (InsideLies 0 text) text) (InsideLies 0 text) text from ps to (h 1)
+
+  join_tokens : (from : ℕ) (ts : List PyToken) (mid : ℕ) (us : List PyToken) (to : ℕ) → InTokens text from ts mid → InTokens text mid us to → InTokens text from (ts ++ us) to
+  join_tokens from ts mid us to h k = λ n. tokens_joined (InsideLies n text) text from ts mid us to (h n) (k n)
+
+  join_parts : (from : ℕ) (ps : List FPart) (mid : ℕ) (qs : List FPart) (to : ℕ) → InParts text from ps mid → InParts text mid qs to → InParts text from (ps ++ qs) to
+  join_parts from ps mid qs to h k zero = tt
+  join_parts from ps mid qs to h k (suc n) = parts_joined (TokensLie (InsideLies n text) text) (InsideLies n text) text from ps mid qs to (h (suc n)) (k (suc n))
+
+  later_tokens : (from : ℕ) (ts : List PyToken) (to end : ℕ) → InTokens text from ts to → to ≤ end → InTokens text from ts end
+  later_tokens from ts to end h le = subst (λ (x : List PyToken). InTokens text from x end) (append-nil ts) (join_tokens from ts to [] end h (no_tokens to end le))
+
+  later_parts : (from : ℕ) (ps : List FPart) (to end : ℕ) → InParts text from ps to → to ≤ end → InParts text from ps end
+  later_parts from ps to end h le = subst (λ (x : List FPart). InParts text from x end) (append-nil ps) (join_parts from ps to [] end h (no_parts to end le))
+
+  earlier_tokens : (before from : ℕ) (ts : List PyToken) (to : ℕ) → before ≤ from → InTokens text from ts to → InTokens text before ts to
+  earlier_tokens before from ts to le h = join_tokens before [] from ts to (no_tokens before from le) h
+
+  earlier_parts : (before from : ℕ) (ps : List FPart) (to : ℕ) → before ≤ from → InParts text from ps to → InParts text before ps to
+  earlier_parts before from ps to le h = join_parts before [] from ps to (no_parts before from le) h
+
+  -- one token, one part
+
+  a_token : (o : PyToken-F FPart PyToken) → LiesIn text o.span → InParts text o.span.from o.parts o.span.to → InTokens text o.span.from (roll-PyToken o ∷ []) o.span.to
+  a_token o l h n =
+      subst (λ (x : PyToken-F FPart PyToken). (o.span.from ≤ x.span.from) × LiesIn text x.span × InsideLies n text x.span.from x.parts x.span.to × (x.span.to ≤ o.span.to)) (sym (out-roll-PyToken o)) (omega arith, l, h n, omega arith)
+
+  a_sign : (w : PyWord) (from len : ℕ) → LiesIn text (span from (from + len)) → InTokens text from (sign w from len ∷ []) (from + len)
+  a_sign w from len l = a_token (record { word = w; text = []; span = span from (from + len); parts = [] }) l (no_parts from (from + len) (omega arith))
+
+  a_mark : (w : PyWord) (at : ℕ) → IsCharBoundary text at → InTokens text at (sign w at 0 ∷ []) at
+  a_mark w at b =
+      let e : at ≡ at + 0 = omega arith in
+      subst (λ (n : ℕ). InTokens text at (sign w at 0 ∷ []) n) (sym e) (a_sign w at 0 (record { ordered = omega arith; begins = b; ends = subst (λ (n : ℕ). IsCharBoundary text n) e b }))
+
+  a_written : (w : PyWord) (bytes : List ℕ) (from : ℕ) (xs : List FPart) → LiesIn text (span from (from + length bytes)) → InParts text from xs (from + length bytes) → InTokens text from (written w bytes from xs ∷ []) (from + length bytes)
+  a_written w bytes from xs l h = a_token (record { word = w; text = bytes; span = span from (from + length bytes); parts = xs }) l h
+
+  a_plain : (bytes : List ℕ) (from to : ℕ) → LiesIn text (span from to) → InParts text from (parts.Plain bytes (span from to) ∷ []) to
+  a_plain bytes from to l zero = tt
+  a_plain bytes from to l (suc n) =
+      subst (λ (o : FPart-F FPart PyToken). Layer (TokensLie (InsideLies n text) text) (InsideLies n text) text from (λ m. m ≤ to) o) (sym (ap out-FPart (sym (rolls-Plain bytes (span from to))) ∙ out-roll-FPart (layers.Plain bytes (span from to)))) (omega arith, l, omega arith)
+
+  a_field : (ts : List PyToken) (conversion : List ℕ) (format : List FPart) (from to : ℕ) → LiesIn text (span from to) → InTokens text from ts to → InParts text from format to → InParts text from (parts.Field ts conversion format (span from to) ∷ []) to
+  a_field ts conversion format from to l h k zero = tt
+  a_field ts conversion format from to l h k (suc n) =
+      subst (λ (o : FPart-F FPart PyToken). Layer (TokensLie (InsideLies n text) text) (InsideLies n text) text from (λ m. m ≤ to) o) (sym (ap out-FPart (sym (rolls-Field ts conversion format (span from to))) ∙ out-roll-FPart (layers.Field ts conversion format (span from to)))) (omega arith, l, h n, k n, omega arith)
+
+-- ---- readings
+
+some_is : {X : Type 0} (P : X → Type 0) (o : Option X) (x : X) → IfSome o P → o ≡ Some x → P x
+some_is {X = X} P o x h e = subst (λ (r : Option X). IfSome r P) e h
+
+mapped : {X Y : Type 0} (P : X → Type 0) (Q : Y → Type 0) (f : X → Y) (o : Option X) → ((x : X) → P x → Q (f x)) → IfSome o P → IfSome (option_map f o) Q
+mapped P Q f None g h = tt
+mapped P Q f (Some x) g h = g x h
+
+-- what each step keeps and the end has, a reading has; tokens of a state lie from its base on
+reading : {S T : Type 0} (R : Reader S T) (base : S → ℕ) (Holds : S → List ℕ → Type 0) (L : Lies T) (to : ℕ) → ((from : ℕ) (ts : List T) (mid : ℕ) (us : List T) → L from ts mid → L mid us to → L from (ts ++ us) to)
+    → ((s : S) (cs : List ℕ) (w : ℕ) (front left : List ℕ) (turn : Turn S T) → Holds s cs → cs ≡ front ++ left → R.step s w front turn → L (base s) turn.tokens (base turn.after) × Holds turn.after left)
+    → ((s : S) (cs : List ℕ) (ts : List T) → Holds s cs → R.finish s ts → L (base s) ts to) → (s : S) (cs : List ℕ) (xs : List Lexeme) (ts : List T) (rest : List ℕ) → Holds s cs → Reads R s cs xs ts rest → L (base s) ts to
+reading R base Holds L to join step last s cs [] ts rest holds h = last s cs ts holds h.2
+reading {T = T} R base Holds L to join step last s cs (x ∷ xs) ts rest holds h =
+    let k = step s cs x.word x.text h.1 h.2 holds h.4.parts h.5 in
+    subst (λ (us : List T). L (base s) us to) (sym h.7) (join (base s) h.2.tokens (base h.2.after) h.3 k.0 (reading R base Holds L to join step last h.2.after h.1 xs h.3 rest k.1 h.6))
+
+-- the parts that a lexeme may have lie in it
+abbrev PartsIn : List ℕ → Parting → Type 0
+PartsIn text P = (at : ℕ) (class : Class) (cs : List ℕ) (xs : List FPart) → Stands text at cs (at + length (encode_utf8_all cs)) → P at class cs xs → InParts text at xs (at + length (encode_utf8_all cs))
+
+parted_in : (text : List ℕ) (P : Parting) → PartsIn text P → PartsIn text (Parted P)
+parted_in text P f at class cs xs s = by_form (is_f_string class)
+  where
+    by_form : (b : Bool) → PartedIf b (P at class cs xs) xs → InParts text at xs (at + length (encode_utf8_all cs))
+    by_form true h = f at class cs xs s h
+    by_form false e = subst (λ (ps : List FPart). InParts text at ps (at + length (encode_utf8_all cs))) (sym e) (no_parts text at (at + length (encode_utf8_all cs)) (omega arith))
+
+-- ---- lines
+
+-- tokens of a turn lie up to the place that reading moves on to
+record Turned (text : List ℕ) (from to : ℕ) (t : Turn Layout PyToken) : Type 0 where
+  lie : InTokens text from t.tokens to
+  moves : t.after.at ≡ to
+
+abbrev Stays : List ℕ → ℕ → Turn (List ℕ) PyToken → Type 0
+Stays text at t = InTokens text at t.tokens at
+
+closed : (text : List ℕ) (at : ℕ) (cs : List ℕ) (column : ℕ) → IsCharBoundary text at → IfSome (close at cs column) (Stays text at)
+unfolding close
+closed text at [] column b = by_column (column == 0)
+  where
+    by_column : (x : Bool) → IfSome (if x then Some (record { after = []; tokens = [] }) else None) (Stays text at)
+    by_column true = no_tokens text at at (omega arith)
+    by_column false = tt
+closed text at (c ∷ cs) column b = by_column (closed text at cs column b) (nat_lt column c) (column == c)
+  where
+    more : (o : Option (Turn (List ℕ) PyToken)) → IfSome o (Stays text at) → IfSome (joined (sign words.Dedent at 0 ∷ []) o) (Stays text at)
+    more None h = tt
+    more (Some t) h = join_tokens text at (sign words.Dedent at 0 ∷ []) at t.tokens at (a_mark text words.Dedent at b) h
+
+    by_column : IfSome (close at cs column) (Stays text at) → (x y : Bool) → IfSome (if x then joined (sign words.Dedent at 0 ∷ []) (close at cs column) else (if y then Some (record { after = c ∷ cs; tokens = [] }) else None)) (Stays text at)
+    by_column h true y = more (close at cs column) h
+    by_column h false true = no_tokens text at at (omega arith)
+    by_column h false false = tt
+
+opens : (text : List ℕ) (at : ℕ) (cs : List ℕ) (column : ℕ) → IsCharBoundary text at → IfSome (open_line at cs column) (Stays text at)
+opens text at cs column b = by_column (nat_lt (top cs) column)
+  where
+    by_column : (x : Bool) → IfSome (if x then Some (record { after = column ∷ cs; tokens = sign words.Indent at 0 ∷ [] }) else close at cs column) (Stays text at)
+    by_column true = a_mark text words.Indent at b
+    by_column false = closed text at cs column b
+
+module _ (text : List ℕ) (s : Layout) (cut_at : IsCharBoundary text s.at) where
+  begins : (line : Line) → IfSome (begin_by line s) (Turned text s.at s.at)
+  begins lines.Inside = record { lie = no_tokens text s.at s.at (omega arith); moves = refl }
+  begins lines.Start = mapped (Stays text s.at) (Turned text s.at s.at) (begun s) _ (λ t h. record { lie = h; moves = refl }) (opens text s.at s.columns (if s.first then 0 else s.column) cut_at)
+  begins lines.Fixed = mapped (Stays text s.at) (Turned text s.at s.at) (begun s) _ (λ t h. record { lie = h; moves = refl }) (opens text s.at s.columns (if s.first then 0 else s.column) cut_at)
+
+  ends : IfSome (layout.finish s) (λ ts. InTokens text s.at ts s.at)
+  ends =
+      mapped (Stays text s.at) (λ ts. InTokens text s.at ts s.at) (ending s) _
+      (λ t h. join_tokens text s.at (last_newline s.line s.at s.depth ++ t.tokens) s.at (sign words.End s.at 0 ∷ []) s.at (join_tokens text s.at (last_newline s.line s.at s.depth) s.at t.tokens s.at (newline s.line) h) (a_mark text words.End s.at cut_at))
+      (closed text s.at s.columns 0 cut_at)
+    where
+      newline : (line : Line) → InTokens text s.at (last_newline line s.at s.depth) s.at
+      newline lines.Start = no_tokens text s.at s.at (omega arith)
+      newline lines.Fixed = no_tokens text s.at s.at (omega arith)
+      newline lines.Inside = by_depth (s.depth == 0)
+        where
+          by_depth : (b : Bool) → InTokens text s.at (if b then sign words.Newline s.at 0 ∷ [] else []) s.at
+          by_depth true = a_mark text words.Newline s.at cut_at
+          by_depth false = no_tokens text s.at s.at (omega arith)
+
+module _ (text : List ℕ) (s : Layout) (bytes : List ℕ) (l : LiesIn text (span s.at (s.at + length bytes))) where
+  stays : InTokens text s.at [] (s.at + length bytes)
+  stays = no_tokens text s.at (s.at + length bytes) (omega arith)
+
+  writes : (class : Class) (word : PyWord) (xs : List FPart) → InParts text s.at xs (s.at + length bytes) → IfSome (token_step s class word bytes xs) (Turned text s.at (s.at + length bytes))
+  unfolding token_step
+  writes class word xs h = mapped (Turned text s.at s.at) (Turned text s.at (s.at + length bytes)) (with_token class word bytes xs) (begin s) one (begins text s l.begins s.line)
+    where
+      one : (t : Turn Layout PyToken) → Turned text s.at s.at t → Turned text s.at (s.at + length bytes) (with_token class word bytes xs t)
+      one t k = record {
+        lie = join_tokens text s.at t.tokens s.at (written word bytes t.after.at xs ∷ []) (s.at + length bytes) k.lie (subst (λ (n : ℕ). InTokens text s.at (written word bytes n xs ∷ []) (s.at + length bytes)) (sym k.moves) (a_written text word bytes s.at xs l h));
+        moves = ap (λ (n : ℕ). n + length bytes) k.moves;
+      }
+
+  ends_line : (line : Line) → Turned text s.at (s.at + length bytes) (end_by line s (length bytes))
+  ends_line lines.Start = record { lie = stays; moves = refl }
+  ends_line lines.Fixed = record { lie = stays; moves = refl }
+  ends_line lines.Inside = by_depth (s.depth == 0)
+    where
+      by_depth : (b : Bool) → Turned text s.at (s.at + length bytes) (if b then record { after = fresh_line s (length bytes); tokens = sign words.Newline s.at (length bytes) ∷ [] } else layout.quiet (moved s (length bytes)))
+      by_depth true = record { lie = a_sign text words.Newline s.at (length bytes) l; moves = refl }
+      by_depth false = record { lie = stays; moves = refl }
+
+  blank : (line : Line) → Turned text s.at (s.at + length bytes) (layout.quiet (blank_by line s bytes))
+  blank lines.Start = record { lie = stays; moves = refl }
+  blank lines.Fixed = record { lie = stays; moves = refl }
+  blank lines.Inside = record { lie = stays; moves = refl }
+
+  splice : (line : Line) → Turned text s.at (s.at + length bytes) (layout.quiet (splice_by line s (length bytes)))
+  splice lines.Start = record { lie = stays; moves = refl }
+  splice lines.Fixed = record { lie = stays; moves = refl }
+  splice lines.Inside = record { lie = stays; moves = refl }
+
+  gap : (class : Class) → Turned text s.at (s.at + length bytes) (gap_step s class bytes)
+  gap classes.Blank = blank s.line
+  gap classes.LineEnd = ends_line s.line
+  gap classes.Splice = splice s.line
+  gap _ = record { lie = stays; moves = refl }
+
+  line_turns : (o : Option PyWord) (class : Class) (xs : List FPart) → InParts text s.at xs (s.at + length bytes) → IfSome (step_by o s class bytes xs) (Turned text s.at (s.at + length bytes))
+  line_turns (Some word) class xs h = writes class word xs h
+  line_turns None class xs h = gap class
+
+-- ---- the inside of an f-string
+
+-- the field lies up to the place
+record FieldLies (text : List ℕ) (field : Field) (to : ℕ) : Type 0 where
+  cut : IsCharBoundary text field.from
+  tokens : InTokens text field.from field.tokens to
+
+-- the part that is not yet at its end
+abbrev HoldsAt : Place → List ℕ → Inside → Type 0
+HoldsAt places.Plain text s = s.format ≡ []
+HoldsAt places.Field text s = FieldLies text s.field s.at × InParts text s.field.from s.format s.at
+HoldsAt places.Converted text s = FieldLies text s.field s.at × InParts text s.field.from s.format s.at
+HoldsAt places.Format text s = FieldLies text s.field s.at × InParts text s.field.from s.format s.at
+HoldsAt places.FormatField text s = FieldLies text s.field s.at × InParts text s.field.from s.format s.inner.from × FieldLies text s.inner s.at
+HoldsAt places.FormatConverted text s = FieldLies text s.field s.at × InParts text s.field.from s.format s.inner.from × FieldLies text s.inner s.at
+
+-- the part to come begins there or behind it
+abbrev base_at : Place → Inside → ℕ
+base_at places.Plain s = s.at
+base_at _ s = s.field.from
+
+record Goes (text : List ℕ) (from to : ℕ) (t : Turn Inside FPart) : Type 0 where
+  lie : InParts text from t.tokens (base_at t.after.place t.after)
+  holds : HoldsAt t.after.place text t.after
+  moves : t.after.at ≡ to
+
+goes : (text : List ℕ) (from to : ℕ) (place : Place) (s : Inside) (ps : List FPart) → s.place ≡ place → InParts text from ps (base_at place s) → HoldsAt place text s → s.at ≡ to → Goes text from to (record { after = s; tokens = ps })
+goes text from to place s ps e lie holds moves = record { lie = subst (λ (p : Place). InParts text from ps (base_at p s)) (sym e) lie; holds = subst (λ (p : Place). HoldsAt p text s) (sym e) holds; moves = moves }
+
+module _ (text : List ℕ) (class : Class) (bytes : List ℕ) (at : ℕ) (xs : List FPart) (l : LiesIn text (span at (at + length bytes))) (ins : InParts text at xs (at + length bytes)) where
+  later_field : (field : Field) → FieldLies text field at → FieldLies text field (at + length bytes)
+  later_field field h = record { cut = h.cut; tokens = later_tokens text field.from field.tokens at (at + length bytes) h.tokens (omega arith) }
+
+  abbrev Keeping : Field → Field → Type 0
+  Keeping field kept = (field.from ≡ kept.from) × FieldLies text kept (at + length bytes)
+
+  keeps_gap : (field : Field) → FieldLies text field at → (c : Class) → IfSome (kept_gap field c) (Keeping field)
+  keeps_gap field h classes.Blank = (refl, later_field field h)
+  keeps_gap field h classes.LineEnd = (refl, later_field field h)
+  keeps_gap field h _ = tt
+
+  keeps : (field : Field) → FieldLies text field at → (o : Option PyWord) → IfSome (kept_by o field class bytes at xs) (Keeping field)
+  keeps field h None = keeps_gap field h class
+  keeps field h (Some word) = by_text (has_backslash bytes)
+    where
+      by_text : (b : Bool) → IfSome (if b then None else Some (insides.with_token field word bytes at xs)) (Keeping field)
+      by_text true = tt
+      by_text false = (refl, record { cut = h.cut; tokens = join_tokens text field.from field.tokens at (written word bytes at xs ∷ []) (at + length bytes) h.tokens (a_written text word bytes at xs l ins) })
+
+pub placed : ℕ
+placed = 0
