@@ -3,11 +3,13 @@ use Rattle.std.proofs.Common.{◌≡◌, ℕ, zero, suc, ◌+◌, ◌-◌, ◌�
 use Rattle.std.specs.Prelude.{encode_utf8, encode_utf8_all, if◌then◌else◌, slice_range, nat_lt, Option, Some, None, IfSome, option_map}
 use Rattle.std.specs.Str.{chars, all_scalars, IsUtf8, IsCharBoundary}
 use Rattle.std.proofs.lemmas.Bool.{and_parts}
-use Rattle.std.proofs.lemmas.List.{append-nil, drop_at, drop-drop}
-use Rattle.std.proofs.lemmas.Str.{encodes-append, encodes-chars, scalars-chars, length-encode, IsUtf8-nil, IsUtf8-append, IsCharBoundary-from_drop}
+use Rattle.std.proofs.lemmas.List.{append-nil, drop_at, drop-drop, drop-append-le, length-take}
+use Rattle.std.proofs.lemmas.List.Folds.{drop_split}
+use Rattle.std.proofs.lemmas.Str.{encodes-append, encodes-chars, scalars-chars, length-encode, IsUtf8-nil, IsUtf8-append, IsUtf8-between, IsUtf8-drop, IsCharBoundary-from_drop}
 use Rattle.lexing.proofs.Basics.{and_both}
 use Rattle.lexing.specs.Reading.{Lexeme, Turn, Reader, Reads}
 use Rattle.lexing.specs.Mark.{past_mark, mark_len}
+use Rattle.node_tree.specs.declared.view.Mode.{Mode}
 use Rattle.node_tree.specs.Span.{LiesIn}
 use Rattle.node_tree.specs.declared.span.Span.{Span}
 use Rattle.py_lex.specs.declared.token.PyToken.{PyToken, out-PyToken, roll-PyToken, out-roll-PyToken}
@@ -18,16 +20,18 @@ use Rattle.py_lex.specs.declared.token.FPart.TheOpen as layers
 use Rattle.py_lex.specs.declared.token.FPart.TheOpen.{FPart-F, PyToken-F}
 use Rattle.py_lex.specs.declared.token.PyWord.{PyWord}
 use Rattle.py_lex.specs.declared.token.PyWord.TheVariants as words
+use Rattle.py_lex.specs.Classes.{class_of}
 use Rattle.py_lex.specs.declared.class.Class.{Class}
 use Rattle.py_lex.specs.declared.class.Class.TheVariants as classes
 use Rattle.py_lex.specs.declared.layout.Line.{Line}
 use Rattle.py_lex.specs.declared.layout.Line.TheVariants as lines
 use Rattle.py_lex.specs.declared.layout.Layout.{Layout}
 use Rattle.py_lex.specs.Columns.{top}
-use Rattle.py_lex.specs.Layout.{sign, written, joined, close, open_line, begun, begin_by, begin, with_token, token_step, moved, blank_by, fresh_line, end_by, splice_by, gap_step, step_by, last_newline, ending}
+use Rattle.py_lex.specs.Layout.{word_of, sign, written, joined, close, open_line, begun, begin_by, begin, with_token, token_step, moved, blank_by, fresh_line, end_by, splice_by, gap_step, step_by, last_newline, ending}
 use Rattle.py_lex.specs.Layout as layout
-use Rattle.py_lex.specs.Parts.{Parting, Parted, PartedIf, is_f_string}
-use Rattle.py_lex.specs.Inside.{span, kept_gap, kept_by, has_backslash}
+use Rattle.py_lex.specs.Parts.{Parting, Parted, PartedIf, is_f_string, parted, inside_language, inside_start, inside_end, HasInside, HasBetween, HasParts}
+use Rattle.py_lex.specs.Lexing.{py_language, first_line, IsTokensOf}
+use Rattle.py_lex.specs.Inside.{span, opened, kept_gap, kept_by, kept, has_backslash, plain_step, field_end, format_start, with_field, field_step, converted_step, format_step, inner_end, with_inner, inner_step, inner_converted_step, step_at, finish_at}
 use Rattle.py_lex.specs.Inside as insides
 use Rattle.py_lex.specs.declared.inside.Place.{Place}
 use Rattle.py_lex.specs.declared.inside.Place.TheVariants as places
@@ -232,13 +236,13 @@ mapped P Q f None g h = tt
 mapped P Q f (Some x) g h = g x h
 
 -- what each step keeps and the end has, a reading has; tokens of a state lie from its base on
-reading : {S T : Type 0} (R : Reader S T) (base : S → ℕ) (Holds : S → List ℕ → Type 0) (L : Lies T) (to : ℕ) → ((from : ℕ) (ts : List T) (mid : ℕ) (us : List T) → L from ts mid → L mid us to → L from (ts ++ us) to)
+reading : {S T : Type 0} (R : Reader S T) (base : S → ℕ) (Holds : S → List ℕ → Type 0) (L : Lies T) (to : ℕ) → ((from : ℕ) (ts : List T) (mid : ℕ) (us : List T) (end : ℕ) → L from ts mid → L mid us end → L from (ts ++ us) end)
     → ((s : S) (cs : List ℕ) (w : ℕ) (front left : List ℕ) (turn : Turn S T) → Holds s cs → cs ≡ front ++ left → R.step s w front turn → L (base s) turn.tokens (base turn.after) × Holds turn.after left)
     → ((s : S) (cs : List ℕ) (ts : List T) → Holds s cs → R.finish s ts → L (base s) ts to) → (s : S) (cs : List ℕ) (xs : List Lexeme) (ts : List T) (rest : List ℕ) → Holds s cs → Reads R s cs xs ts rest → L (base s) ts to
 reading R base Holds L to join step last s cs [] ts rest holds h = last s cs ts holds h.2
 reading {T = T} R base Holds L to join step last s cs (x ∷ xs) ts rest holds h =
     let k = step s cs x.word x.text h.1 h.2 holds h.4.parts h.5 in
-    subst (λ (us : List T). L (base s) us to) (sym h.7) (join (base s) h.2.tokens (base h.2.after) h.3 k.0 (reading R base Holds L to join step last h.2.after h.1 xs h.3 rest k.1 h.6))
+    subst (λ (us : List T). L (base s) us to) (sym h.7) (join (base s) h.2.tokens (base h.2.after) h.3 to k.0 (reading R base Holds L to join step last h.2.after h.1 xs h.3 rest k.1 h.6))
 
 -- the parts that a lexeme may have lie in it
 abbrev PartsIn : List ℕ → Parting → Type 0
@@ -399,5 +403,207 @@ module _ (text : List ℕ) (class : Class) (bytes : List ℕ) (at : ℕ) (xs : L
       by_text true = tt
       by_text false = (refl, record { cut = h.cut; tokens = join_tokens text field.from field.tokens at (written word bytes at xs ∷ []) (at + length bytes) h.tokens (a_written text word bytes at xs l ins) })
 
-pub placed : ℕ
-placed = 0
+module _ (text : List ℕ) (s : Inside) (class : Class) (bytes : List ℕ) (xs : List FPart) (l : LiesIn text (span s.at (s.at + length bytes))) (ins : InParts text s.at xs (s.at + length bytes)) where
+  -- the field that is read, and its format up to a place
+  record InField (to : ℕ) : Type 0 where
+    field : FieldLies text s.field s.at
+    format : InParts text s.field.from s.format to
+    le : to ≤ s.at
+
+  abbrev Going : ℕ → Option (Turn Inside FPart) → Type 0
+  Going from o = IfSome o (Goes text from (s.at + length bytes))
+
+  nothing : InParts text s.field.from [] s.field.from
+  nothing = no_parts text s.field.from s.field.from (omega arith)
+
+  longer : (to : ℕ) → InField to → FieldLies text s.field (s.at + length bytes)
+  longer to h = later_field text class bytes s.at xs l ins s.field h.field
+
+  longer_inner : FieldLies text s.inner s.at → FieldLies text s.inner (s.at + length bytes)
+  longer_inner h = later_field text class bytes s.at xs l ins s.inner h
+
+  longer_format : InField s.at → InParts text s.field.from s.format (s.at + length bytes)
+  longer_format h = later_parts text s.field.from s.format s.at (s.at + length bytes) h.format (omega arith)
+
+  -- a place that begins before the lexeme and is a boundary
+  from_lies : (from : ℕ) → from ≤ s.at → IsCharBoundary text from → LiesIn text (span from (s.at + length bytes))
+  from_lies from le b = record { ordered = omega arith; begins = b; ends = l.ends }
+
+  fresh : FieldLies text (opened s.at) (s.at + length bytes)
+  fresh = record { cut = l.begins; tokens = no_tokens text s.at (s.at + length bytes) (omega arith) }
+
+  goes_plain : s.place ≡ places.Plain → s.format ≡ [] → (c : Class) → Going s.at (plain_step s c bytes)
+  goes_plain e h classes.Plain = goes text s.at (s.at + length bytes) places.Plain _ _ e (a_plain text bytes s.at (s.at + length bytes) l) h refl
+  goes_plain e h classes.FieldStart =
+      goes text s.at (s.at + length bytes) places.Field _ _ refl (no_parts text s.at s.at (omega arith))
+      (fresh, subst (λ (ps : List FPart). InParts text s.at ps (s.at + length bytes)) (sym h) (no_parts text s.at (s.at + length bytes) (omega arith))) refl
+  goes_plain e h _ = tt
+
+  goes_end : InField s.at → Going s.field.from (field_end s bytes)
+  goes_end h =
+      goes text s.field.from (s.at + length bytes) places.Plain _ _ refl
+      (a_field text s.field.tokens s.field.conversion s.format s.field.from (s.at + length bytes) (from_lies s.field.from (le_tokens text s.field.from s.field.tokens s.at h.field.tokens) h.field.cut) (longer s.at h).tokens (longer_format h)) refl refl
+
+  goes_format_start : InField s.at → Going s.field.from (format_start s bytes)
+  goes_format_start h = goes text s.field.from (s.at + length bytes) places.Format _ _ refl nothing (longer s.at h, longer_format h) refl
+
+  goes_with_field : s.place ≡ places.Field → InField s.at → (o : Option Field) → IfSome o (Keeping text class bytes s.at xs l ins s.field) → Going s.field.from (with_field s class bytes o)
+  goes_with_field e h None k = tt
+  goes_with_field e h (Some field) k =
+      goes text s.field.from (s.at + length bytes) places.Field _ _ e (no_parts text s.field.from field.from (omega (arith, k.0)))
+      (k.1, subst (λ (n : ℕ). InParts text n s.format (s.at + length bytes)) k.0 (longer_format h)) refl
+
+  goes_kept : s.place ≡ places.Field → InField s.at → Going s.field.from (with_field s class bytes (kept s.field class bytes s.at xs))
+  goes_kept e h = goes_with_field e h (kept s.field class bytes s.at xs) (keeps text class bytes s.at xs l ins s.field h.field (word_of class bytes))
+
+  goes_conversion : InField s.at → Going s.field.from (insides.quiet (record s { at = s.at + length bytes; place = places.Converted; field = record s.field { conversion = bytes } }))
+  goes_conversion h = goes text s.field.from (s.at + length bytes) places.Converted _ _ refl nothing (record { cut = h.field.cut; tokens = (longer s.at h).tokens }, longer_format h) refl
+
+  goes_converted : InField s.at → (c : Class) → Going s.field.from (converted_step s c bytes)
+  goes_converted h classes.Colon = goes_format_start h
+  goes_converted h classes.FieldEnd = goes_end h
+  goes_converted h _ = tt
+
+  goes_format : s.place ≡ places.Format → InField s.at → (c : Class) → Going s.field.from (format_step s c bytes)
+  goes_format e h classes.Plain =
+      goes text s.field.from (s.at + length bytes) places.Format _ _ e nothing
+      (longer s.at h, join_parts text s.field.from s.format s.at (parts.Plain bytes (span s.at (s.at + length bytes)) ∷ []) (s.at + length bytes) h.format (a_plain text bytes s.at (s.at + length bytes) l)) refl
+  goes_format e h classes.FieldStart = goes text s.field.from (s.at + length bytes) places.FormatField _ _ refl nothing (longer s.at h, h.format, fresh) refl
+  goes_format e h classes.FieldEnd = goes_end h
+  goes_format e h _ = tt
+
+  goes_inner_end : InField s.inner.from → FieldLies text s.inner s.at → Going s.field.from (inner_end s bytes)
+  goes_inner_end h i =
+      goes text s.field.from (s.at + length bytes) places.Format _ _ refl nothing
+      (longer s.inner.from h,
+      join_parts text s.field.from s.format s.inner.from (parts.Field s.inner.tokens s.inner.conversion [] (span s.inner.from (s.at + length bytes)) ∷ []) (s.at + length bytes) h.format
+      (a_field text s.inner.tokens s.inner.conversion [] s.inner.from (s.at + length bytes) (from_lies s.inner.from h.le i.cut) (longer_inner i).tokens (no_parts text s.inner.from (s.at + length bytes) (omega (arith, h.le))))) refl
+
+  goes_with_inner : s.place ≡ places.FormatField → InField s.inner.from → (o : Option Field) → IfSome o (Keeping text class bytes s.at xs l ins s.inner) → Going s.field.from (with_inner s class bytes o)
+  goes_with_inner e h None k = tt
+  goes_with_inner e h (Some field) k =
+      goes text s.field.from (s.at + length bytes) places.FormatField _ _ e nothing (longer s.inner.from h, subst (λ (n : ℕ). InParts text s.field.from s.format n) k.0 h.format, k.1) refl
+
+  goes_inner_kept : s.place ≡ places.FormatField → InField s.inner.from → FieldLies text s.inner s.at → Going s.field.from (with_inner s class bytes (kept s.inner class bytes s.at xs))
+  goes_inner_kept e h i = goes_with_inner e h (kept s.inner class bytes s.at xs) (keeps text class bytes s.at xs l ins s.inner i (word_of class bytes))
+
+  goes_inner_conversion : InField s.inner.from → FieldLies text s.inner s.at → Going s.field.from (insides.quiet (record s { at = s.at + length bytes; place = places.FormatConverted; inner = record s.inner { conversion = bytes } }))
+  goes_inner_conversion h i = goes text s.field.from (s.at + length bytes) places.FormatConverted _ _ refl nothing (longer s.inner.from h, h.format, record { cut = i.cut; tokens = (longer_inner i).tokens }) refl
+
+  goes_inner_converted : InField s.inner.from → FieldLies text s.inner s.at → (c : Class) → Going s.field.from (inner_converted_step s c bytes)
+  goes_inner_converted h i classes.FieldEnd = goes_inner_end h i
+  goes_inner_converted h i _ = tt
+
+  in_field : FieldLies text s.field s.at × InParts text s.field.from s.format s.at → InField s.at
+  in_field h = record { field = h.0; format = h.1; le = omega arith }
+
+  in_format : FieldLies text s.field s.at × InParts text s.field.from s.format s.inner.from × FieldLies text s.inner s.at → InField s.inner.from
+  in_format h = record { field = h.0; format = h.1; le = le_tokens text s.inner.from s.inner.tokens s.at h.2.tokens }
+
+goes_field : (text : List ℕ) (s : Inside) (class : Class) (bytes : List ℕ) (xs : List FPart) (l : LiesIn text (span s.at (s.at + length bytes))) (ins : InParts text s.at xs (s.at + length bytes)) → s.place ≡ places.Field → InField text s class bytes xs l ins s.at
+    → Going text s class bytes xs l ins s.field.from (field_step s class bytes xs)
+goes_field text s classes.Colon bytes xs l ins e h = goes_format_start text s classes.Colon bytes xs l ins h
+goes_field text s classes.FieldEnd bytes xs l ins e h = goes_end text s classes.FieldEnd bytes xs l ins h
+goes_field text s classes.Conversion bytes xs l ins e h = goes_conversion text s classes.Conversion bytes xs l ins h
+goes_field text s class bytes xs l ins e h = goes_kept text s class bytes xs l ins e h
+
+goes_inner : (text : List ℕ) (s : Inside) (class : Class) (bytes : List ℕ) (xs : List FPart) (l : LiesIn text (span s.at (s.at + length bytes))) (ins : InParts text s.at xs (s.at + length bytes)) → s.place ≡ places.FormatField
+    → InField text s class bytes xs l ins s.inner.from → FieldLies text s.inner s.at → Going text s class bytes xs l ins s.field.from (inner_step s class bytes xs)
+goes_inner text s classes.Colon bytes xs l ins e h i = tt
+goes_inner text s classes.FieldEnd bytes xs l ins e h i = goes_inner_end text s classes.FieldEnd bytes xs l ins h i
+goes_inner text s classes.Conversion bytes xs l ins e h i = goes_inner_conversion text s classes.Conversion bytes xs l ins h i
+goes_inner text s class bytes xs l ins e h i = goes_inner_kept text s class bytes xs l ins e h i
+
+goes_at : (text : List ℕ) (s : Inside) (class : Class) (bytes : List ℕ) (xs : List FPart) (l : LiesIn text (span s.at (s.at + length bytes))) (ins : InParts text s.at xs (s.at + length bytes)) (place : Place) → s.place ≡ place → HoldsAt place text s
+    → Going text s class bytes xs l ins (base_at place s) (step_at place s class bytes xs)
+goes_at text s class bytes xs l ins places.Plain e h = goes_plain text s class bytes xs l ins e h class
+goes_at text s class bytes xs l ins places.Field e h = goes_field text s class bytes xs l ins e (in_field text s class bytes xs l ins h)
+goes_at text s class bytes xs l ins places.Converted e h = goes_converted text s class bytes xs l ins (in_field text s class bytes xs l ins h) class
+goes_at text s class bytes xs l ins places.Format e h = goes_format text s class bytes xs l ins e (in_field text s class bytes xs l ins h) class
+goes_at text s class bytes xs l ins places.FormatField e h = goes_inner text s class bytes xs l ins e (in_format text s class bytes xs l ins h) h.2
+goes_at text s class bytes xs l ins places.FormatConverted e h = goes_inner_converted text s class bytes xs l ins (in_format text s class bytes xs l ins h) h.2 class
+
+ends_inside : (text : List ℕ) (s : Inside) (to : ℕ) (place : Place) → s.at ≤ to → IfSome (finish_at place) (λ ps. InParts text (base_at place s) ps to)
+ends_inside text s to places.Plain le = no_parts text s.at to le
+ends_inside text s to _ le = tt
+
+-- ---- whole readings
+
+record InsideStands (text : List ℕ) (to : ℕ) (s : Inside) (cs : List ℕ) : Type 0 where
+  stands : Stands text s.at cs to
+  holds : HoldsAt s.place text s
+
+inside_lies : (text : List ℕ) (P : Parting) (mode : Mode) (at : ℕ) (cs : List ℕ) (to : ℕ) (xs : List FPart) → PartsIn text P → Stands text at cs to → HasInside P mode at cs xs → InParts text at xs to
+inside_lies text P mode at cs to xs f stands h =
+    reading (parted P (inside_language mode)) (λ s. base_at s.place s) (InsideStands text to) (InParts text) to (join_parts text) step last (insides.first at) cs h.0 xs [] (record { stands = stands; holds = refl }) h.1
+  where
+    step : (s : Inside) (cs : List ℕ) (w : ℕ) (front left : List ℕ) (turn : Turn Inside FPart) → InsideStands text to s cs → cs ≡ front ++ left → (parted P (inside_language mode)).step s w front turn
+        → InParts text (base_at s.place s) turn.tokens (base_at turn.after.place turn.after) × InsideStands text to turn.after left
+    step s cs w front left turn h parts (ps, p, is) =
+        let here = front_stands front left h.stands parts in
+        let ins = parted_in text P f s.at (class_of w) front ps here p in
+        let k = some_is (Goes text (base_at s.place s) (s.at + length (encode_utf8_all front))) _ turn (goes_at text s (class_of w) (encode_utf8_all front) ps (lies here) ins s.place refl h.holds) is in
+        (k.lie, record { stands = subst (λ (n : ℕ). Stands text n left to) (sym k.moves) (left_stands front left h.stands parts); holds = k.holds })
+
+    last : (s : Inside) (cs : List ℕ) (ps : List FPart) → InsideStands text to s cs → insides.finish s ≡ Some ps → InParts text (base_at s.place s) ps to
+    last s cs ps h is = some_is (λ qs. InParts text (base_at s.place s) qs to) _ ps (ends_inside text s to s.place (omega (arith, h.stands.ends))) is
+
+between_lies : (text : List ℕ) (P : Parting) (mode : Mode) → PartsIn text P → (at : ℕ) (class : Class) (cs : List ℕ) (xs : List FPart) → Stands text at cs (at + length (encode_utf8_all cs)) → HasBetween P mode at class (encode_utf8_all cs) xs → InParts text at xs (at + length (encode_utf8_all cs))
+between_lies text P mode f at class cs xs s h =
+    earlier_parts text at (at + from) xs (at + length bytes) (omega arith) (later_parts text (at + from) xs (at + to) (at + length bytes) (inside_lies text P mode (at + from) (chars inner) (at + to) xs f stands h.1) (omega (arith, h.0.2.0)))
+  where
+    bytes : List ℕ
+    bytes = encode_utf8_all cs
+
+    from : ℕ
+    from = inside_start class bytes
+
+    to : ℕ
+    to = inside_end class bytes
+
+    inner : List ℕ
+    inner = slice_range bytes from to
+
+    utf8 : IsUtf8 bytes
+    utf8 = (cs, (s.scalars, refl))
+
+    utf8_inner : IsUtf8 inner
+    utf8_inner = IsUtf8-between bytes from to utf8 h.0.0 h.0.1 h.0.2
+
+    spelled : encode_utf8_all (chars inner) ≡ inner
+    spelled = encodes-chars inner utf8_inner
+
+    stands : Stands text (at + from) (chars inner) (at + to)
+    stands = record {
+      back = drop to bytes ++ s.back;
+      stands = sym (drop-drop from at text) ∙ ap (drop from) s.stands ∙ drop-append-le from bytes s.back h.0.1.0 ∙ ap (λ (x : List ℕ). x ++ s.back) (drop_split bytes from to h.0.0) ∙ append_assoc inner (drop to bytes) s.back ∙ ap (λ (x : List ℕ). x ++ (drop to bytes ++ s.back)) (sym spelled);
+      scalars = scalars-chars inner utf8_inner;
+      utf8_back = IsUtf8-append (drop to bytes) s.back (IsUtf8-drop bytes to utf8 h.0.2) s.utf8_back;
+      ends = omega (arith, ap length spelled, length-take (to - from) (drop from bytes), length-drop from bytes, h.0.0, h.0.2.0);
+      within = omega (arith, s.within, h.0.2.0);
+    }
+
+parts_in : (text : List ℕ) (mode : Mode) (levels : ℕ) → PartsIn text (HasParts levels mode)
+parts_in text mode zero at class cs xs s h = absurd h
+parts_in text mode (suc levels) at class cs xs s h = between_lies text (HasParts levels mode) mode (parts_in text mode levels) at class cs xs s h
+
+record LineStands (text : List ℕ) (s : Layout) (cs : List ℕ) : Type 0 where
+  stands : Stands text s.at cs (length text)
+
+-- the tokens of a text lie in it
+pub placed : (mode : Mode) (text : List ℕ) (ts : List PyToken) → IsUtf8 text → IsTokensOf mode text ts → AreTokensIn text ts
+placed mode text ts u h =
+    earlier_tokens text 0 (mark_len (chars text)) ts (length text) (omega arith)
+    (reading (parted (HasParts (length text) mode) (py_language mode)) (λ s. s.at) (LineStands text) (InTokens text) (length text) (join_tokens text) step last (first_line (chars text)) (past_mark (chars text)) h.0 ts [] (record { stands = past text (chars text) (length text) (whole text u) }) h.1)
+  where
+    step : (s : Layout) (cs : List ℕ) (w : ℕ) (front left : List ℕ) (turn : Turn Layout PyToken) → LineStands text s cs → cs ≡ front ++ left → (parted (HasParts (length text) mode) (py_language mode)).step s w front turn
+        → InTokens text s.at turn.tokens turn.after.at × LineStands text turn.after left
+    step s cs w front left turn h parts (ps, p, is) =
+        let bytes = encode_utf8_all front in
+        let here = front_stands front left h.stands parts in
+        let ins = parted_in text (HasParts (length text) mode) (parts_in text mode (length text)) s.at (class_of w) front ps here p in
+        let k = some_is (Turned text s.at (s.at + length bytes)) _ turn (line_turns text s bytes (lies here) (word_of (class_of w) bytes) (class_of w) ps ins) is in
+        (subst (λ (n : ℕ). InTokens text s.at turn.tokens n) (sym k.moves) k.lie, record { stands = subst (λ (n : ℕ). Stands text n left (length text)) (sym k.moves) (left_stands front left h.stands parts) })
+
+    last : (s : Layout) (cs : List ℕ) (us : List PyToken) → LineStands text s cs → layout.finish s ≡ Some us → InTokens text s.at us (length text)
+    last s cs us h is = later_tokens text s.at us s.at (length text) (some_is (λ vs. InTokens text s.at vs s.at) _ us (ends text s (cut h.stands)) is) (omega (arith, h.stands.ends, h.stands.within))

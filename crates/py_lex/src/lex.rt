@@ -2,6 +2,7 @@
 
 ghost use Rattle.std.specs.Prelude.{◌≡◌, ◌≤◌, List, length, IfOk};
 ghost use Rattle.py_lex.specs.Lexing as spec;
+ghost use Rattle.py_lex.specs.Places.{AreTokensIn};
 ghost use Rattle.py_lex.specs.declared.token.PyToken.{PyToken as token};
 
 use crate::class::Forms;
@@ -21,6 +22,7 @@ use std::alloc::Global;
 pub fn tokens(alloc: Global, text: &str, mode: Mode) -> Result<List<PyToken>, LexFault>
     requires { length text.now ≤ 1000000 }
     ensures given { IfOk result (λ l. spec.IsTokensOf mode text.now l) }
+    ensures placed { IfOk result (AreTokensIn text.now) }
     ensures only { (ts : List token) → spec.IsTokensOf mode text.now ts → spec.Gives ts result }
 {
     let levels = text.len();

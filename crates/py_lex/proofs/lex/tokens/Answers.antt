@@ -65,3 +65,6 @@ returns-clause-given c = given c.lexemes.invariant.read c.lexemes-test.ensures c
 
 pub returns-clause-only : goal.returns-clause-only
 returns-clause-only c = only c.lexemes.invariant.read c.lexemes-test.ensures c.in_ok-finish.ensures.1 c.in_ok-finish.ensures.2
+
+pub returns-clause-placed : goal.returns-clause-placed
+returns-clause-placed c = placed c.args.mode c.args.text.now _ c.utf8.text (given c.lexemes.invariant.read c.lexemes-test.ensures c.in_ok-finish.ensures.1 c.in_ok-finish.ensures.2)
