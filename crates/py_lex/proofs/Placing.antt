@@ -283,10 +283,11 @@ module _ (text : List ℕ) (s : Inside) (class : Class) (bytes : List ℕ) (xs :
 
   goes_inner_end : InField s.inner.from → FieldLies text s.inner s.at → Going s.field.from (inner_end s bytes)
   goes_inner_end h i =
-      goes text s.field.from (s.at + length bytes) places.Format _ _ refl nothing
-      (longer s.inner.from h,
-      join_parts text s.field.from s.format s.inner.from (parts.Field s.inner.tokens s.inner.conversion [] (span s.inner.from (s.at + length bytes)) ∷ []) (s.at + length bytes) h.format
-      (a_field text s.inner.tokens s.inner.conversion [] s.inner.from (s.at + length bytes) (from_lies s.inner.from h.le i.cut) (longer_inner i).tokens (no_parts text s.inner.from (s.at + length bytes) (omega (arith, h.le))))) refl
+      goes text s.field.from (s.at + length bytes) places.Format _ _ refl nothing (
+        longer s.inner.from h,
+        join_parts text s.field.from s.format s.inner.from (parts.Field s.inner.tokens s.inner.conversion [] (span s.inner.from (s.at + length bytes)) ∷ []) (s.at + length bytes) h.format
+            (a_field text s.inner.tokens s.inner.conversion [] s.inner.from (s.at + length bytes) (from_lies s.inner.from h.le i.cut) (longer_inner i).tokens (no_parts text s.inner.from (s.at + length bytes) (omega (arith, h.le)))),
+      ) refl
 
   goes_with_inner : s.place ≡ places.FormatField → InField s.inner.from → (o : Option Field) → IfSome o (Keeping text class bytes s.at xs l ins s.inner) → Going s.field.from (with_inner s class bytes o)
   goes_with_inner e h None k = tt

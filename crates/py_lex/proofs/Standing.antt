@@ -1,5 +1,5 @@
 -- Characters that stand in a text from one place to another.
-use Rattle.std.proofs.Common.{◌≡◌, ℕ, ◌+◌, ◌-◌, ◌≤◌, ◌==◌, Bool, true, false, List, [], ◌∷◌, ◌++◌, length, take, drop, refl, sym, ap, ◌∙◌, subst, arith, append_assoc, eqb-true, length-append}
+use Rattle.std.proofs.Common.{◌≡◌, ℕ, ◌+◌, ◌≤◌, ◌==◌, Bool, true, false, List, [], ◌∷◌, ◌++◌, length, take, drop, refl, sym, ap, ◌∙◌, subst, arith, append_assoc, eqb-true, length-append}
 use Rattle.std.specs.Prelude.{encode_utf8, encode_utf8_all, if◌then◌else◌}
 use Rattle.std.specs.Str.{chars, all_scalars, IsUtf8, IsCharBoundary}
 use Rattle.std.proofs.lemmas.List.{append-nil, drop_at, drop-drop}
