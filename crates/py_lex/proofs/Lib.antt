@@ -5,3 +5,6 @@ pub mod PartedReading
 pub mod Looking
 pub mod Between
 pub mod WordLengths
+pub mod Standing
+pub mod Lying
+pub mod Placing

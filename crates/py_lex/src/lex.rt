@@ -2,6 +2,7 @@
 
 ghost use Rattle.std.specs.Prelude.{◌≡◌, ◌≤◌, List, length, IfOk};
 ghost use Rattle.py_lex.specs.Lexing as spec;
+ghost use Rattle.py_lex.specs.Places.{AreTokensIn};
 ghost use Rattle.py_lex.specs.declared.token.PyToken.{PyToken as token};
 
 use crate::class::Forms;
@@ -17,10 +18,12 @@ use std::alloc::Global;
 ///
 /// Words, numbers, strings, operators and delimiters are those of the Python reference, section "Lexical analysis"; an
 /// f-string has its parts. In a pattern, metavariables and the marks `<...` and `...>` are tokens too. `NoTokens` comes
-/// just where the text has no list of tokens.
+/// just where the text has no list of tokens. The tokens lie in the text one behind the other, and so do the parts of
+/// its f-strings; no span cuts a character.
 pub fn tokens(alloc: Global, text: &str, mode: Mode) -> Result<List<PyToken>, LexFault>
     requires { length text.now ≤ 1000000 }
     ensures given { IfOk result (λ l. spec.IsTokensOf mode text.now l) }
+    ensures placed { IfOk result (AreTokensIn text.now) }
     ensures only { (ts : List token) → spec.IsTokensOf mode text.now ts → spec.Gives ts result }
 {
     let levels = text.len();

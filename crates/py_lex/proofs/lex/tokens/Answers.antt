@@ -12,6 +12,7 @@ use Rattle.py_lex.specs.Parts.{Parting}
 use Rattle.py_lex.specs.declared.layout.Line.TheVariants.{Start}
 use Rattle.py_lex.specs.declared.token.PyToken.{PyToken}
 use Rattle.py_lex.proofs.PartedReading.{IsAt, begins, turned, not_found, failed, given, only, unfinished}
+use Rattle.py_lex.proofs.Placing.{placed}
 use Rattle.py_lex.proofs.lex.tokens.Goals as goal
 
 from_first : (P : Parting) (mode : Mode) (cs rest : List ℕ) (all : List PyToken) (at : ℕ) (columns : List ℕ) → mark_len cs ≡ at → columns ≡ [] → IsAt P (py_language mode) (first_line cs) (past_mark cs) all (first_line cs) rest
@@ -64,3 +65,6 @@ returns-clause-given c = given c.lexemes.invariant.read c.lexemes-test.ensures c
 
 pub returns-clause-only : goal.returns-clause-only
 returns-clause-only c = only c.lexemes.invariant.read c.lexemes-test.ensures c.in_ok-finish.ensures.1 c.in_ok-finish.ensures.2
+
+pub returns-clause-placed : goal.returns-clause-placed
+returns-clause-placed c = placed c.args.mode c.args.text.now _ c.utf8.text (given c.lexemes.invariant.read c.lexemes-test.ensures c.in_ok-finish.ensures.1 c.in_ok-finish.ensures.2)
