@@ -513,6 +513,9 @@ fn refuses_deep_texts_while_it_reads(rt: HostRuntime) -> Result<(), Fail> {
         ("", " + a", 100_000),
         ("(", "", 500_000),
         ("a ** ", "", 100_000),
+        ("a or a and a|a^a&a<<a+a*(", "", 1_000),
+        ("[a for a in (", "", 1_000),
+        ("lambda a={a: (", "", 1_000),
     ] {
         assert!(rt;
             !reads(
