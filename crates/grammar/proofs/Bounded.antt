@@ -144,7 +144,7 @@ module _ {K B L N : Type 0} (t : Source K B N) (table : Table K B L) (S : Sets L
         (a.0, e.0, f.0, f.1)
 
     -- brackets stand in pairs
-    even : {c : Loop K B L} {r : Rule K B L} {xs : List N} {i j : ℕ} → Derives t table c r xs i j → (p : ℕ) (g : Bool) → Around_fit c p g → fit G R p g r ≡ true → base ≤ i → D j ≡ D i
+    pub even : {c : Loop K B L} {r : Rule K B L} {xs : List N} {i j : ℕ} → Derives t table c r xs i j → (p : ℕ) (g : Bool) → Around_fit c p g → fit G R p g r ≡ true → base ≤ i → D j ≡ D i
     even (d_done e s) p g a h bi = ap D (sym s)
     even (d_mark {cs = cs} {i = i} y e s) p g a h bi = ap D s ∙ plain cs i bi h y
     even (d_word {cs = cs} {i = i} y e s) p g a h bi = ap D s ∙ plain cs i bi h y

@@ -1,5 +1,5 @@
 -- How many brackets are open.
-use Rattle.std.proofs.Common.{◌≡◌, ℕ, zero, suc, pred, ◌<◌, ◌≤◌, List, refl, arith, inl, inr}
+use Rattle.std.proofs.Common.{◌≡◌, ◌∙◌, ℕ, zero, suc, pred, ◌<◌, ◌≤◌, List, refl, arith, inl, inr}
 use Rattle.std.specs.Prelude.{Bool, true, false, cond, ltb}
 use Rattle.grammar.specs.Rule.{has, behind, open_at, smaller, brackets_round}
 use Rattle.grammar.proofs.Facts.{decide, ltb_less, less_or_same}
@@ -76,3 +76,43 @@ module _ (opens closes : List ℕ) (f : ℕ → ℕ) where
     | inl lt ↦ (near (count from n) (count from (suc n)) m (omega (arith, count_step from n (omega arith), behind_least (f n) (count from n))) (omega (arith, count_step from n (omega arith), behind_most (f n) (count from n))) (h n (omega arith) (omega arith))).1
     | inr eq ↦ rw eq (omega (arith, count_start (suc n)))
   ]
+
+  -- by the class of the token
+  pub count_open : (from n : ℕ) → from ≤ n → has opens (f n) ≡ true → count from (suc n) ≡ suc (count from n)
+  count_open from n a h = count_step from n a ∙ by_case (has opens (f n)) h
+    where
+      by_case : (u : Bool) → u ≡ true → cond u (suc (count from n)) (cond (has closes (f n)) (pred (count from n)) (count from n)) ≡ suc (count from n)
+      by_case true e = refl
+      by_case false e = cc
+
+  pub count_close : (from n : ℕ) → from ≤ n → has opens (f n) ≡ false → has closes (f n) ≡ true → count from (suc n) ≡ pred (count from n)
+  count_close from n a h k = count_step from n a ∙ by_case (has opens (f n)) (has closes (f n)) h k
+    where
+      by_case : (u w : Bool) → u ≡ false → w ≡ true → cond u (suc (count from n)) (cond w (pred (count from n)) (count from n)) ≡ pred (count from n)
+      by_case true w e g = cc
+      by_case false true e g = refl
+      by_case false false e g = cc
+
+  pub count_along : (from n : ℕ) → from ≤ n → has opens (f n) ≡ false → has closes (f n) ≡ false → count from (suc n) ≡ count from n
+  count_along from n a h k = count_step from n a ∙ by_case (has opens (f n)) (has closes (f n)) h k
+    where
+      by_case : (u w : Bool) → u ≡ false → w ≡ false → cond u (suc (count from n)) (cond w (pred (count from n)) (count from n)) ≡ count from n
+      by_case true w e g = cc
+      by_case false true e g = cc
+      by_case false false e g = refl
+
+  -- a token stands inside at most as many brackets as are open before it
+  pub inside_open : (from n : ℕ) → brackets_round opens closes f from n ≤ count from n
+  inside_open from n = least (count from n) (count from (suc n))
+    where
+      not_less : (a b : ℕ) → ltb a b ≡ false → b ≤ a
+      not_less a b e = grind arith
+
+      least : (a b : ℕ) → smaller a b ≤ a
+      least a b = elim (decide (ltb a b)) [ inl e ↦ rw e (omega arith) | inr e ↦ rw e (not_less a b e) ]
+
+-- classes that are the same up to a token open as many brackets before it
+pub count_same : (opens closes : List ℕ) (f g : ℕ → ℕ) (from n : ℕ) → ((k : ℕ) → k < n → f k ≡ g k) → open_at opens closes f from n ≡ open_at opens closes g from n
+unfolding open_at
+count_same opens closes f g from zero h = refl
+count_same opens closes f g from (suc n) h = rw (h n (omega arith), count_same opens closes f g from n (λ k l. h k (omega arith))) refl

@@ -15,4 +15,5 @@ pub mod Extends
 pub mod Counts
 pub mod Rounds
 pub mod Theorem
+pub mod Cuts
 pub mod sums

@@ -18,14 +18,14 @@ use Rattle.grammar.proofs.Bounded.{bounded}
 use Rattle.grammar.proofs.Fair.{Fair}
 use Rattle.grammar.proofs.Words.{Match, says_holds, some_levels, hollow_levels, begun_levels}
 use Rattle.grammar.proofs.Extends.{Longer, extends}
-use Rattle.grammar.proofs.Counts.{count_step, count_le, few}
+use Rattle.grammar.proofs.Counts.{count_open, count_close, count_along, count_le, few}
 
 -- where no row has a test, nothing has to be said of it
 all_tests : (Q : ((ℕ → ℕ) → ℕ → Bool) → Type 0) → ((p : (ℕ → ℕ) → ℕ → Bool) → Q p) → (ps : List ((ℕ → ℕ) → ℕ → Bool)) → AllTests Q ps
 all_tests Q h [] = record {}
 all_tests Q h (p ∷ ps) = (h p, all_tests Q h ps)
 
-none_declared : {K B L : Type 0} (r : Rule K B L) → AllTests (IsTest (no_tests {L = L}) None) (tests r)
+pub none_declared : {K B L : Type 0} (r : Rule K B L) → AllTests (IsTest (no_tests {L = L}) None) (tests r)
 none_declared {L = L} r = all_tests (IsTest (no_tests {L = L}) None) (λ p. record {}) (tests r)
 
 module _ {K B L N : Type 0} (g : Grammar K B L) (S : Sets L) (R : Ranks B L) (pass : (l : L) → passes g S R l ≡ true) (depth : List N → ℕ) where
@@ -33,29 +33,13 @@ module _ {K B L N : Type 0} (g : Grammar K B L) (S : Sets L) (R : Ranks B L) (pa
   leveled : (u : Source K B N) → Deepens R.strong depth u → (from d limit m : ℕ) (l : L) (xs : List N) (i j : ℕ) → from ≤ i → Derives u g.table outside (g.table l) xs i j → depth xs ≤ d → j < m → ((n : ℕ) → i ≤ n → n ≤ j → open_at g.opens g.closes u.cls from n ≤ limit) → Level u S m g.table R.top (suc (d + limit)) l None xs i j
   leveled u deep from d limit m l xs i j bi x dd jm lim =
       bounded u g.table S (is_grammar g S R pass) g R from (open_at g.opens g.closes u.cls from)
-      (λ n a h. count_step g.opens g.closes u.cls from n a ∙ opened (has g.opens (u.cls n)) (has g.closes (u.cls n)) (at n) h)
-      (λ n a h k. count_step g.opens g.closes u.cls from n a ∙ closed (has g.opens (u.cls n)) (has g.closes (u.cls n)) (at n) h k)
-      (λ n a h k. count_step g.opens g.closes u.cls from n a ∙ neither (has g.opens (u.cls n)) (has g.closes (u.cls n)) (at n) h k)
+      (count_open g.opens g.closes u.cls from) (count_close g.opens g.closes u.cls from) (count_along g.opens g.closes u.cls from)
       (fits g S R pass) (ranked g S R pass) depth deep.left deep.right deep.weak deep.strict m limit
       (λ l. (and_both (late S None (g.table l)) (loops S (g.table l)) (looped g S R pass l)).0) (λ l. (and_both (late S None (g.table l)) (loops S (g.table l)) (looped g S R pass l)).1)
       (d_deep {c = outside} x) j (suc (d + limit)) zero None zero d i true (record {}) (record {}) (record {}) (record {}) refl refl (omega arith) (inl refl) (omega arith) (omega arith) jm dd bi lim (room (at i)) (λ h. room' (at i))
     where
       at : ℕ → ℕ
       at = open_at g.opens g.closes u.cls from
-
-      opened : (u w : Bool) (c : ℕ) → u ≡ true → cond u (suc c) (cond w (pred c) c) ≡ suc c
-      opened true w c h = refl
-      opened false w c h = cc
-
-      closed : (u w : Bool) (c : ℕ) → u ≡ false → w ≡ true → cond u (suc c) (cond w (pred c) c) ≡ pred c
-      closed true w c h k = cc
-      closed false true c h k = refl
-      closed false false c h k = cc
-
-      neither : (u w : Bool) (c : ℕ) → u ≡ false → w ≡ false → cond u (suc c) (cond w (pred c) c) ≡ c
-      neither true w c h k = cc
-      neither false true c h k = cc
-      neither false false c h k = refl
 
       room : (a : ℕ) → d + (limit - a) ≤ suc (d + limit)
       room a = omega arith
@@ -87,17 +71,17 @@ module _ {K B L N : Type 0} (g : Grammar K B L) (S : Sets L) (R : Ranks B L) (pa
 
     module _ (T : Tests L) (declared : (l : L) → Declared T l (g.table l)) (mode : ℕ → Bool) (h : ℕ) (closing : (l : L) → closes g S R T mode h l ≡ true) where
       -- the parts of the check of a row
-      row : (l : L) → R.shut l ≡ true → (each (λ a. within_set (targets (arms T.automaton a)) T.states) T.states ≡ true) × (keeps T None l (g.table l) ≡ true) × (settled S T R.shut (T.start l) None (T.follow l) (g.table l) ≡ true) × (elim (T.follow l) [ None ↦ bears g S T mode h l | Some cs ↦ true ] ≡ true)
+      pub row : (l : L) → R.shut l ≡ true → (each (λ a. within_set (targets (arms T.automaton a)) T.states) T.states ≡ true) × (keeps T None l (g.table l) ≡ true) × (settled S T R.shut (T.start l) None (T.follow l) (g.table l) ≡ true) × (elim (T.follow l) [ None ↦ bears g S T mode h l | Some cs ↦ true ] ≡ true)
       row l c =
           let a : _ = and_both (each (λ a. within_set (targets (arms T.automaton a)) T.states) T.states && (keeps T None l (g.table l) && settled S T R.shut (T.start l) None (T.follow l) (g.table l))) _ (implied (R.shut l) _ (closing l) c) in
           let b : _ = and_both (each (λ a. within_set (targets (arms T.automaton a)) T.states) T.states) (keeps T None l (g.table l) && settled S T R.shut (T.start l) None (T.follow l) (g.table l)) a.0 in
           let d : _ = and_both (keeps T None l (g.table l)) (settled S T R.shut (T.start l) None (T.follow l) (g.table l)) b.1 in
           (b.0, d.0, d.1, a.1)
 
-      all_kept : (l : L) → R.shut l ≡ true → keeps T None l (g.table l) ≡ true
+      pub all_kept : (l : L) → R.shut l ≡ true → keeps T None l (g.table l) ≡ true
       all_kept l c = (row l c).1
 
-      all_fair : (l : L) → R.shut l ≡ true → Fair S T R.shut (T.start l) None (T.follow l) (g.table l)
+      pub all_fair : (l : L) → R.shut l ≡ true → Fair S T R.shut (T.start l) None (T.follow l) (g.table l)
       all_fair l c = ((row l c).2, (is_grammar g S R pass).clear l, declared l)
 
       bearing : (l : L) → R.shut l ≡ true → T.follow l ≡ None → bears g S T mode h l ≡ true

@@ -12,3 +12,4 @@ pub mod Depths
 pub mod Counting
 pub mod Modes
 pub mod Runs
+pub mod Prefix

@@ -1,7 +1,8 @@
 -- The words of the tokens are of the mode.
-use Rattle.std.proofs.Common.{◌≡◌, ℕ, zero, suc, List, [], ◌∷◌, refl, ap, Bool, true, false}
-use Rattle.std.specs.Prelude.{if◌then◌else◌, ◌==◌, codes}
+use Rattle.std.proofs.Common.{◌≡◌, ℕ, zero, suc, List, [], ◌∷◌, refl, Bool, true, false, inl, inr}
+use Rattle.std.specs.Prelude.{if◌then◌else◌, ◌==◌, ◌&&◌}
 use Rattle.std.specs.Str.{bytes_eq}
+use Rattle.std.proofs.lemmas.Bool.{and_parts}
 use Rattle.node_tree.specs.declared.view.Mode.{Mode}
 use Rattle.node_tree.specs.declared.view.Mode.TheVariants as modes
 use Rattle.py_lex.specs.declared.token.PyToken.{PyToken, out-PyToken}
@@ -9,8 +10,9 @@ use Rattle.py_lex.specs.declared.token.PyWord.{PyWord}
 use Rattle.py_lex.specs.declared.token.PyWord.TheVariants as lexed
 use Rattle.py_expr.specs.declared.word.Word.{Word}
 use Rattle.py_expr.specs.declared.word.Word.TheVariants as w
-use Rattle.py_expr.specs.Words.{class, word_of, word_by, mark_word, short_mark, long_mark, keyword_word}
-use Rattle.py_expr.specs.Items.{items}
+use Rattle.py_expr.specs.Words.{class, word_of, word_by, mark_word, by_byte, by_text, short_marks, long_marks, keywords}
+use Rattle.py_expr.specs.declared.item.Item.{Item}
+use Rattle.py_expr.specs.Items.{Insides, IsItemBy, AreItems}
 use Rattle.py_expr.specs.Build.{token_at, end_item}
 use Rattle.py_expr.specs.Runs.{of_mode, of_text, of_pattern}
 
@@ -21,27 +23,42 @@ choice : (c : Bool) (a b : Word) → OfText a → OfText b → OfText (if c then
 choice true a b h k = h
 choice false a b h k = k
 
-short_fine : (c : ℕ) → OfText (short_mark c)
-unfolding class
-short_fine c = choice (c == 40) w.LeftRound (if c == 41 then w.RightRound else (if c == 91 then w.LeftSquare else (if c == 93 then w.RightSquare else (if c == 123 then w.LeftBrace else (if c == 125 then w.RightBrace else (if c == 44 then w.Comma else (if c == 58 then w.Colon else (if c == 46 then w.Dot else (if c == 61 then w.Equal else (if c == 42 then w.Times else (if c == 47 then w.Slash else (if c == 37 then w.Factor else (if c == 64 then w.Factor else (if c == 43 then w.Sign else (if c == 45 then w.Sign else (if c == 126 then w.Tilde else (if c == 38 then w.Ampersand else (if c == 94 then w.Caret else (if c == 124 then w.Bar else (if c == 60 then w.Compare else (if c == 62 then w.Compare else (w.Other)))))))))))))))))))))) refl (choice (c == 41) w.RightRound (if c == 91 then w.LeftSquare else (if c == 93 then w.RightSquare else (if c == 123 then w.LeftBrace else (if c == 125 then w.RightBrace else (if c == 44 then w.Comma else (if c == 58 then w.Colon else (if c == 46 then w.Dot else (if c == 61 then w.Equal else (if c == 42 then w.Times else (if c == 47 then w.Slash else (if c == 37 then w.Factor else (if c == 64 then w.Factor else (if c == 43 then w.Sign else (if c == 45 then w.Sign else (if c == 126 then w.Tilde else (if c == 38 then w.Ampersand else (if c == 94 then w.Caret else (if c == 124 then w.Bar else (if c == 60 then w.Compare else (if c == 62 then w.Compare else (w.Other))))))))))))))))))))) refl (choice (c == 91) w.LeftSquare (if c == 93 then w.RightSquare else (if c == 123 then w.LeftBrace else (if c == 125 then w.RightBrace else (if c == 44 then w.Comma else (if c == 58 then w.Colon else (if c == 46 then w.Dot else (if c == 61 then w.Equal else (if c == 42 then w.Times else (if c == 47 then w.Slash else (if c == 37 then w.Factor else (if c == 64 then w.Factor else (if c == 43 then w.Sign else (if c == 45 then w.Sign else (if c == 126 then w.Tilde else (if c == 38 then w.Ampersand else (if c == 94 then w.Caret else (if c == 124 then w.Bar else (if c == 60 then w.Compare else (if c == 62 then w.Compare else (w.Other)))))))))))))))))))) refl (choice (c == 93) w.RightSquare (if c == 123 then w.LeftBrace else (if c == 125 then w.RightBrace else (if c == 44 then w.Comma else (if c == 58 then w.Colon else (if c == 46 then w.Dot else (if c == 61 then w.Equal else (if c == 42 then w.Times else (if c == 47 then w.Slash else (if c == 37 then w.Factor else (if c == 64 then w.Factor else (if c == 43 then w.Sign else (if c == 45 then w.Sign else (if c == 126 then w.Tilde else (if c == 38 then w.Ampersand else (if c == 94 then w.Caret else (if c == 124 then w.Bar else (if c == 60 then w.Compare else (if c == 62 then w.Compare else (w.Other))))))))))))))))))) refl (choice (c == 123) w.LeftBrace (if c == 125 then w.RightBrace else (if c == 44 then w.Comma else (if c == 58 then w.Colon else (if c == 46 then w.Dot else (if c == 61 then w.Equal else (if c == 42 then w.Times else (if c == 47 then w.Slash else (if c == 37 then w.Factor else (if c == 64 then w.Factor else (if c == 43 then w.Sign else (if c == 45 then w.Sign else (if c == 126 then w.Tilde else (if c == 38 then w.Ampersand else (if c == 94 then w.Caret else (if c == 124 then w.Bar else (if c == 60 then w.Compare else (if c == 62 then w.Compare else (w.Other)))))))))))))))))) refl (choice (c == 125) w.RightBrace (if c == 44 then w.Comma else (if c == 58 then w.Colon else (if c == 46 then w.Dot else (if c == 61 then w.Equal else (if c == 42 then w.Times else (if c == 47 then w.Slash else (if c == 37 then w.Factor else (if c == 64 then w.Factor else (if c == 43 then w.Sign else (if c == 45 then w.Sign else (if c == 126 then w.Tilde else (if c == 38 then w.Ampersand else (if c == 94 then w.Caret else (if c == 124 then w.Bar else (if c == 60 then w.Compare else (if c == 62 then w.Compare else (w.Other))))))))))))))))) refl (choice (c == 44) w.Comma (if c == 58 then w.Colon else (if c == 46 then w.Dot else (if c == 61 then w.Equal else (if c == 42 then w.Times else (if c == 47 then w.Slash else (if c == 37 then w.Factor else (if c == 64 then w.Factor else (if c == 43 then w.Sign else (if c == 45 then w.Sign else (if c == 126 then w.Tilde else (if c == 38 then w.Ampersand else (if c == 94 then w.Caret else (if c == 124 then w.Bar else (if c == 60 then w.Compare else (if c == 62 then w.Compare else (w.Other)))))))))))))))) refl (choice (c == 58) w.Colon (if c == 46 then w.Dot else (if c == 61 then w.Equal else (if c == 42 then w.Times else (if c == 47 then w.Slash else (if c == 37 then w.Factor else (if c == 64 then w.Factor else (if c == 43 then w.Sign else (if c == 45 then w.Sign else (if c == 126 then w.Tilde else (if c == 38 then w.Ampersand else (if c == 94 then w.Caret else (if c == 124 then w.Bar else (if c == 60 then w.Compare else (if c == 62 then w.Compare else (w.Other))))))))))))))) refl (choice (c == 46) w.Dot (if c == 61 then w.Equal else (if c == 42 then w.Times else (if c == 47 then w.Slash else (if c == 37 then w.Factor else (if c == 64 then w.Factor else (if c == 43 then w.Sign else (if c == 45 then w.Sign else (if c == 126 then w.Tilde else (if c == 38 then w.Ampersand else (if c == 94 then w.Caret else (if c == 124 then w.Bar else (if c == 60 then w.Compare else (if c == 62 then w.Compare else (w.Other)))))))))))))) refl (choice (c == 61) w.Equal (if c == 42 then w.Times else (if c == 47 then w.Slash else (if c == 37 then w.Factor else (if c == 64 then w.Factor else (if c == 43 then w.Sign else (if c == 45 then w.Sign else (if c == 126 then w.Tilde else (if c == 38 then w.Ampersand else (if c == 94 then w.Caret else (if c == 124 then w.Bar else (if c == 60 then w.Compare else (if c == 62 then w.Compare else (w.Other))))))))))))) refl (choice (c == 42) w.Times (if c == 47 then w.Slash else (if c == 37 then w.Factor else (if c == 64 then w.Factor else (if c == 43 then w.Sign else (if c == 45 then w.Sign else (if c == 126 then w.Tilde else (if c == 38 then w.Ampersand else (if c == 94 then w.Caret else (if c == 124 then w.Bar else (if c == 60 then w.Compare else (if c == 62 then w.Compare else (w.Other)))))))))))) refl (choice (c == 47) w.Slash (if c == 37 then w.Factor else (if c == 64 then w.Factor else (if c == 43 then w.Sign else (if c == 45 then w.Sign else (if c == 126 then w.Tilde else (if c == 38 then w.Ampersand else (if c == 94 then w.Caret else (if c == 124 then w.Bar else (if c == 60 then w.Compare else (if c == 62 then w.Compare else (w.Other))))))))))) refl (choice (c == 37) w.Factor (if c == 64 then w.Factor else (if c == 43 then w.Sign else (if c == 45 then w.Sign else (if c == 126 then w.Tilde else (if c == 38 then w.Ampersand else (if c == 94 then w.Caret else (if c == 124 then w.Bar else (if c == 60 then w.Compare else (if c == 62 then w.Compare else (w.Other)))))))))) refl (choice (c == 64) w.Factor (if c == 43 then w.Sign else (if c == 45 then w.Sign else (if c == 126 then w.Tilde else (if c == 38 then w.Ampersand else (if c == 94 then w.Caret else (if c == 124 then w.Bar else (if c == 60 then w.Compare else (if c == 62 then w.Compare else (w.Other))))))))) refl (choice (c == 43) w.Sign (if c == 45 then w.Sign else (if c == 126 then w.Tilde else (if c == 38 then w.Ampersand else (if c == 94 then w.Caret else (if c == 124 then w.Bar else (if c == 60 then w.Compare else (if c == 62 then w.Compare else (w.Other)))))))) refl (choice (c == 45) w.Sign (if c == 126 then w.Tilde else (if c == 38 then w.Ampersand else (if c == 94 then w.Caret else (if c == 124 then w.Bar else (if c == 60 then w.Compare else (if c == 62 then w.Compare else (w.Other))))))) refl (choice (c == 126) w.Tilde (if c == 38 then w.Ampersand else (if c == 94 then w.Caret else (if c == 124 then w.Bar else (if c == 60 then w.Compare else (if c == 62 then w.Compare else (w.Other)))))) refl (choice (c == 38) w.Ampersand (if c == 94 then w.Caret else (if c == 124 then w.Bar else (if c == 60 then w.Compare else (if c == 62 then w.Compare else (w.Other))))) refl (choice (c == 94) w.Caret (if c == 124 then w.Bar else (if c == 60 then w.Compare else (if c == 62 then w.Compare else (w.Other)))) refl (choice (c == 124) w.Bar (if c == 60 then w.Compare else (if c == 62 then w.Compare else (w.Other))) refl (choice (c == 60) w.Compare (if c == 62 then w.Compare else (w.Other)) refl (choice (c == 62) w.Compare (w.Other) refl (refl))))))))))))))))))))))
+-- whether each word of a list of pairs is of texts
+abbrev all_of_texts : {X : Type 0} → List (X × Word) → Bool
+all_of_texts [] = true
+all_of_texts (row ∷ rows) = of_text (class row.1) && all_of_texts rows
 
-long_fine : (text : List ℕ) → OfText (long_mark modes.Text text)
+byte_fine : (rows : List (ℕ × Word)) → all_of_texts rows ≡ true → (c : ℕ) → OfText (by_byte rows c)
 unfolding class
-long_fine text = choice (bytes_eq text (codes ":=")) w.Walrus (if bytes_eq text (codes "**") then w.Power else (if bytes_eq text (codes "//") then w.Factor else (if bytes_eq text (codes "==") then w.Compare else (if bytes_eq text (codes "!=") then w.Compare else (if bytes_eq text (codes "<=") then w.Compare else (if bytes_eq text (codes ">=") then w.Compare else (if bytes_eq text (codes "<<") then w.Shift else (if bytes_eq text (codes ">>") then w.Shift else (if bytes_eq text (codes "...") then w.Ellipsis else (if bytes_eq text (codes "<...") then w.Other else (if bytes_eq text (codes "...>") then w.Other else (w.Other)))))))))))) refl (choice (bytes_eq text (codes "**")) w.Power (if bytes_eq text (codes "//") then w.Factor else (if bytes_eq text (codes "==") then w.Compare else (if bytes_eq text (codes "!=") then w.Compare else (if bytes_eq text (codes "<=") then w.Compare else (if bytes_eq text (codes ">=") then w.Compare else (if bytes_eq text (codes "<<") then w.Shift else (if bytes_eq text (codes ">>") then w.Shift else (if bytes_eq text (codes "...") then w.Ellipsis else (if bytes_eq text (codes "<...") then w.Other else (if bytes_eq text (codes "...>") then w.Other else (w.Other))))))))))) refl (choice (bytes_eq text (codes "//")) w.Factor (if bytes_eq text (codes "==") then w.Compare else (if bytes_eq text (codes "!=") then w.Compare else (if bytes_eq text (codes "<=") then w.Compare else (if bytes_eq text (codes ">=") then w.Compare else (if bytes_eq text (codes "<<") then w.Shift else (if bytes_eq text (codes ">>") then w.Shift else (if bytes_eq text (codes "...") then w.Ellipsis else (if bytes_eq text (codes "<...") then w.Other else (if bytes_eq text (codes "...>") then w.Other else (w.Other)))))))))) refl (choice (bytes_eq text (codes "==")) w.Compare (if bytes_eq text (codes "!=") then w.Compare else (if bytes_eq text (codes "<=") then w.Compare else (if bytes_eq text (codes ">=") then w.Compare else (if bytes_eq text (codes "<<") then w.Shift else (if bytes_eq text (codes ">>") then w.Shift else (if bytes_eq text (codes "...") then w.Ellipsis else (if bytes_eq text (codes "<...") then w.Other else (if bytes_eq text (codes "...>") then w.Other else (w.Other))))))))) refl (choice (bytes_eq text (codes "!=")) w.Compare (if bytes_eq text (codes "<=") then w.Compare else (if bytes_eq text (codes ">=") then w.Compare else (if bytes_eq text (codes "<<") then w.Shift else (if bytes_eq text (codes ">>") then w.Shift else (if bytes_eq text (codes "...") then w.Ellipsis else (if bytes_eq text (codes "<...") then w.Other else (if bytes_eq text (codes "...>") then w.Other else (w.Other)))))))) refl (choice (bytes_eq text (codes "<=")) w.Compare (if bytes_eq text (codes ">=") then w.Compare else (if bytes_eq text (codes "<<") then w.Shift else (if bytes_eq text (codes ">>") then w.Shift else (if bytes_eq text (codes "...") then w.Ellipsis else (if bytes_eq text (codes "<...") then w.Other else (if bytes_eq text (codes "...>") then w.Other else (w.Other))))))) refl (choice (bytes_eq text (codes ">=")) w.Compare (if bytes_eq text (codes "<<") then w.Shift else (if bytes_eq text (codes ">>") then w.Shift else (if bytes_eq text (codes "...") then w.Ellipsis else (if bytes_eq text (codes "<...") then w.Other else (if bytes_eq text (codes "...>") then w.Other else (w.Other)))))) refl (choice (bytes_eq text (codes "<<")) w.Shift (if bytes_eq text (codes ">>") then w.Shift else (if bytes_eq text (codes "...") then w.Ellipsis else (if bytes_eq text (codes "<...") then w.Other else (if bytes_eq text (codes "...>") then w.Other else (w.Other))))) refl (choice (bytes_eq text (codes ">>")) w.Shift (if bytes_eq text (codes "...") then w.Ellipsis else (if bytes_eq text (codes "<...") then w.Other else (if bytes_eq text (codes "...>") then w.Other else (w.Other)))) refl (choice (bytes_eq text (codes "...")) w.Ellipsis (if bytes_eq text (codes "<...") then w.Other else (if bytes_eq text (codes "...>") then w.Other else (w.Other))) refl (choice (bytes_eq text (codes "<...")) w.Other (if bytes_eq text (codes "...>") then w.Other else (w.Other)) refl (choice (bytes_eq text (codes "...>")) w.Other (w.Other) refl (refl))))))))))))
+byte_fine [] h c = refl
+byte_fine (row ∷ rows) h c = let p : _ = and_parts (of_text (class row.1)) (all_of_texts rows) h in choice (c == row.0) row.1 (by_byte rows c) p.0 (byte_fine rows p.1 c)
 
-keyword_fine : (text : List ℕ) → OfText (keyword_word text)
+text_fine : (rows : List (List ℕ × Word)) → all_of_texts rows ≡ true → (text : List ℕ) → OfText (by_text rows text)
 unfolding class
-keyword_fine text = choice (bytes_eq text (codes "in")) w.In (if bytes_eq text (codes "is") then w.Is else (if bytes_eq text (codes "not") then w.Not else (if bytes_eq text (codes "and") then w.And else (if bytes_eq text (codes "or") then w.Or else (if bytes_eq text (codes "if") then w.If else (if bytes_eq text (codes "else") then w.Else else (if bytes_eq text (codes "None") then w.Const else (if bytes_eq text (codes "True") then w.Const else (if bytes_eq text (codes "False") then w.Const else (if bytes_eq text (codes "lambda") then w.Lambda else (if bytes_eq text (codes "for") then w.For else (if bytes_eq text (codes "async") then w.Async else (if bytes_eq text (codes "await") then w.Await else (if bytes_eq text (codes "yield") then w.Yield else (if bytes_eq text (codes "from") then w.From else (w.Other)))))))))))))))) refl (choice (bytes_eq text (codes "is")) w.Is (if bytes_eq text (codes "not") then w.Not else (if bytes_eq text (codes "and") then w.And else (if bytes_eq text (codes "or") then w.Or else (if bytes_eq text (codes "if") then w.If else (if bytes_eq text (codes "else") then w.Else else (if bytes_eq text (codes "None") then w.Const else (if bytes_eq text (codes "True") then w.Const else (if bytes_eq text (codes "False") then w.Const else (if bytes_eq text (codes "lambda") then w.Lambda else (if bytes_eq text (codes "for") then w.For else (if bytes_eq text (codes "async") then w.Async else (if bytes_eq text (codes "await") then w.Await else (if bytes_eq text (codes "yield") then w.Yield else (if bytes_eq text (codes "from") then w.From else (w.Other))))))))))))))) refl (choice (bytes_eq text (codes "not")) w.Not (if bytes_eq text (codes "and") then w.And else (if bytes_eq text (codes "or") then w.Or else (if bytes_eq text (codes "if") then w.If else (if bytes_eq text (codes "else") then w.Else else (if bytes_eq text (codes "None") then w.Const else (if bytes_eq text (codes "True") then w.Const else (if bytes_eq text (codes "False") then w.Const else (if bytes_eq text (codes "lambda") then w.Lambda else (if bytes_eq text (codes "for") then w.For else (if bytes_eq text (codes "async") then w.Async else (if bytes_eq text (codes "await") then w.Await else (if bytes_eq text (codes "yield") then w.Yield else (if bytes_eq text (codes "from") then w.From else (w.Other)))))))))))))) refl (choice (bytes_eq text (codes "and")) w.And (if bytes_eq text (codes "or") then w.Or else (if bytes_eq text (codes "if") then w.If else (if bytes_eq text (codes "else") then w.Else else (if bytes_eq text (codes "None") then w.Const else (if bytes_eq text (codes "True") then w.Const else (if bytes_eq text (codes "False") then w.Const else (if bytes_eq text (codes "lambda") then w.Lambda else (if bytes_eq text (codes "for") then w.For else (if bytes_eq text (codes "async") then w.Async else (if bytes_eq text (codes "await") then w.Await else (if bytes_eq text (codes "yield") then w.Yield else (if bytes_eq text (codes "from") then w.From else (w.Other))))))))))))) refl (choice (bytes_eq text (codes "or")) w.Or (if bytes_eq text (codes "if") then w.If else (if bytes_eq text (codes "else") then w.Else else (if bytes_eq text (codes "None") then w.Const else (if bytes_eq text (codes "True") then w.Const else (if bytes_eq text (codes "False") then w.Const else (if bytes_eq text (codes "lambda") then w.Lambda else (if bytes_eq text (codes "for") then w.For else (if bytes_eq text (codes "async") then w.Async else (if bytes_eq text (codes "await") then w.Await else (if bytes_eq text (codes "yield") then w.Yield else (if bytes_eq text (codes "from") then w.From else (w.Other)))))))))))) refl (choice (bytes_eq text (codes "if")) w.If (if bytes_eq text (codes "else") then w.Else else (if bytes_eq text (codes "None") then w.Const else (if bytes_eq text (codes "True") then w.Const else (if bytes_eq text (codes "False") then w.Const else (if bytes_eq text (codes "lambda") then w.Lambda else (if bytes_eq text (codes "for") then w.For else (if bytes_eq text (codes "async") then w.Async else (if bytes_eq text (codes "await") then w.Await else (if bytes_eq text (codes "yield") then w.Yield else (if bytes_eq text (codes "from") then w.From else (w.Other))))))))))) refl (choice (bytes_eq text (codes "else")) w.Else (if bytes_eq text (codes "None") then w.Const else (if bytes_eq text (codes "True") then w.Const else (if bytes_eq text (codes "False") then w.Const else (if bytes_eq text (codes "lambda") then w.Lambda else (if bytes_eq text (codes "for") then w.For else (if bytes_eq text (codes "async") then w.Async else (if bytes_eq text (codes "await") then w.Await else (if bytes_eq text (codes "yield") then w.Yield else (if bytes_eq text (codes "from") then w.From else (w.Other)))))))))) refl (choice (bytes_eq text (codes "None")) w.Const (if bytes_eq text (codes "True") then w.Const else (if bytes_eq text (codes "False") then w.Const else (if bytes_eq text (codes "lambda") then w.Lambda else (if bytes_eq text (codes "for") then w.For else (if bytes_eq text (codes "async") then w.Async else (if bytes_eq text (codes "await") then w.Await else (if bytes_eq text (codes "yield") then w.Yield else (if bytes_eq text (codes "from") then w.From else (w.Other))))))))) refl (choice (bytes_eq text (codes "True")) w.Const (if bytes_eq text (codes "False") then w.Const else (if bytes_eq text (codes "lambda") then w.Lambda else (if bytes_eq text (codes "for") then w.For else (if bytes_eq text (codes "async") then w.Async else (if bytes_eq text (codes "await") then w.Await else (if bytes_eq text (codes "yield") then w.Yield else (if bytes_eq text (codes "from") then w.From else (w.Other)))))))) refl (choice (bytes_eq text (codes "False")) w.Const (if bytes_eq text (codes "lambda") then w.Lambda else (if bytes_eq text (codes "for") then w.For else (if bytes_eq text (codes "async") then w.Async else (if bytes_eq text (codes "await") then w.Await else (if bytes_eq text (codes "yield") then w.Yield else (if bytes_eq text (codes "from") then w.From else (w.Other))))))) refl (choice (bytes_eq text (codes "lambda")) w.Lambda (if bytes_eq text (codes "for") then w.For else (if bytes_eq text (codes "async") then w.Async else (if bytes_eq text (codes "await") then w.Await else (if bytes_eq text (codes "yield") then w.Yield else (if bytes_eq text (codes "from") then w.From else (w.Other)))))) refl (choice (bytes_eq text (codes "for")) w.For (if bytes_eq text (codes "async") then w.Async else (if bytes_eq text (codes "await") then w.Await else (if bytes_eq text (codes "yield") then w.Yield else (if bytes_eq text (codes "from") then w.From else (w.Other))))) refl (choice (bytes_eq text (codes "async")) w.Async (if bytes_eq text (codes "await") then w.Await else (if bytes_eq text (codes "yield") then w.Yield else (if bytes_eq text (codes "from") then w.From else (w.Other)))) refl (choice (bytes_eq text (codes "await")) w.Await (if bytes_eq text (codes "yield") then w.Yield else (if bytes_eq text (codes "from") then w.From else (w.Other))) refl (choice (bytes_eq text (codes "yield")) w.Yield (if bytes_eq text (codes "from") then w.From else (w.Other)) refl (choice (bytes_eq text (codes "from")) w.From (w.Other) refl (refl))))))))))))))))
+text_fine [] h text = refl
+text_fine (row ∷ rows) h text = let p : _ = and_parts (of_text (class row.1)) (all_of_texts rows) h in choice (bytes_eq text row.0) row.1 (by_text rows text) p.0 (text_fine rows p.1 text)
+
+short_fine : all_of_texts short_marks ≡ true
+unfolding class
+short_fine = refl
+
+long_fine : all_of_texts (long_marks modes.Text) ≡ true
+unfolding class
+long_fine = refl
+
+keywords_fine : all_of_texts keywords ≡ true
+unfolding class
+keywords_fine = refl
 
 mark_fine : (text : List ℕ) → OfText (mark_word modes.Text text)
-mark_fine [] = long_fine []
-mark_fine (c ∷ []) = short_fine c
-mark_fine (c ∷ d ∷ cs) = long_fine (c ∷ d ∷ cs)
+mark_fine [] = text_fine (long_marks modes.Text) long_fine []
+mark_fine (c ∷ []) = byte_fine short_marks short_fine c
+mark_fine (c ∷ d ∷ cs) = text_fine (long_marks modes.Text) long_fine (c ∷ d ∷ cs)
 
 word_fine : (word : PyWord) (text : List ℕ) (after : List PyToken) → OfText (word_by modes.Text word text after)
 unfolding class
 word_fine lexed.Name text after = refl
-word_fine lexed.Keyword text after = keyword_fine text
+word_fine lexed.Keyword text after = text_fine keywords keywords_fine text
 word_fine lexed.Number text after = refl
 word_fine lexed.Str text after = refl
 word_fine lexed.FStr text after = refl
@@ -53,16 +70,32 @@ word_fine lexed.Indent text after = refl
 word_fine lexed.Dedent text after = refl
 word_fine lexed.End text after = refl
 
-all_of_text : (ts : List PyToken) (k : ℕ) → OfText (token_at (items modes.Text ts) k).word
-unfolding items class
-all_of_text [] k = refl
-all_of_text (t ∷ ts) zero = word_fine (out-PyToken t).word (out-PyToken t).text ts
-all_of_text (t ∷ ts) (suc k) = all_of_text ts k
+item_fine : (word : PyWord) (I : Insides) (t : PyToken) (after : List PyToken) (i : Item) → IsItemBy word I modes.Text t after i → OfText i.word
+unfolding class
+item_fine lexed.FStr I t after i (inl h) = rw h.2 refl
+item_fine lexed.FStr I t after i (inr h) = rw h.1 refl
+item_fine lexed.Name I t after i h = rw h (word_fine (out-PyToken t).word (out-PyToken t).text after)
+item_fine lexed.Keyword I t after i h = rw h (word_fine (out-PyToken t).word (out-PyToken t).text after)
+item_fine lexed.Number I t after i h = rw h (word_fine (out-PyToken t).word (out-PyToken t).text after)
+item_fine lexed.Str I t after i h = rw h (word_fine (out-PyToken t).word (out-PyToken t).text after)
+item_fine lexed.Op I t after i h = rw h (word_fine (out-PyToken t).word (out-PyToken t).text after)
+item_fine lexed.Meta I t after i h = rw h (word_fine (out-PyToken t).word (out-PyToken t).text after)
+item_fine lexed.MetaDots I t after i h = rw h (word_fine (out-PyToken t).word (out-PyToken t).text after)
+item_fine lexed.Newline I t after i h = rw h (word_fine (out-PyToken t).word (out-PyToken t).text after)
+item_fine lexed.Indent I t after i h = rw h (word_fine (out-PyToken t).word (out-PyToken t).text after)
+item_fine lexed.Dedent I t after i h = rw h (word_fine (out-PyToken t).word (out-PyToken t).text after)
+item_fine lexed.End I t after i h = rw h (word_fine (out-PyToken t).word (out-PyToken t).text after)
 
--- each class of a token is of the mode
-pub all_of_mode : (mode : Mode) (ts : List PyToken) (k : ℕ) → of_mode mode (class (token_at (items mode ts) k).word) ≡ true
-all_of_mode modes.Text ts k = all_of_text ts k
-all_of_mode modes.Pattern ts k = refl
+all_of_text : (I : Insides) (ts : List PyToken) (is : List Item) → AreItems I modes.Text ts is → (k : ℕ) → OfText (token_at is k).word
+unfolding class
+all_of_text I [] is h k = rw h refl
+all_of_text I (t ∷ ts) is (i, more, is_item, are, e) zero = rw e (item_fine (out-PyToken t).word I t ts i is_item)
+all_of_text I (t ∷ ts) is (i, more, is_item, are, e) (suc k) = rw e (all_of_text I ts more are k)
+
+-- each class of an item is of the mode
+pub all_of_mode : (mode : Mode) (I : Insides) (ts : List PyToken) (is : List Item) → AreItems I mode ts is → (k : ℕ) → of_mode mode (class (token_at is k).word) ≡ true
+all_of_mode modes.Text I ts is h k = all_of_text I ts is h k
+all_of_mode modes.Pattern I ts is h k = refl
 
 -- and so is what stands behind the last one
 pub end_of_mode : (mode : Mode) → of_mode mode 0 ≡ true

@@ -11,28 +11,30 @@ use Rattle.node_tree.specs.Tree.{depth_of}
 use Rattle.grammar.specs.Rule.{has}
 use Rattle.grammar.specs.Check.{closes_runs}
 use Rattle.grammar.proofs.Facts.{none_some, some_pair}
-use Rattle.grammar.proofs.Theorem.{read_forward, read_run, run_read}
+use Rattle.grammar.proofs.Theorem.{read_piece, piece_read, read_run, run_read}
 use Rattle.py_expr.specs.declared.item.Item.{Item}
 use Rattle.py_expr.specs.declared.level.PyLevel.{PyLevel}
 use Rattle.py_expr.specs.Parts.{Part, whole, depth_all}
 use Rattle.py_expr.specs.Table.{Level, Exprs, Star, Named, Test, LambdaTest, Or, OrTail, And, AndTail, Not, Cmp, CmpTail, Cop, Bor, BorTail, Xor, XorTail, Band, BandTail, Shift, ShiftTail, Sum, SumTail, Term, TermTail, Unary, Power, Await, Prim, PrimTail, Suffix, Attr, Call, Sub, Atom, Strings, MoreStrings, StringsTail, Paren, Inner, Items, ListLit, Braces, FirstEntry, FirstValue, LaterEntry, LaterValue, Dotted, DottedTail, DotsLeaf, Pairs, DottedPairs, PairsTail, Pair, AfterPair, AfterFirstPair, Deep, Comprehension, ClausesTail, Clause, ForClause, Yield, Targs, Target, Index, Piece, SliceEnd, Bound, Args, FirstArg, Arg, PlainArg, Params, Param, Given, LambdaParams, LambdaParam, LambdaGiven, AfterStar, Stars, StarsTail, AfterItem, AfterTarget, Targets, TargetsTail, AfterPiece, Pieces, PiecesTail, AfterArg, AfterFirstArg, MoreArgs, MoreArgsTail, AfterParam, MoreParams, MoreParamsTail, AfterLambdaParam, MoreLambdaParams, MoreLambdaParamsTail, grammar}
-use Rattle.py_expr.specs.Build.{source}
+use Rattle.py_expr.specs.Build.{source, end_item}
+use Rattle.py_expr.specs.Words.{class}
 use Rattle.py_expr.specs.Sets.{sets, ranks}
 use Rattle.py_expr.specs.Reading.{level, one, round_at}
 use Rattle.node_tree.specs.Gives.{Gives}
-use Rattle.py_expr.specs.Runs.{of_mode, level_at, IsRunTree, AreOf}
+use Rattle.py_expr.specs.Runs.{of_mode, level_at, IsRunTree, IsTree, AreOf}
 use Rattle.py_expr.proofs.Passes.{pass}
 use Rattle.py_expr.proofs.Closes.{close_text, close_pattern}
 use Rattle.py_expr.proofs.Depths.{deepens}
 use Rattle.py_lex.specs.declared.token.PyToken.{PyToken}
-use Rattle.py_expr.specs.Items.{items}
-use Rattle.py_expr.proofs.Modes.{end_of_mode, all_of_mode}
+use Rattle.py_expr.specs.Items.{Insides, AreItems}
+use Rattle.py_expr.specs.Insides.{HasNodes, IsWhole}
+use Rattle.py_expr.proofs.Modes.{end_of_mode}
 
-close : (mode : Mode) (l : Level) → closes_runs grammar sets ranks (of_mode mode) 36 l ≡ true
+pub close : (mode : Mode) (l : Level) → closes_runs grammar sets ranks (of_mode mode) 36 l ≡ true
 close modes.Text l = close_text l
 close modes.Pattern l = close_pattern l
 
-shut_level : (l : Level) → ranks.shut l ≡ true
+pub shut_level : (l : Level) → ranks.shut l ≡ true
 shut_level Exprs = refl
 shut_level Star = refl
 shut_level Named = refl
@@ -145,10 +147,6 @@ pub tree_is_read : (mode : Mode) (ts : List Item) (l : PyLevel) (from : ℕ) (n 
 unfolding level
 tree_is_read mode ts l from n to all r = run_read grammar sets ranks pass depth_all (source ts) (deepens ts) (suc (length ts)) (of_mode mode) 36 (close mode) (level_at l) (whole n ∷ []) from to (shut_level (level_at l)) (end_of_mode mode) all r.run (omega (arith, r.within))
 
-pub forward : (ts : List Item) (l : PyLevel) (from : ℕ) (n : Node) (to : ℕ) → level ts 1002 (level_at l) from ≡ Some (whole n ∷ [], to) → from ≤ to
-unfolding level
-forward ts l from n to h = read_forward grammar sets ranks pass depth_all (source ts) (deepens ts) (suc (length ts)) 1002 (level_at l) (whole n ∷ []) from to h
-
 -- two answers of the reader are one
 pub one_tree : (mode : Mode) (ts : List Item) (l : PyLevel) (from : ℕ) (n m : Node) (i j : ℕ) → AreOf mode ts → IsRunTree mode ts l from n i → level ts 1002 (level_at l) from ≡ Some (whole m ∷ [], j) → (n ≡ m) × (i ≡ j)
 one_tree mode ts l from n m i j all r h = let p : _ = some_pair (whole n ∷ []) (whole m ∷ []) i j (sym (tree_is_read mode ts l from n i all r) ∙ h) in (head_of p.0, p.1)
@@ -159,14 +157,15 @@ one_tree mode ts l from n m i j all r h = let p : _ = some_pair (whole n ∷ [])
 pub tree_is_shallow : (mode : Mode) (ts : List Item) (l : PyLevel) (from : ℕ) (n : Node) (to : ℕ) → IsRunTree mode ts l from n to → depth_of n ≤ 500
 tree_is_shallow mode ts l from n to r = omega (arith, r.run.piece.shallow)
 
-pub tree_is_bracketed : (mode : Mode) (ts : List Item) (l : PyLevel) (from : ℕ) (n : Node) (to : ℕ) → IsRunTree mode ts l from n to → (k : ℕ) → from ≤ k → k < to → round_at ts from k ≤ 500
-unfolding round_at
-tree_is_bracketed mode ts l from n to r k a b = r.run.piece.few_brackets k a b
-
 -- a fault that comes although there is a tree is want of memory
 pub fails_still : {X Y : Type 0} (view : X → Y) (e : ReadFault) (o : Option Y) (y : Y) (x : X) → Gives view (Err e) o → o ≡ Some y → Gives (λ (z : X). z) (Err e) (Some x)
 fails_still view faults.Memory o y x f h = tt
 fails_still view faults.NoTree o y x f h = absurd (none_some y (sym f ∙ h))
+
+-- a fault that isn't want of memory says that nothing is read
+pub nothing_read : {X Y : Type 0} (view : X → Y) (e : ReadFault) (o : Option Y) (y : Y) → e ≡ faults.NoTree → Gives view (Err e) o → o ≡ Some y → ⊥
+nothing_read view faults.Memory o y h g k = cc
+nothing_read view faults.NoTree o y h g k = none_some y (sym g ∙ k)
 
 pub leb_true : (a b : ℕ) → leb a b ≡ true → a ≤ b
 leb_true a b h = grind arith
@@ -174,24 +173,57 @@ leb_true a b h = grind arith
 pub same_answer : (n m : Node) (i j : ℕ) → (n ≡ m) × (i ≡ j) → ◌≡◌ {A = Option (Node × ℕ)} (Some (n, i)) (Some (m, j))
 same_answer n m i j e = rw (e.0, e.1) refl
 
+-- ---- all the items
+
+-- all the items are an expression where they are read so
+pub read_is_whole : (ts : List Item) (n : Node) (to : ℕ) → level ts 1002 Exprs 0 ≡ Some (whole n ∷ [], to) → to ≡ length ts → depth_of n ≤ 500 → ((k : ℕ) → 0 ≤ k → k < to → round_at ts 0 k ≤ 500) → IsWhole ts n
+unfolding level round_at
+read_is_whole ts n to h e shallow few = rw (← e) (read_piece grammar sets ranks pass depth_all (source ts) (deepens ts) (suc (length ts)) 1002 Exprs (whole n ∷ []) 0 to h (omega (arith, shallow)) few)
+
+-- and are read so where they are one
+pub whole_is_read : (ts : List Item) (n : Node) → IsWhole ts n → level ts 1002 Exprs 0 ≡ Some (whole n ∷ [], length ts)
+unfolding level class
+whole_is_read ts n r = piece_read grammar sets ranks pass depth_all (source ts) (deepens ts) (suc (length ts)) Exprs (whole n ∷ []) 0 (length ts) r (rw (get_or_past ts (length ts) end_item (omega arith)) refl) (omega arith)
+
+-- so there is one such expression at most
+pub one_whole : (ts : List Item) (n m : Node) (to : ℕ) → IsWhole ts n → level ts 1002 Exprs 0 ≡ Some (whole m ∷ [], to) → (n ≡ m) × (length ts ≡ to)
+one_whole ts n m to r h = let p : _ = some_pair (whole n ∷ []) (whole m ∷ []) (length ts) to (sym (whole_is_read ts n r) ∙ h) in (head_of p.0, p.1)
+  where
+    head_of : whole n ∷ [] ≡ whole m ∷ [] → n ≡ m
+    head_of e = cc
+
+pub whole_is_shallow : (ts : List Item) (n : Node) → IsWhole ts n → depth_of n ≤ 500
+whole_is_shallow ts n r = omega (arith, r.shallow)
+
+pub whole_is_bracketed : (ts : List Item) (n : Node) (k : ℕ) → IsWhole ts n → k < length ts → round_at ts 0 k ≤ 500
+unfolding round_at
+whole_is_bracketed ts n k r h = r.few_brackets k (omega arith) h
+
 -- ---- from the tokens
 
-pub items_length : (mode : Mode) (ts : List PyToken) → length (items mode ts) ≡ length ts
-unfolding items
-items_length mode [] = refl
-items_length mode (t ∷ ts) = ap suc (items_length mode ts)
+pub items_length : (I : Insides) (mode : Mode) (ts : List PyToken) (is : List Item) → AreItems I mode ts is → length is ≡ length ts
+items_length I mode [] is h = rw h refl
+items_length I mode (t ∷ ts) is (i, more, is_item, are, e) = ap length e ∙ ap suc (items_length I mode ts more are)
 
-pub from_within : (mode : Mode) (ts : List PyToken) (is : List Item) (from : ℕ) → is ≡ items mode ts → from < length ts → from ≤ length is
-from_within mode ts is from e h = rw e (omega (arith, h, items_length mode ts))
+pub from_within : (I : Insides) (mode : Mode) (ts : List PyToken) (is : List Item) (from : ℕ) → AreItems I mode ts is → from < length ts → from ≤ length is
+from_within I mode ts is from are h = omega (arith, h, items_length I mode ts is are)
 
-pub all_here : (mode : Mode) (ts : List PyToken) (is : List Item) → is ≡ items mode ts → AreOf mode is
-all_here mode ts is e = rw e (all_of_mode mode ts)
+-- What is made of tokens: these items, and no others.
+pub record AreMade (mode : Mode) (ts : List PyToken) (is : List Item) : Type 0 where
+  pub are : AreItems (HasNodes 500 mode) mode ts is
+  pub only : (js : List Item) → AreItems (HasNodes 500 mode) mode ts js → js ≡ is
 
-pub tree_here : (mode : Mode) (ts : List PyToken) (is : List Item) (l : PyLevel) (from : ℕ) (n : Node) (to : ℕ) → is ≡ items mode ts → IsRunTree mode (items mode ts) l from n to → IsRunTree mode is l from n to
-tree_here mode ts is l from n to e r = rw e r
+-- the same, as other variables have them
+pub are_made : (mode : Mode) (ts us : List PyToken) (is js : List Item) → us ≡ ts → js ≡ is → AreItems (HasNodes 500 mode) mode us is → ((ks : List Item) → AreItems (HasNodes 500 mode) mode us ks → ks ≡ is) → AreMade mode ts js
+are_made mode ts us is js e h are only = let m : AreMade mode us is = record { are = are; only = only } in rw h (rw e at m)
 
-pub tree_there : (mode : Mode) (ts : List PyToken) (is : List Item) (l : PyLevel) (from : ℕ) (n : Node) (i j : ℕ) → is ≡ items mode ts → i ≡ j → IsRunTree mode is l from n i → IsRunTree mode (items mode ts) l from n j
-tree_there mode ts is l from n i j e h r = rw (← h) (rw e at r)
+-- the tree of the items is that of the tokens
+pub tree_of_tokens : (mode : Mode) (ts : List PyToken) (is : List Item) (l : PyLevel) (from : ℕ) (n : Node) (i j : ℕ) → AreMade mode ts is → i ≡ j → IsRunTree mode is l from n i → IsTree mode ts l from n j
+tree_of_tokens mode ts is l from n i j are h r = record { items = is; are = are.are; reads = rw (← h) r }
+
+-- the items of the tree are those that were made
+pub tree_of_items : (mode : Mode) (ts : List PyToken) (is : List Item) (l : PyLevel) (from : ℕ) (n : Node) (to : ℕ) → AreMade mode ts is → IsTree mode ts l from n to → IsRunTree mode is l from n to
+tree_of_items mode ts is l from n to are r = rw (← are.only r.items r.are) r.reads
 
 pub answer_there : (n m : Node) (i j k : ℕ) → j ≡ k → ◌≡◌ {A = Option (Node × ℕ)} (Some (n, i)) (Some (m, j)) → ◌≡◌ {A = Option (Node × ℕ)} (Some (n, i)) (Some (m, k))
 answer_there n m i j k h e = rw h at e

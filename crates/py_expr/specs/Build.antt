@@ -9,12 +9,12 @@ use Rattle.py_expr.specs.declared.item.Item.{Item}
 use Rattle.py_expr.specs.declared.word.Word.{Word}
 use Rattle.py_expr.specs.declared.word.Word.TheVariants as w
 use Rattle.py_expr.specs.Words.{class}
-use Rattle.py_expr.specs.Strings.{shown_string}
+use Rattle.py_expr.specs.Strings.{shown_string, shown_prefix}
 use Rattle.py_expr.specs.Parts.{Part, whole, lacking, call, more, clauses, display, sign, bounds, node, nodes_of}
 use Rattle.py_expr.specs.Table.{Leaf, Own, Ident, Operator, Builder, Over, Signed, Lacking, SignedLacking, Chain, Joint, Further, Clauses, Grouped, Listed, ListOf, Braced, Entry, PairEntry, Undecided, Lambda, Conditional, Compared, Joined, Called, Sign, Yielded, Bounds, Slice, Sliced, Parameter, SignedParameter}
 
 abbrev pub end_item : Item
-end_item = record { word = w.Other; text = []; span = record { from = 0; to = 0 } }
+end_item = record { word = w.Other; text = []; span = record { from = 0; to = 0 }; inside = [] }
 
 -- the token that stands there, or the end
 abbrev pub token_at : List Item → ℕ → Item
@@ -45,7 +45,7 @@ abbrev pub ident_kind : Word → Kind
 ident_kind w.Name = k.Id
 ident_kind word = kind_of word
 
--- the text of that node: as written, and of a string its prefix, a quote and its content
+-- the text of that node: as written, of a string its prefix, a quote and its content, and of an f-string its prefix
 abbrev pub shown : Word → List ℕ → List ℕ
 shown w.Name text = text
 shown w.Meta text = text
@@ -53,10 +53,11 @@ shown w.Number text = text
 shown w.Const text = text
 shown w.MetaDots text = text
 shown w.Str text = shown_string text
+shown w.FStr text = shown_prefix text
 shown _ text = []
 
 abbrev pub leaf_of : Kind → Item → Node
-leaf_of kind t = roll-Node (record { kind = kind; text = shown t.word t.text; kids = []; span = t.span })
+leaf_of kind t = roll-Node (record { kind = kind; text = shown t.word t.text; kids = t.inside; span = t.span })
 
 abbrev pub leaf : Leaf → Item → Part
 leaf Own t = whole (leaf_of (kind_of t.word) t)

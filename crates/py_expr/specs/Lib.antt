@@ -6,4 +6,5 @@ pub mod Table
 pub mod Build
 pub mod Sets
 pub mod Reading
+pub mod Insides
 pub mod Runs

@@ -10,7 +10,8 @@ use Rattle.py_expr.specs.declared.word.Word.TheVariants as w
 use Rattle.py_expr.specs.declared.level.PyLevel.{PyLevel}
 use Rattle.py_expr.specs.declared.level.PyLevel.TheVariants as levels
 use Rattle.py_expr.specs.Words.{class}
-use Rattle.py_expr.specs.Items.{items}
+use Rattle.py_expr.specs.Items.{AreItems}
+use Rattle.py_expr.specs.Insides.{HasNodes}
 use Rattle.py_expr.specs.Parts.{whole, depth_all}
 use Rattle.py_expr.specs.Table.{Level, Exprs, Star, Named, Test, Or, And, Not, Cmp, Bor, Unary, Power, Await, Prim, Atom, Yield, Targs, Target, Params, Args, grammar}
 use Rattle.py_expr.specs.Build.{token_at, source}
@@ -57,9 +58,11 @@ pub record IsRunTree (mode : Mode) (ts : List Item) (l : PyLevel) (from : ℕ) (
   pub within : to ≤ length ts
   pub run : IsRun grammar (of_mode mode) depth_all (source ts) (level_at l) (whole tree ∷ []) from to
 
--- the same of tokens
-abbrev pub IsTree : Mode → List PyToken → PyLevel → ℕ → Node → ℕ → Type 0
-IsTree mode ts l from tree to = IsRunTree mode (items mode ts) l from tree to
+-- The same of tokens, where at most 500 f-strings stand within one another.
+pub record IsTree (mode : Mode) (ts : List PyToken) (l : PyLevel) (from : ℕ) (tree : Node) (to : ℕ) : Type 0 where
+  pub items : List Item
+  pub are : AreItems (HasNodes 500 mode) mode ts items
+  pub reads : IsRunTree mode items l from tree to
 
 -- each item has a word of the mode
 abbrev pub AreOf : Mode → List Item → Type 0

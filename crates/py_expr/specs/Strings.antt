@@ -35,5 +35,8 @@ between bs from to = if leb from to && ltb to (length bs) && ltb (get_or bs (fro
 abbrev pub content : List ℕ → ℕ → ℕ → List ℕ
 content text start width = between text (start + width) (length text - width)
 
+abbrev pub shown_prefix : List ℕ → List ℕ
+shown_prefix text = prefix (take (quote_at text) text)
+
 abbrev pub shown_string : List ℕ → List ℕ
-shown_string text = prefix (take (quote_at text) text) ++ 34 ∷ content text (quote_at text) (quote_width (drop (quote_at text) text))
+shown_string text = shown_prefix text ++ 34 ∷ content text (quote_at text) (quote_width (drop (quote_at text) text))

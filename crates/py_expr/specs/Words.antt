@@ -63,9 +63,18 @@ class From = 47
 class DeepOpen = 48
 class DeepClose = 49
 
--- the word of a mark of one byte
-abbrev pub short_mark : ℕ → Word
-short_mark c = if c == 40 then LeftRound else (if c == 41 then RightRound else (if c == 91 then LeftSquare else (if c == 93 then RightSquare else (if c == 123 then LeftBrace else (if c == 125 then RightBrace else (if c == 44 then Comma else (if c == 58 then Colon else (if c == 46 then Dot else (if c == 61 then Equal else (if c == 42 then Times else (if c == 47 then Slash else (if c == 37 then Factor else (if c == 64 then Factor else (if c == 43 then Sign else (if c == 45 then Sign else (if c == 126 then Tilde else (if c == 38 then Ampersand else (if c == 94 then Caret else (if c == 124 then Bar else (if c == 60 then Compare else (if c == 62 then Compare else Other)))))))))))))))))))))
+-- what stands for a spelling in a list of pairs, or the word of no expression
+abbrev pub by_byte : List (ℕ × Word) → ℕ → Word
+by_byte [] c = Other
+by_byte (row ∷ rows) c = if c == row.0 then row.1 else by_byte rows c
+
+abbrev pub by_text : List (List ℕ × Word) → List ℕ → Word
+by_text [] text = Other
+by_text (row ∷ rows) text = if bytes_eq text row.0 then row.1 else by_text rows text
+
+-- the marks of one byte, by its number in ASCII: ( ) [ ] { } , : . = * / % @ + - ~ & ^ | < >
+abbrev pub short_marks : List (ℕ × Word)
+short_marks = (40, LeftRound) ∷ (41, RightRound) ∷ (91, LeftSquare) ∷ (93, RightSquare) ∷ (123, LeftBrace) ∷ (125, RightBrace) ∷ (44, Comma) ∷ (58, Colon) ∷ (46, Dot) ∷ (61, Equal) ∷ (42, Times) ∷ (47, Slash) ∷ (37, Factor) ∷ (64, Factor) ∷ (43, Sign) ∷ (45, Sign) ∷ (126, Tilde) ∷ (38, Ampersand) ∷ (94, Caret) ∷ (124, Bar) ∷ (60, Compare) ∷ (62, Compare) ∷ []
 
 -- a word that patterns alone have
 abbrev pub in_pattern : Mode → Word → Word
@@ -76,19 +85,17 @@ abbrev pub dots_word : Mode → Word
 dots_word Text = Ellipsis
 dots_word Pattern = Dots
 
--- the word of a mark of several bytes
-abbrev pub long_mark : Mode → List ℕ → Word
-long_mark mode text =
-    if bytes_eq text (codes ":=") then Walrus else (if bytes_eq text (codes "**") then Power else (if bytes_eq text (codes "//") then Factor else (if bytes_eq text (codes "==") then Compare else (if bytes_eq text (codes "!=") then Compare else (if bytes_eq text (codes "<=") then Compare else (if bytes_eq text (codes ">=") then Compare else (if bytes_eq text (codes "<<") then Shift else (if bytes_eq text (codes ">>") then Shift else (if bytes_eq text (codes "...") then dots_word mode else (if bytes_eq text (codes "<...") then in_pattern mode DeepOpen else (if bytes_eq text (codes "...>") then in_pattern mode DeepClose else Other)))))))))))
+-- the marks of several bytes
+abbrev pub long_marks : Mode → List (List ℕ × Word)
+long_marks mode = (codes ":=", Walrus) ∷ (codes "**", Power) ∷ (codes "//", Factor) ∷ (codes "==", Compare) ∷ (codes "!=", Compare) ∷ (codes "<=", Compare) ∷ (codes ">=", Compare) ∷ (codes "<<", Shift) ∷ (codes ">>", Shift) ∷ (codes "...", dots_word mode) ∷ (codes "<...", in_pattern mode DeepOpen) ∷ (codes "...>", in_pattern mode DeepClose) ∷ []
 
 abbrev pub mark_word : Mode → List ℕ → Word
-mark_word mode (c ∷ []) = short_mark c
-mark_word mode text = long_mark mode text
+mark_word mode (c ∷ []) = by_byte short_marks c
+mark_word mode text = by_text (long_marks mode) text
 
--- the word of a keyword
-abbrev pub keyword_word : List ℕ → Word
-keyword_word text =
-    if bytes_eq text (codes "in") then In else (if bytes_eq text (codes "is") then Is else (if bytes_eq text (codes "not") then Not else (if bytes_eq text (codes "and") then And else (if bytes_eq text (codes "or") then Or else (if bytes_eq text (codes "if") then If else (if bytes_eq text (codes "else") then Else else (if bytes_eq text (codes "None") then Const else (if bytes_eq text (codes "True") then Const else (if bytes_eq text (codes "False") then Const else (if bytes_eq text (codes "lambda") then Lambda else (if bytes_eq text (codes "for") then For else (if bytes_eq text (codes "async") then Async else (if bytes_eq text (codes "await") then Await else (if bytes_eq text (codes "yield") then Yield else (if bytes_eq text (codes "from") then From else Other)))))))))))))))
+-- the keywords of expressions
+abbrev pub keywords : List (List ℕ × Word)
+keywords = (codes "in", In) ∷ (codes "is", Is) ∷ (codes "not", Not) ∷ (codes "and", And) ∷ (codes "or", Or) ∷ (codes "if", If) ∷ (codes "else", Else) ∷ (codes "None", Const) ∷ (codes "True", Const) ∷ (codes "False", Const) ∷ (codes "lambda", Lambda) ∷ (codes "for", For) ∷ (codes "async", Async) ∷ (codes "await", Await) ∷ (codes "yield", Yield) ∷ (codes "from", From) ∷ []
 
 -- a string whose content is `...` and that has no prefix but `u`
 abbrev pub dots_strings : List (List ℕ)
@@ -133,7 +140,7 @@ before_dots Pattern word after = word
 abbrev pub word_by : Mode → PyWord → List ℕ → List PyToken → Word
 word_by mode lexed.Name text after = Name
 word_by mode lexed.Number text after = Number
-word_by mode lexed.Keyword text after = keyword_word text
+word_by mode lexed.Keyword text after = by_text keywords text
 word_by mode lexed.Str text after = string_word mode text
 word_by mode lexed.Op text after = before_dots mode (mark_word mode text) after
 word_by mode lexed.Meta text after = in_pattern mode Meta

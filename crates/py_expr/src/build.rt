@@ -8,9 +8,9 @@ ghost use Rattle.py_expr.specs.Build as build;
 ghost use Rattle.py_expr.specs.Reading as reading;
 
 use crate::item::Item;
-use crate::strings::shown_string;
+use crate::strings::{shown_prefix, shown_string};
 use crate::word::Word;
-use node_tree::{Kind, List, Memory, Node, Span, Text};
+use node_tree::{Kind, List, Memory, Node, Span, Text, Twin};
 use std::alloc::Global;
 
 /// How many first kids below one another make a tree too deep.
@@ -173,6 +173,7 @@ fn shown(alloc: Global, word: Word, text: &str) -> Result<Text, Memory>
             Text::from_str(alloc, text)
         }
         Word::Str => shown_string(alloc, text),
+        Word::FStr => shown_prefix(alloc, text),
         _ => Ok(Text::new(alloc)),
     }
 }
@@ -184,7 +185,7 @@ fn leaf_of(alloc: Global, kind: Kind, item: &Item<'_>) -> Result<Node, Memory>
     Ok(Node {
         kind,
         text: shown(alloc, item.word, item.text.as_str())?,
-        kids: List::new(alloc),
+        kids: item.inside.copy()?,
         span: item.span,
     })
 }

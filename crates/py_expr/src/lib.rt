@@ -5,6 +5,7 @@
 #![tactic(auto)]
 
 mod build;
+mod inside;
 mod item;
 mod level;
 mod limits;

@@ -1,6 +1,6 @@
 //! The limits of what is read.
 
-ghost use Rattle.std.specs.Prelude.{◌≡◌, ℕ, ◌<◌, ◌≤◌, true, false, length, leb};
+ghost use Rattle.std.specs.Prelude.{◌≡◌, ℕ, ◌<◌, ◌≤◌, length, leb};
 ghost use Rattle.node_tree.specs.Tree.{depth_of};
 ghost use Rattle.grammar.specs.Rule.{behind};
 ghost use Rattle.py_expr.specs.Words.{class};
@@ -27,25 +27,27 @@ fn open_behind(word: Word, count: u32) -> u32
     }
 }
 
-/// Whether no token between the places stands inside more than 500 brackets.
+/// The first place from this one on whose token stands inside more than 500 brackets, or the end: no run within the limits
+/// comes as far.
 #[tactic(auto, using(crate::proofs::Counting::open_next, crate::proofs::Counting::open_start, crate::proofs::Counting::round_is))]
-pub fn few_brackets(items: &[Item<'_>], from: usize, to: usize) -> bool
-    requires ordered { from ≤ to }
-    requires within { to ≤ length items.now }
-    ensures few { result ≡ true → (n : ℕ) → from ≤ n → n < to → round_at items.now from n ≤ 500 }
-    ensures many { result ≡ false → (n : ℕ) × (from ≤ n) × (n < to) × (500 < round_at items.now from n) }
+pub fn shallow_end(items: &[Item<'_>], from: usize) -> usize
+    requires { from ≤ length items.now }
+    ensures ordered { from ≤ result }
+    ensures within { result ≤ length items.now }
+    ensures few { (n : ℕ) → from ≤ n → n < result → round_at items.now from n ≤ 500 }
+    ensures many { result < length items.now → 500 < round_at items.now from result }
 {
     let mut count = 0;
-    for at in from..to {
+    for at in from..items.len() {
         let next = open_behind(items[at].word, count);
         if count > LIMIT {
             if next > LIMIT {
-                return false;
+                return at;
             }
         }
         count = next;
     }
-    true
+    items.len()
 }
 
 /// Whether a tree is at most so deep.

@@ -5,13 +5,15 @@ ghost use Rattle.node_tree.specs.declared.node.Node.{Node as node};
 ghost use Rattle.node_tree.specs.Gives.{Gives};
 ghost use Rattle.py_expr.specs.Reading as reading;
 ghost use Rattle.node_tree.specs.declared.view.Mode.{Mode as mode_of};
+ghost use Rattle.py_expr.specs.Insides.{Finds, IsWhole};
 ghost use Rattle.py_expr.specs.Runs.{IsTree, IsRunTree, AreOf, level_at};
 
-use crate::item::{Item, items};
+use crate::inside::items;
+use crate::item::Item;
 use crate::level::{Binary, PyLevel};
-use crate::limits::{LIMIT, few_brackets, is_shallow};
+use crate::limits::{LIMIT, is_shallow, shallow_end};
 use crate::read;
-use node_tree::{List, Mode, Node, ReadFault};
+use node_tree::{List, Memory, Mode, Node, ReadFault};
 use py_lex::PyToken;
 use std::alloc::Global;
 
@@ -63,14 +65,34 @@ fn read_items(
     ensures found { IfOk result (λ x. (mode : mode_of) → IsRunTree mode items.now level from x.0 x.1) }
     ensures only { (mode : mode_of) (n : node) (to : ℕ) → AreOf mode items.now → IsRunTree mode items.now level from n to → Gives (λ x. x) result (Some (n, to)) }
 {
-    let (node, end) = at_level(alloc, items, level, from)?;
+    let shallow = &items[..shallow_end(items, from)];
+    let (node, end) = at_level(alloc, shallow, level, from)?;
     if !is_shallow(&node, LIMIT) {
         return Err(ReadFault::NoTree);
     }
-    if !few_brackets(items, from, end) {
-        return Err(ReadFault::NoTree);
-    }
     Ok((node, end))
+}
+
+/// The expression that all the items are, if they are one.
+pub fn whole(alloc: Global, items: &[Item<'_>]) -> Result<Option<Node>, Memory>
+    ensures { IfOk result (Finds (IsWhole items.now)) }
+{
+    if shallow_end(items, 0) < items.len() {
+        return Ok(None);
+    }
+    match at_level(alloc, items, PyLevel::Exprs, 0) {
+        Ok((node, end)) => {
+            if end < items.len() {
+                return Ok(None);
+            }
+            if !is_shallow(&node, LIMIT) {
+                return Ok(None);
+            }
+            Ok(Some(node))
+        }
+        Err(ReadFault::NoTree) => Ok(None),
+        Err(ReadFault::Memory) => Err(Memory),
+    }
 }
 
 /// Reads the closed run of a level of Python's expressions that begins at the token `from`: its tree, and the number of the
@@ -81,7 +103,9 @@ fn read_items(
 /// (`Meta`) and `<... exprs ...>` (`Deep`) are atoms, and the string `"..."` is a `StrAny`. Spans are in bytes, from 0.
 ///
 /// NoTree comes exactly where no closed run of the level begins at `from` whose tree is at most 500 deep and none of whose
-/// tokens stands inside more than 500 open brackets of the run. No f-string is read so far: one stands in no expression.
+/// tokens stands inside more than 500 open brackets of the run.
+/// The expression in a field of an f-string is read by itself, within the same limits; an f-string with a field that has no
+/// tree stands in no expression.
 pub fn read_py(
     alloc: Global,
     tokens: &List<PyToken>,
@@ -95,7 +119,7 @@ pub fn read_py(
     // Each closed run is what is read, unless memory runs out. So there is at most one.
     ensures only { (n : node) (to : ℕ) → IsTree mode tokens.now level from n to → Gives (λ x. x) result (Some (n, to)) }
 {
-    let items = items(alloc, mode, tokens.as_slice())?;
+    let items = items(alloc, mode, tokens.as_slice(), LIMIT)?;
     let (node, end) = read_items(alloc, items.as_slice(), from as usize, level)?;
     let Ok(end) = u32::try_from(end) else {
         return Err(ReadFault::Memory);

@@ -79,18 +79,27 @@ fn push_letter(text: &mut Text, letter: &str, stands: bool) -> Result<(), Memory
     Ok(())
 }
 
-/// The text of a string's node: its prefix in small letters, sorted and without `u`, a quote, and its content as written.
+/// The prefix of a string, in small letters, sorted and without `u`.
+pub fn shown_prefix(alloc: Global, text: &str) -> Result<Text, Memory>
+    ensures { IfOk result (λ shown. shown ≡ spec.shown_prefix text.now) }
+{
+    let bytes = text.as_bytes();
+    let prefix = &bytes[..quote_at(bytes)];
+    let mut shown = Text::new(alloc);
+    push_letter(&mut shown, "b", has_letter(b'b', b'B', prefix))?;
+    push_letter(&mut shown, "f", has_letter(b'f', b'F', prefix))?;
+    push_letter(&mut shown, "r", has_letter(b'r', b'R', prefix))?;
+    Ok(shown)
+}
+
+/// The text of a string's node: its prefix, a quote, and its content as written.
 pub fn shown_string(alloc: Global, text: &str) -> Result<Text, Memory>
     ensures { IfOk result (λ shown. shown ≡ spec.shown_string text.now) }
 {
     let bytes = text.as_bytes();
     let start = quote_at(bytes);
     let width = quote_width(&bytes[start..]);
-    let prefix = &bytes[..start];
-    let mut shown = Text::new(alloc);
-    push_letter(&mut shown, "b", has_letter(b'b', b'B', prefix))?;
-    push_letter(&mut shown, "f", has_letter(b'f', b'F', prefix))?;
-    push_letter(&mut shown, "r", has_letter(b'r', b'R', prefix))?;
+    let mut shown = shown_prefix(alloc, text)?;
     shown.push("\"")?;
     shown.push(between(text, start + width, text.len().saturating_sub(width)))?;
     Ok(shown)

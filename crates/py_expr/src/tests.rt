@@ -391,7 +391,6 @@ fn reads_no_run_that_the_next_token_goes_on_with(rt: HostRuntime) {
     }
     assert!(rt; !reads(&rt, "a not b", PyLevel::Cmp));
     assert!(rt; !reads(&rt, "a =", PyLevel::Args));
-    assert!(rt; !reads(&rt, "f'a'", PyLevel::Test));
 }
 
 // A text of so many pieces, then one, and then so many others.
@@ -411,6 +410,72 @@ fn repeated(
         text.push_str(back)?;
     }
     Ok(text)
+}
+
+#[test]
+fn reads_f_strings(rt: HostRuntime) {
+    use Kind::*;
+    assert!(rt;
+        is(
+            &rt,
+            "rF'a{b}' \"c\"",
+            PyLevel::Exprs,
+            Mode::Text,
+            &[
+                (StrJoin, "", 0, 12),
+                (FStr, "fr", 0, 8),
+                (FText, "a", 3, 4),
+                (FField, "", 4, 7),
+                (Name, "b", 5, 6),
+                (List, "", 4, 4),
+                (Str, "\"c", 9, 12)
+            ]
+        )
+    );
+    assert!(rt;
+        is(
+            &rt,
+            "f'{a + 1 = !r:{b}>3}'",
+            PyLevel::Exprs,
+            Mode::Text,
+            &[
+                (FStr, "f", 0, 21),
+                (FField, "!r", 2, 20),
+                (Binary, "+", 3, 8),
+                (Name, "a", 3, 4),
+                (Number, "1", 7, 8),
+                (List, "", 14, 19),
+                (FField, "", 14, 17),
+                (Name, "b", 15, 16),
+                (List, "", 14, 14),
+                (FText, ">3", 17, 19)
+            ]
+        )
+    );
+    assert!(rt;
+        is(
+            &rt,
+            "f'{$X}'",
+            PyLevel::Exprs,
+            Mode::Pattern,
+            &[
+                (FStr, "f", 0, 7),
+                (FField, "", 2, 6),
+                (Meta, "$X", 3, 5),
+                (List, "", 2, 2)
+            ]
+        )
+    );
+    assert!(rt; is(&rt, "f''", PyLevel::Exprs, Mode::Text, &[(FStr, "f", 0, 3)]));
+    // an f-string in a field of another, and a field whose brackets are its own
+    assert!(rt; reads(&rt, "f\"{f'{a}'}\"", PyLevel::Exprs));
+    assert!(rt; reads(&rt, "f'{[b, (c)]:{d}}'", PyLevel::Exprs));
+    // a field without an expression, of two, and with a yield
+    for text in ["f'{}'", "f'{=}'", "f'{a b}'", "f'{yield}'", "f'{lambda x: 1}'"] {
+        assert!(rt; !reads(&rt, text, PyLevel::Exprs));
+    }
+    // an f-string that has no tree goes on with nothing
+    assert!(rt; ends_at(&rt, "'a' f'{b c}'", PyLevel::Atom, 1));
 }
 
 #[test]

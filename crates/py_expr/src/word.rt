@@ -79,7 +79,7 @@ pub enum Word {
 
 /// The word of a mark of one byte.
 fn short_mark(byte: u8) -> Word
-    ensures { result ≡ spec.short_mark byte }
+    ensures { result ≡ spec.by_byte spec.short_marks byte }
 {
     match byte {
         b'(' => Word::LeftRound,
@@ -110,7 +110,7 @@ fn short_mark(byte: u8) -> Word
 
 /// The word of a mark of several bytes.
 fn long_mark(mode: Mode, text: &str) -> Word
-    ensures { result ≡ spec.long_mark mode text.now }
+    ensures { result ≡ spec.by_text (spec.long_marks mode) text.now }
 {
     match text {
         ":=" => Word::Walrus,
@@ -150,7 +150,7 @@ fn mark_word(mode: Mode, text: &str) -> Word
 
 /// The word of a keyword.
 fn keyword_word(text: &str) -> Word
-    ensures { result ≡ spec.keyword_word text.now }
+    ensures { result ≡ spec.by_text spec.keywords text.now }
 {
     match text {
         "in" => Word::In,

@@ -7,3 +7,4 @@ pub mod Inside
 pub mod Starts
 pub mod Parts
 pub mod Lexing
+pub mod Places
