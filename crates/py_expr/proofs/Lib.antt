@@ -13,3 +13,5 @@ pub mod Counting
 pub mod Modes
 pub mod Runs
 pub mod Prefix
+pub mod SpanBuilders
+pub mod Spans

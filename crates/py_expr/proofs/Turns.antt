@@ -1,5 +1,5 @@
 -- What levels read in parts: one more round of a loop, nothing where an operand is nothing, and a condition.
-use Rattle.std.proofs.Common.{◌≡◌, ℕ, zero, suc, ◌+◌, ◌-◌, ◌<◌, List, [], ◌∷◌, ◌++◌, refl, ◌∙◌, add-one, eqb, true, false, Option, Some, None}
+use Rattle.std.proofs.Common.{◌≡◌, ℕ, zero, suc, ◌+◌, ◌-◌, ◌<◌, List, [], ◌∷◌, ◌++◌, refl, ap, ◌∙◌, add-one, eqb, true, false, Option, Some, None}
 use Rattle.node_tree.specs.declared.node.Node.{Node}
 use Rattle.node_tree.specs.declared.kind.Kind.TheVariants as k
 use Rattle.grammar.specs.Rule.{has}
@@ -10,11 +10,11 @@ use Rattle.py_expr.specs.declared.level.Binary.{Binary}
 use Rattle.py_expr.specs.declared.level.Binary.TheVariants as binaries
 use Rattle.py_expr.specs.Words.{class}
 use Rattle.py_expr.specs.Parts.{Part, whole, lacking, sign, nodes_of, node}
-use Rattle.py_expr.specs.Table.{Test, Or, And, Not, Power, Await, Bor, Xor, Band, Shift, Sum, Term, Unary, Suffix, Cop}
+use Rattle.py_expr.specs.Table.{Test, Or, Power, Await, Bor, Unary, Suffix, Cop}
 use Rattle.py_expr.specs.Build.{token_at, end_of, chain_from, farther, attached, spine, too_deep, operators, spaced}
 use Rattle.py_expr.specs.Sets.{sets}
-use Rattle.py_expr.specs.Reading.{level, level_of, operand_of, operators_of}
-use Rattle.py_expr.proofs.Steps.{test_step, power_step, binary_step, binary_rest, binary_turn, prim_rest, prim_turn, cmp_rest, cmp_turn, push_more}
+use Rattle.py_expr.specs.Reading.{level, level_of, operand_of, operators_of, tightest_of, tighter_of}
+use Rattle.py_expr.proofs.Steps.{test_step, power_step, binary_step, binary_rest, binary_turn, binary_turned, prim_rest, prim_turn, cmp_rest, cmp_turn, push_more}
 
 pub one_before : (o : Option (List Part × ℕ)) (p : Part) (f : List Part → ℕ → List Part) → ◌>>=◌ {B = List Part × ℕ} (◌>>=◌ {B = List Part × ℕ} o (λ v. Some (p ∷ v.0, v.1))) (λ y. Some (f y.0 y.1, y.1)) ≡ ◌>>=◌ {B = List Part × ℕ} o (λ y. Some (f (p ∷ y.0) y.1, y.1))
 one_before None p f = refl
@@ -25,6 +25,13 @@ binary_round ts room b n i j from far first right h op read = rw (binary_turn ts
 
 pub binary_more : (ts : List Item) (room : ℕ) (b : Binary) (n m i j from far on : ℕ) (first right next : Node) → zero < n → m ≡ n - 1 → has (operators_of b) (class (token_at ts i).word) ≡ true → level ts room (operand_of b) (i + 1) ≡ Some (whole right ∷ [], j) → on ≡ farther far → next ≡ attached from far first (lacking k.Binary (token_at ts i).text (end_of ts j) (right ∷ [])) → ◌>>=◌ {B = List Part × ℕ} (binary_rest ts room b n i) (λ y. Some (whole (chain_from from far first y.0) ∷ [], y.1)) ≡ ◌>>=◌ {B = List Part × ℕ} (binary_rest ts room b m j) (λ y. Some (whole (chain_from from on next y.0) ∷ [], y.1))
 binary_more ts room b n m i j from far on first right next h less op read step node = rw (less, step, node) (binary_round ts room b n i j from far first right h op read)
+
+-- a loop that has no rounds left reads nothing, and so does its last round
+pub binary_over : (ts : List Item) (room : ℕ) (b : Binary) (n i from far : ℕ) (first : Node) → n ≡ zero → ◌>>=◌ {B = List Part × ℕ} (binary_rest ts room b n i) (λ y. Some (whole (chain_from from far first y.0) ∷ [], y.1)) ≡ None
+binary_over ts room b n i from far first h = rw (binary_turned ts room b n i h) refl
+
+pub binary_last : (ts : List Item) (room : ℕ) (b : Binary) (n i j from far : ℕ) (first right : Node) → zero < n → n - 1 ≡ zero → has (operators_of b) (class (token_at ts i).word) ≡ true → level ts room (operand_of b) (i + 1) ≡ Some (whole right ∷ [], j) → ◌>>=◌ {B = List Part × ℕ} (binary_rest ts room b n i) (λ y. Some (whole (chain_from from far first y.0) ∷ [], y.1)) ≡ None
+binary_last ts room b n i j from far first right h last op read = binary_round ts room b n i j from far first right h op read ∙ binary_over ts room b (n - 1) j from (farther far) (attached from far first (lacking k.Binary (token_at ts i).text (end_of ts j) (right ∷ []))) last
 
 prim_round : (ts : List Item) (room n i j from far : ℕ) (first : Node) (p : Part) → zero < n → has (sets.first Suffix) (class (token_at ts i).word) ≡ true → level ts room Suffix i ≡ Some (p ∷ [], j) → ◌>>=◌ {B = List Part × ℕ} (prim_rest ts room n i) (λ y. Some (whole (chain_from from far first y.0) ∷ [], y.1)) ≡ ◌>>=◌ {B = List Part × ℕ} (prim_rest ts room (n - 1) j) (λ y. Some (whole (chain_from from (farther far) (attached from far first p) y.0) ∷ [], y.1))
 prim_round ts room n i j from far first p h op read = rw (prim_turn ts room n i h) (rw op (rw read (one_before (prim_rest ts room (n - 1) j) p (λ ps to. whole (chain_from from far first ps) ∷ []))))
@@ -47,28 +54,54 @@ pub cmp_more : (ts : List Item) (room n l i j m from : ℕ) (text s texts : List
 cmp_more ts room n l i j m from text s texts kids all kid h less op sign_read read spelled pushed = rw (less, spelled, pushed) (cmp_round ts room n i j m from text s kids kid h op sign_read read)
 
 -- where an operand is nothing, so is its chain
-none_above : (ts : List Item) (room : ℕ) (b : Binary) (i : ℕ) → zero < room → level ts room (operand_of b) i ≡ None → level ts room (level_of b) i ≡ None
+some_same : {b c : Binary} → Some b ≡ Some c → b ≡ c
+some_same h = cc
+
+pub none_above : (ts : List Item) (room : ℕ) (b : Binary) (i : ℕ) → zero < room → level ts room (operand_of b) i ≡ None → level ts room (level_of b) i ≡ None
 none_above ts room b i h e = rw (binary_step ts room b i h) (rw e refl)
 
-pub and_none : (ts : List Item) (room i : ℕ) → zero < room → level ts room Not i ≡ None → level ts room And i ≡ None
-and_none ts room i h e = none_above ts room binaries.And i h e
+pub tightest_none : (ts : List Item) (room : ℕ) (b : Binary) (i : ℕ) → zero < room → level ts room (tightest_of b) i ≡ None → level ts room (operand_of b) i ≡ None
+tightest_none ts room binaries.And i h e = e
+tightest_none ts room binaries.Or i h e = none_above ts room binaries.And i h e
+tightest_none ts room binaries.Factor i h e = e
+tightest_none ts room binaries.Sign i h e = none_above ts room binaries.Factor i h e
+tightest_none ts room binaries.Shift i h e = none_above ts room binaries.Sign i h (none_above ts room binaries.Factor i h e)
+tightest_none ts room binaries.Ampersand i h e = none_above ts room binaries.Shift i h (none_above ts room binaries.Sign i h (none_above ts room binaries.Factor i h e))
+tightest_none ts room binaries.Caret i h e = none_above ts room binaries.Ampersand i h (none_above ts room binaries.Shift i h (none_above ts room binaries.Sign i h (none_above ts room binaries.Factor i h e)))
+tightest_none ts room binaries.Bar i h e = none_above ts room binaries.Caret i h (none_above ts room binaries.Ampersand i h (none_above ts room binaries.Shift i h (none_above ts room binaries.Sign i h (none_above ts room binaries.Factor i h e))))
 
-pub term_none : (ts : List Item) (room i : ℕ) → zero < room → level ts room Unary i ≡ None → level ts room Term i ≡ None
-term_none ts room i h e = none_above ts room binaries.Factor i h e
+-- the chain of the next tighter level is the operand
+pub tighter_none : (b : Binary) → tighter_of b ≡ None → tightest_of b ≡ operand_of b
+tighter_none binaries.Or h = absurd cc
+tighter_none binaries.And h = refl
+tighter_none binaries.Bar h = absurd cc
+tighter_none binaries.Caret h = absurd cc
+tighter_none binaries.Ampersand h = absurd cc
+tighter_none binaries.Shift h = absurd cc
+tighter_none binaries.Sign h = absurd cc
+tighter_none binaries.Factor h = refl
 
-pub sum_none : (ts : List Item) (room i : ℕ) → zero < room → level ts room Term i ≡ None → level ts room Sum i ≡ None
-sum_none ts room i h e = none_above ts room binaries.Sign i h e
+pub tighter_operand : (b c : Binary) → tighter_of b ≡ Some c → operand_of b ≡ level_of c
+tighter_operand binaries.Or c h = ap level_of (some_same h)
+tighter_operand binaries.And c h = absurd cc
+tighter_operand binaries.Bar c h = ap level_of (some_same h)
+tighter_operand binaries.Caret c h = ap level_of (some_same h)
+tighter_operand binaries.Ampersand c h = ap level_of (some_same h)
+tighter_operand binaries.Shift c h = ap level_of (some_same h)
+tighter_operand binaries.Sign c h = ap level_of (some_same h)
+tighter_operand binaries.Factor c h = absurd cc
 
-pub shift_none : (ts : List Item) (room i : ℕ) → zero < room → level ts room Sum i ≡ None → level ts room Shift i ≡ None
-shift_none ts room i h e = none_above ts room binaries.Shift i h e
+pub tighter_tightest : (b c : Binary) → tighter_of b ≡ Some c → tightest_of b ≡ tightest_of c
+tighter_tightest binaries.Or c h = ap tightest_of (some_same h)
+tighter_tightest binaries.And c h = absurd cc
+tighter_tightest binaries.Bar c h = ap tightest_of (some_same h)
+tighter_tightest binaries.Caret c h = ap tightest_of (some_same h)
+tighter_tightest binaries.Ampersand c h = ap tightest_of (some_same h)
+tighter_tightest binaries.Shift c h = ap tightest_of (some_same h)
+tighter_tightest binaries.Sign c h = ap tightest_of (some_same h)
+tighter_tightest binaries.Factor c h = absurd cc
 
-pub band_none : (ts : List Item) (room i : ℕ) → zero < room → level ts room Shift i ≡ None → level ts room Band i ≡ None
-band_none ts room i h e = none_above ts room binaries.Ampersand i h e
-
-pub xor_none : (ts : List Item) (room i : ℕ) → zero < room → level ts room Band i ≡ None → level ts room Xor i ≡ None
-xor_none ts room i h e = none_above ts room binaries.Caret i h e
-
-pub ruleset none_laws = (and_none, term_none, sum_none, shift_none, band_none, xor_none)
+pub ruleset tighter_laws = (tighter_none, tighter_operand, tighter_tightest, none_above)
 
 -- what stands behind an operand, with the node that is made of both
 pub test_read : (ts : List Item) (room i j m e : ℕ) (first condition last found : Node) → zero < room → eqb (class w.Lambda) (class (token_at ts i).word) ≡ false → level ts room Or i ≡ Some (whole first ∷ [], j) → eqb (class w.If) (class (token_at ts j).word) ≡ true → level ts room Or (j + 1) ≡ Some (whole condition ∷ [], m) → eqb (class w.Else) (class (token_at ts m).word) ≡ true → level ts (room - 1) Test (m + 1) ≡ Some (whole last ∷ [], e)

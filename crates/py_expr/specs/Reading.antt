@@ -106,6 +106,23 @@ operand_of binaries.Shift = Sum
 operand_of binaries.Sign = Term
 operand_of binaries.Factor = Unary
 
+-- what stands between the tightest operators that may stand in a chain of the level
+abbrev pub tightest_of : Binary → Level
+tightest_of binaries.Or = Not
+tightest_of binaries.And = Not
+tightest_of _ = Unary
+
+-- the next tighter level of operators, where there is one
+abbrev pub tighter_of : Binary → Option Binary
+tighter_of binaries.Or = Some binaries.And
+tighter_of binaries.And = None
+tighter_of binaries.Bar = Some binaries.Caret
+tighter_of binaries.Caret = Some binaries.Ampersand
+tighter_of binaries.Ampersand = Some binaries.Shift
+tighter_of binaries.Shift = Some binaries.Sign
+tighter_of binaries.Sign = Some binaries.Factor
+tighter_of binaries.Factor = None
+
 abbrev pub operators_of : Binary → List ℕ
 operators_of binaries.Or = class w.Or ∷ []
 operators_of binaries.And = class w.And ∷ []

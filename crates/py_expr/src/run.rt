@@ -1,8 +1,10 @@
 //! The public call: from tokens to the tree of a run.
 
-ghost use Rattle.std.specs.Prelude.{◌≡◌, ◌<◌, ◌≤◌, ℕ, length, IfOk, Some};
+ghost use Rattle.std.specs.Prelude.{◌≡◌, ◌<◌, ◌≤◌, ℕ, length, IfOk, List as list, Some};
 ghost use Rattle.node_tree.specs.declared.node.Node.{Node as node};
 ghost use Rattle.node_tree.specs.Gives.{Gives};
+ghost use Rattle.node_tree.specs.Spans.{SpansLieIn};
+ghost use Rattle.py_lex.specs.Places.{AreTokensIn};
 ghost use Rattle.py_expr.specs.Reading as reading;
 ghost use Rattle.node_tree.specs.declared.view.Mode.{Mode as mode_of};
 ghost use Rattle.py_expr.specs.Insides.{Finds, IsWhole};
@@ -116,6 +118,8 @@ pub fn read_py(
     requires { from < length tokens.now }
     // What is read is the closed run.
     ensures found { IfOk result (λ x. IsTree mode tokens.now level from x.0 x.1) }
+    // Its spans lie in each text in which the tokens lie.
+    ensures placed { (text : list ℕ) → AreTokensIn text tokens.now → IfOk result (λ x. SpansLieIn text x.0) }
     // Each closed run is what is read, unless memory runs out. So there is at most one.
     ensures only { (n : node) (to : ℕ) → IsTree mode tokens.now level from n to → Gives (λ x. x) result (Some (n, to)) }
 {

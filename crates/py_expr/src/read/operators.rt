@@ -156,7 +156,7 @@ fn some_params(
 
 /// `next {op next}`, from the left, for the operators of a level.
 #[cycle(reader)]
-#[tactic(auto, using(crate::proofs::Steps::binary_step, crate::proofs::Steps::level_none))]
+#[tactic(auto, using(crate::proofs::Turns::tightest_none, crate::proofs::Steps::binary_step, crate::proofs::Steps::level_none))]
 pub fn binary(
     alloc: Global,
     items: &[Item<'_>],
@@ -172,14 +172,14 @@ pub fn binary(
         return Err(ReadFault::NoTree);
     }
 
-    let (first, end) = operand(alloc, items, level, room, at)?;
+    let (first, end) = tightest(alloc, items, level, room, at)?;
+    let (first, end) = climbed(alloc, items, level, room, at, first, end)?;
     chained(alloc, items, level, room, at, first, end)
 }
 
-/// An operand of the operators of a level: the tightest of all, and then the chains of the tighter levels in turn.
+/// What stands between the tightest operators that may stand in a chain of this level.
 #[cycle(reader)]
-#[tactic(auto, using(crate::proofs::Turns::none_laws, crate::proofs::Steps::level_none))]
-fn operand(
+fn tightest(
     alloc: Global,
     items: &[Item<'_>],
     level: Binary,
@@ -188,45 +188,60 @@ fn operand(
 ) -> Result<(Node, usize), ReadFault>
     requires { at ≤ length items.now }
     ensures within { IfOk result (λ x. x.1 ≤ length items.now) }
+    ensures gives { Gives reading.one result (reading.level items.now room (reading.tightest_of level) at) }
+{
+    match level {
+        Binary::Or | Binary::And => not(alloc, items, room, at),
+        _ => unary(alloc, items, room, at),
+    }
+}
+
+/// The level of operators that are the next tighter ones, where there is one.
+fn tighter(level: Binary) -> Option<Binary>
+    ensures { result ≡ reading.tighter_of level }
+{
+    match level {
+        Binary::Or => Some(Binary::And),
+        Binary::Bar => Some(Binary::Caret),
+        Binary::Caret => Some(Binary::Ampersand),
+        Binary::Ampersand => Some(Binary::Shift),
+        Binary::Shift => Some(Binary::Sign),
+        Binary::Sign => Some(Binary::Factor),
+        Binary::And | Binary::Factor => None,
+    }
+}
+
+/// An operand of the operators of a level: the chains of the tighter levels in turn, behind what stands before the first
+/// of their operators.
+#[cycle(reader)]
+#[tactic(auto, using(crate::proofs::Turns::tighter_laws))]
+fn climbed(
+    alloc: Global,
+    items: &[Item<'_>],
+    level: Binary,
+    room: u32,
+    at: usize,
+    first: Node,
+    from: usize,
+) -> Result<(Node, usize), ReadFault>
+    requires here { from ≤ length items.now }
+    requires some { 0 < room }
+    requires read { reading.level items.now room (reading.tightest_of level) at ≡ Some (reading.one (first, from)) }
+    ensures within { IfOk result (λ x. x.1 ≤ length items.now) }
     ensures gives { Gives reading.one result (reading.level items.now room (reading.operand_of level) at) }
 {
-    if room == 0 {
-        return Err(ReadFault::NoTree);
+    match tighter(level) {
+        None => Ok((first, from)),
+        Some(inner) => {
+            let (first, end) = climbed(alloc, items, inner, room, at, first, from)?;
+            chained(alloc, items, inner, room, at, first, end)
+        }
     }
-
-    if let Binary::And = level {
-        return not(alloc, items, room, at);
-    }
-    if let Binary::Or = level {
-        let (first, end) = not(alloc, items, room, at)?;
-        return chained(alloc, items, Binary::And, room, at, first, end);
-    }
-    let (first, end) = unary(alloc, items, room, at)?;
-    if let Binary::Factor = level {
-        return Ok((first, end));
-    }
-    let (first, end) = chained(alloc, items, Binary::Factor, room, at, first, end)?;
-    if let Binary::Sign = level {
-        return Ok((first, end));
-    }
-    let (first, end) = chained(alloc, items, Binary::Sign, room, at, first, end)?;
-    if let Binary::Shift = level {
-        return Ok((first, end));
-    }
-    let (first, end) = chained(alloc, items, Binary::Shift, room, at, first, end)?;
-    if let Binary::Ampersand = level {
-        return Ok((first, end));
-    }
-    let (first, end) = chained(alloc, items, Binary::Ampersand, room, at, first, end)?;
-    if let Binary::Caret = level {
-        return Ok((first, end));
-    }
-    chained(alloc, items, Binary::Caret, room, at, first, end)
 }
 
 /// `{op next}` behind a first operand that was read, from the left, for the operators of a level.
 #[cycle(reader)]
-#[tactic(auto, using(crate::proofs::Steps::binary_step, crate::proofs::Steps::binary_turn, crate::proofs::Steps::binary_turned))]
+#[tactic(auto, using(crate::proofs::Turns::tightest_none, crate::proofs::Steps::binary_step, crate::proofs::Steps::binary_turn, crate::proofs::Steps::binary_turned))]
 fn chained(
     alloc: Global,
     items: &[Item<'_>],
@@ -254,7 +269,8 @@ fn chained(
             return Ok((node, end));
         }
         let text = text_at(alloc, items, end)?;
-        let (right, next) = operand(alloc, items, level, room, end + 1)?;
+        let (right, next) = tightest(alloc, items, level, room, end + 1)?;
+        let (right, next) = climbed(alloc, items, level, room, end + 1, right, next)?;
         let tail = Tail {
             kind: Kind::Binary,
             text,

@@ -171,8 +171,11 @@ decreases-displays::after_pair l = 128 * l.room + 84
 abbrev pub decreases-displays::pairs : goal.decreases-displays::pairs
 decreases-displays::pairs l = 128 * l.room + 80
 
-abbrev pub decreases-operators::operand : goal.decreases-operators::operand
-decreases-operators::operand l = 128 * l.room + of_operand l.level
+abbrev pub decreases-operators::tightest : goal.decreases-operators::tightest
+decreases-operators::tightest l = 128 * l.room + of_operand l.level
+
+abbrev pub decreases-operators::climbed : goal.decreases-operators::climbed
+decreases-operators::climbed l = 128 * l.room + of_operand l.level
 
 abbrev pub decreases-operators::chained : goal.decreases-operators::chained
 decreases-operators::chained l = 128 * l.room + (of_operand l.level + 1)

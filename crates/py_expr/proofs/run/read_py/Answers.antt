@@ -3,6 +3,7 @@ use Rattle.py_expr.specs.Insides.{HasNodes}
 use Rattle.py_expr.specs.Runs.{AreOf}
 use Rattle.py_expr.proofs.Modes.{all_of_mode}
 use Rattle.py_expr.proofs.Runs.{AreMade, are_made, from_within, tree_of_tokens, tree_of_items, answer_there}
+use Rattle.py_expr.proofs.Spans.{tree_lies}
 use Rattle.py_expr.proofs.run.read_py.Goals as goal
 
 pub read_items-requires : goal.read_items-requires
@@ -22,6 +23,9 @@ returns-clause-found c =
     let made : AreMade c.args.mode c.args.tokens.now c.as_slice-2.result.now = are_made c.args.mode _ _ _ _ c.as_slice.ensures c.as_slice-2.ensures c.in_ok-items.ensures.found c.in_ok-items.ensures.only in
     let same : c.in_ok-node.end ≡ c.in-Ok.end = grind arith in
     tree_of_tokens c.args.mode c.args.tokens.now c.as_slice-2.result.now c.args.level c.args.from c.in_ok-node.node c.in_ok-node.end c.in-Ok.end made same (c.in_ok-node.ensures.found c.args.mode)
+
+pub returns-clause-placed : goal.returns-clause-placed
+returns-clause-placed c = λ text h. tree_lies c.args.mode c.args.tokens.now c.args.level c.args.from c.in_ok-node.node c.in-Ok.end text h (returns-clause-found c)
 
 pub returns-clause-only : goal.returns-clause-only
 returns-clause-only c = λ n to r.
