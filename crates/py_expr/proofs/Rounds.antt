@@ -15,8 +15,8 @@ use Rattle.py_expr.specs.declared.build.After.TheVariants as afters
 use Rattle.py_expr.specs.declared.build.Entries.{Entries}
 use Rattle.py_expr.specs.Words.{class}
 use Rattle.py_expr.specs.Parts.{Part, whole, lacking, clauses, wholes, node, nodes_of}
-use Rattle.py_expr.specs.Table.{Test, Braces, FirstEntry, LaterEntry, Dotted, DotsLeaf, Comprehension, Clause, Pair, commas, names, dots, Own, Ident}
-use Rattle.py_expr.specs.Build.{token_at, end_of, leaf, leaf_of, kind_of, ident_kind, undecided, displayed, joint}
+use Rattle.py_expr.specs.Table.{Test, Braces, FirstEntry, LaterEntry, Dotted, DotsLeaf, Clause, Pair, commas, names, dots}
+use Rattle.py_expr.specs.Build.{token_at, end_of, leaf_of, kind_of, ident_kind, undecided, displayed, joint}
 use Rattle.py_expr.specs.Build as build
 use Rattle.py_expr.specs.Sets.{sets}
 use Rattle.py_expr.specs.Reading.{level, one, item_of, pair_of, entry_of, after_of, after_pair_of, set_place, after_parts, entries_parts, closed, assigned}

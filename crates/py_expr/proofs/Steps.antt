@@ -1,6 +1,6 @@
 -- The reader of a level, one step.
-use Rattle.std.proofs.Common.{◌≡◌, ℕ, zero, suc, ◌+◌, ◌-◌, ◌<◌, List, [], ◌∷◌, ◌++◌, length, refl, ap, ◌∙◌, sym, add-one, eqb, true, false, Bool, Option, Some, None, cond}
-use Rattle.std.specs.Prelude.{◌||◌, ◌&&◌, codes}
+use Rattle.std.proofs.Common.{◌≡◌, ℕ, zero, suc, ◌+◌, ◌-◌, ◌<◌, List, [], ◌∷◌, ◌++◌, length, refl, ap, ◌∙◌, sym, eqb, true, false, Bool, Option, Some, None, cond}
+use Rattle.std.specs.Prelude.{◌||◌}
 use Rattle.std.proofs.lemmas.List.{append-nil}
 use Rattle.node_tree.specs.declared.node.Node.{Node}
 use Rattle.node_tree.specs.declared.kind.Kind.TheVariants as k
@@ -15,12 +15,12 @@ use Rattle.py_expr.specs.declared.level.Binary.TheVariants as binaries
 use Rattle.py_expr.specs.declared.level.Place.{Place}
 use Rattle.py_expr.specs.declared.level.Place.TheVariants as places
 use Rattle.py_expr.specs.Words.{class}
-use Rattle.py_expr.specs.Parts.{Part, whole, lacking, more, nodes_of, wholes, node}
+use Rattle.py_expr.specs.Parts.{Part, whole, lacking, more, nodes_of, wholes}
 use Rattle.py_expr.specs.Table as rows
-use Rattle.py_expr.specs.Table.{Level, Exprs, Star, Named, Test, LambdaTest, Or, OrTail, And, AndTail, Not, Cmp, CmpTail, Cop, Bor, BorTail, Xor, XorTail, Band, BandTail, Shift, ShiftTail, Sum, SumTail, Term, TermTail, Unary, Power, Await, Prim, PrimTail, Suffix, Attr, Call, Sub, Atom, Strings, MoreStrings, StringsTail, Paren, Inner, Items, ListLit, Braces, FirstEntry, FirstValue, LaterEntry, LaterValue, Dotted, DottedTail, DotsLeaf, Pairs, DottedPairs, PairsTail, Pair, AfterPair, AfterFirstPair, Deep, Comprehension, ClausesTail, Clause, ForClause, Yield, Targs, Target, Index, Piece, SliceEnd, Bound, Args, FirstArg, Arg, PlainArg, Params, Param, Given, LambdaParams, LambdaParam, LambdaGiven, AfterStar, Stars, StarsTail, AfterItem, AfterTarget, Targets, TargetsTail, AfterPiece, Pieces, PiecesTail, AfterArg, AfterFirstArg, MoreArgs, MoreArgsTail, AfterParam, MoreParams, MoreParamsTail, AfterLambdaParam, MoreLambdaParams, MoreLambdaParamsTail, Row, table, grammar, commas, names, dots, stars, strings, Own, Ident}
-use Rattle.py_expr.specs.Build.{token_at, end_of, source, build, chain, compared, entry, displayed, undecided, parameter, slice, sliced, leaf}
+use Rattle.py_expr.specs.Table.{Level, Exprs, Star, Named, Test, LambdaTest, OrTail, AndTail, Not, Cmp, CmpTail, Cop, Bor, BorTail, XorTail, BandTail, ShiftTail, SumTail, TermTail, Unary, Power, Await, Prim, PrimTail, Suffix, Attr, Call, Sub, Atom, Strings, MoreStrings, StringsTail, Paren, Inner, Items, ListLit, Braces, FirstEntry, FirstValue, LaterEntry, LaterValue, Dotted, DottedTail, DotsLeaf, Pairs, DottedPairs, PairsTail, Pair, AfterPair, AfterFirstPair, Deep, Comprehension, ClausesTail, Clause, ForClause, Yield, Targs, Target, Index, Piece, SliceEnd, Bound, Args, FirstArg, Arg, PlainArg, Params, Param, Given, LambdaParams, LambdaParam, LambdaGiven, AfterStar, Stars, StarsTail, AfterItem, TargetsTail, PiecesTail, MoreArgsTail, MoreParamsTail, MoreLambdaParamsTail, Row, table, grammar, commas, names, dots, strings, Own, Ident}
+use Rattle.py_expr.specs.Build.{token_at, end_of, source, chain, compared, undecided, parameter, leaf}
 use Rattle.py_expr.specs.Sets.{sets, ranks}
-use Rattle.py_expr.specs.Reading.{level, row, level_of, operand_of, operators_of, item_of, after_of, further_of, takes_clauses, set_place, entry_of, after_pair_of, pairs_of, pair_of, param_of, given_of, starred, double_starred, marked, annotation, marked_arg, marked_param}
+use Rattle.py_expr.specs.Reading.{level, row, level_of, operand_of, operators_of, item_of, after_of, further_of, takes_clauses, set_place, entry_of, after_pair_of, pairs_of, pair_of, param_of, given_of, marked, annotation, marked_param}
 use Rattle.py_expr.proofs.Passes.{pass}
 
 -- ---- lists of parts

@@ -174,9 +174,6 @@ factors = class w.Times ∷ class w.Slash ∷ class w.Factor ∷ []
 abbrev pub comparisons : List ℕ
 comparisons = class w.Compare ∷ class w.In ∷ []
 
-abbrev pub stars : List ℕ
-stars = class w.Times ∷ class w.Power ∷ []
-
 abbrev pub signs : List ℕ
 signs = class w.Sign ∷ class w.Tilde ∷ []
 

@@ -459,15 +459,6 @@ pub fn starts_braces(items: &[Item<'_>], at: usize) -> bool
     matches!(word_at(items, at), Word::LeftBrace | Word::BraceDots)
 }
 
-/// Whether one or two stars stand there.
-#[tactic(auto, unfolding(crate::specs::Words::class))]
-pub fn starts_starred(items: &[Item<'_>], at: usize) -> bool
-    ensures test { result ≡ has table.stars (class (token_at items.now at).word) }
-    ensures within { result ≡ true → at < length items.now }
-{
-    matches!(word_at(items, at), Word::Times | Word::Power)
-}
-
 /// Whether an operator of this level stands there.
 #[tactic(auto, unfolding(crate::specs::Words::class))]
 pub fn is_operator(items: &[Item<'_>], at: usize, level: Binary) -> bool

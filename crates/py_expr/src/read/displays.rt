@@ -1,13 +1,13 @@
 //! Dictionaries, sets and comprehensions.
 
-ghost use Rattle.std.specs.Prelude.{◌≡◌, ◌≢◌, ◌+◌, ◌<◌, ◌≤◌, ◌&&◌, true, [], ◌∷◌, length, IfOk, eqb};
+ghost use Rattle.std.specs.Prelude.{◌≡◌, ◌+◌, ◌<◌, ◌≤◌, ◌&&◌, true, length, IfOk, eqb};
 ghost use Rattle.grammar.specs.Rule.{has};
 ghost use Rattle.node_tree.specs.Gives.{Gives};
 ghost use Rattle.py_expr.specs.Reading as reading;
 ghost use Rattle.py_expr.specs.declared.word.Word.TheVariants.{Walrus};
 ghost use Rattle.py_expr.specs.Words.{class};
 ghost use Rattle.py_expr.specs.Build.{token_at};
-ghost use Rattle.py_expr.specs.Table.{Braces, FirstEntry, Dotted, Pairs, Pair, Comprehension, Clause, ForClause, names};
+ghost use Rattle.py_expr.specs.Table.{Braces, Dotted, Pair, Comprehension, Clause, ForClause, names};
 
 use crate::build::{After, Entries, append, displayed, leaf, node_of, one, over, text_at, two};
 use crate::item::Item;

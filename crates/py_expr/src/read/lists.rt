@@ -1,6 +1,6 @@
 //! Lists with commas, targets, subscripts and yields.
 
-ghost use Rattle.std.specs.Prelude.{◌≡◌, ◌≢◌, ◌+◌, ◌<◌, ◌≤◌, [], ◌∷◌, length, IfOk};
+ghost use Rattle.std.specs.Prelude.{◌+◌, ◌<◌, ◌≤◌, length, IfOk};
 ghost use Rattle.node_tree.specs.Gives.{Gives};
 ghost use Rattle.py_expr.specs.Reading as reading;
 ghost use Rattle.py_expr.specs.Table.{Exprs, Star, Targs, Target, Index, Piece, SliceEnd, Bound, Yield};
