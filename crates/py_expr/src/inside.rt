@@ -46,11 +46,7 @@ fn item<'t>(
     ensures only { IfOk result (λ i. (j : item_type) → IsItem (HasNodes levels mode) mode token.now after.now j → j ≡ i) }
 {
     if token.word != PyWord::FStr {
-        return Ok(item_of(
-            word_of(mode, token, after),
-            token,
-            List::new(alloc),
-        ));
+        return Ok(item_of(word_of(mode, token, after), token, List::new(alloc)));
     }
     match nodes(alloc, mode, token.parts.as_slice(), levels)? {
         Some(inside) => Ok(item_of(Word::FStr, token, inside)),
@@ -105,12 +101,7 @@ fn part(alloc: Global, mode: Mode, part: &FPart, levels: u32) -> Result<Option<N
 
 /// The expression of a field, if it has one.
 #[cycle(inside)]
-fn value(
-    alloc: Global,
-    mode: Mode,
-    tokens: &[PyToken],
-    levels: u32,
-) -> Result<Option<Node>, Memory>
+fn value(alloc: Global, mode: Mode, tokens: &[PyToken], levels: u32) -> Result<Option<Node>, Memory>
     ensures { IfOk result (Finds (IsValue (HasNodes levels mode) mode tokens.now)) }
 {
     let items = items(alloc, mode, without_equal(tokens), levels)?;
@@ -132,13 +123,7 @@ fn without_equal(tokens: &[PyToken]) -> &[PyToken]
     ensures { result.now ≡ spec.without_equal tokens.now }
 {
     match tokens.split_last() {
-        Some((last, front)) => {
-            if is_equal(last) {
-                front
-            } else {
-                tokens
-            }
-        }
+        Some((last, front)) => { if is_equal(last) { front } else { tokens } }
         None => tokens,
     }
 }
@@ -169,11 +154,5 @@ fn field(
 {
     let list = format_list(alloc, span.from, nodes);
     let kids = two(alloc, value, list)?;
-    Ok(node_of(
-        Kind::FField,
-        conversion.copy()?,
-        span.from,
-        span.to,
-        kids,
-    ))
+    Ok(node_of(Kind::FField, conversion.copy()?, span.from, span.to, kids))
 }

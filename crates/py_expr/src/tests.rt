@@ -471,7 +471,13 @@ fn reads_f_strings(rt: HostRuntime) {
     assert!(rt; reads(&rt, "f\"{f'{a}'}\"", PyLevel::Exprs));
     assert!(rt; reads(&rt, "f'{[b, (c)]:{d}}'", PyLevel::Exprs));
     // a field without an expression, of two, and with a yield
-    for text in ["f'{}'", "f'{=}'", "f'{a b}'", "f'{yield}'", "f'{lambda x: 1}'"] {
+    for text in [
+        "f'{}'",
+        "f'{=}'",
+        "f'{a b}'",
+        "f'{yield}'",
+        "f'{lambda x: 1}'",
+    ] {
         assert!(rt; !reads(&rt, text, PyLevel::Exprs));
     }
     // an f-string that has no tree goes on with nothing

@@ -11,9 +11,10 @@ items-returns-clause-found n c = all_made (AreItems (HasNodes c.args.levels c.ar
 
 pub nodes-returns : goal.nodes-returns
 nodes-returns n c =
-    let some : 0 < c.args.levels = grind (arith, c.if-levels-eq0.false) in
-    (parts_of_nodes c.args.levels c.args.mode c.args.parts.now c.loop-at.all some (all_made (AreParts (HasNodes (c.args.levels - 1) c.args.mode) c.args.mode) c.args.parts.now c.loop-at.all c.loop-at.at c.loop-at-test.false refl c.loop-at.invariant),
-     λ ys h. only_made (AreParts (HasNodes (c.args.levels - 1) c.args.mode) c.args.mode) c.args.parts.now c.loop-at.all c.loop-at.at c.loop-at-test.false (λ zs e. e) c.loop-at.invariant ys (nodes_of_parts c.args.levels c.args.mode c.args.parts.now ys some h))
+    let some : 0 < c.args.levels = grind (arith, c.if-levels-eq0.false) in (
+      parts_of_nodes c.args.levels c.args.mode c.args.parts.now c.loop-at.all some (all_made (AreParts (HasNodes (c.args.levels - 1) c.args.mode) c.args.mode) c.args.parts.now c.loop-at.all c.loop-at.at c.loop-at-test.false refl c.loop-at.invariant),
+      λ ys h. only_made (AreParts (HasNodes (c.args.levels - 1) c.args.mode) c.args.mode) c.args.parts.now c.loop-at.all c.loop-at.at c.loop-at-test.false (λ zs e. e) c.loop-at.invariant ys (nodes_of_parts c.args.levels c.args.mode c.args.parts.now ys some h),
+    )
 
 pub nodes-loop-at-preserved : goal.nodes-loop-at-preserved
 nodes-loop-at-preserved n c =

@@ -19,8 +19,9 @@ operators::chained-loop-turn-preserved t c = record {
 
 pub operators::chained-returns-clause-gives : goal.operators::chained-returns-clause-gives
 operators::chained-returns-clause-gives t c = elim c.loop-turn-test.branch [
-    operators::chained-else-loop-turn-test w ↦ c.loop-turn.invariant.rest ∙ binary_over _ _ _ _ _ _ _ _ (omega arith)
-  | operators::chained-then-loop-turn-test+else-not-is_operator-2+in_ok-text+in_ok-right+in_ok-right-2+in_ok-node+else-turn-turn-end w ↦ c.loop-turn.invariant.rest ∙ binary_last _ _ _ _ _ _ _ _ _ w.in_ok-right-2.right (omega arith) (omega arith) (grind arith) w.in_ok-right-2.ensures.gives ]
+  | operators::chained-else-loop-turn-test w ↦ c.loop-turn.invariant.rest ∙ binary_over _ _ _ _ _ _ _ _ (omega arith)
+  | operators::chained-then-loop-turn-test+else-not-is_operator-2+in_ok-text+in_ok-right+in_ok-right-2+in_ok-node+else-turn-turn-end w ↦ c.loop-turn.invariant.rest ∙ binary_last _ _ _ _ _ _ _ _ _ w.in_ok-right-2.right (omega arith) (omega arith) (grind arith) w.in_ok-right-2.ensures.gives
+]
 
 pub operators::cmp-loop-turn-preserved : goal.operators::cmp-loop-turn-preserved
 operators::cmp-loop-turn-preserved t c = record {
@@ -62,20 +63,21 @@ displays::pairs-loop-turn-preserved t c = record {
   within = c.in_ok-kid.ensures.within;
   turns = omega arith;
   rest = pairs_more c.args.items.now c.args.room _ _ c.loop-turn.end c.in_ok-kid.next c.is-dots.result _ c.loop-turn.kids _ c.in_ok-kid.kid c.loop-turn.invariant.rest (omega arith) (omega arith) c.is-dots.ensures.test
-    (elim c.if-not-dots-2.branch [ goal.displays::pairs-then-not-dots-2+else-not-is+else-not-starts_pair-2 w ↦ λ h. sym w.if-not-is.ensures.test | goal.displays::pairs-else-not-dots-2 w ↦ λ h. absurd (cc) ])
-    (elim c.if-not-dots-2.branch [ goal.displays::pairs-then-not-dots-2+else-not-is+else-not-starts_pair-2 w ↦ λ h. sym w.if-not-starts_pair-2.ensures.test | goal.displays::pairs-else-not-dots-2 w ↦ λ h. absurd (cc) ])
-    c.in_ok-kid.ensures.gives c.in_ok-push-2.ensures.ok;
+      (elim c.if-not-dots-2.branch [ goal.displays::pairs-then-not-dots-2+else-not-is+else-not-starts_pair-2 w ↦ λ h. sym w.if-not-is.ensures.test | goal.displays::pairs-else-not-dots-2 w ↦ λ h. absurd (cc) ])
+      (elim c.if-not-dots-2.branch [ goal.displays::pairs-then-not-dots-2+else-not-is+else-not-starts_pair-2 w ↦ λ h. sym w.if-not-starts_pair-2.ensures.test | goal.displays::pairs-else-not-dots-2 w ↦ λ h. absurd (cc) ])
+      c.in_ok-kid.ensures.gives c.in_ok-push-2.ensures.ok;
 }
 
 pub displays::pairs-returns-clause-gives : goal.displays::pairs-returns-clause-gives
 displays::pairs-returns-clause-gives t c = elim c.loop-turn-test.branch [
-    goal.displays::pairs-else-loop-turn-test w ↦ pairs_over c.args.items.now c.args.room (suc (length c.args.items.now) - c.loop-turn.turn) c.loop-turn.end _ c.loop-turn.kids c.loop-turn.invariant.rest (omega arith)
+  | goal.displays::pairs-else-loop-turn-test w ↦ pairs_over c.args.items.now c.args.room (suc (length c.args.items.now) - c.loop-turn.turn) c.loop-turn.end _ c.loop-turn.kids c.loop-turn.invariant.rest (omega arith)
   | goal.displays::pairs-then-loop-turn-test+in_ok-kid+in_ok-push-2+else-turn-turn-end w ↦ pairs_over c.args.items.now c.args.room zero w.in_ok-kid.next _ (c.loop-turn.kids ++ w.in_ok-kid.kid ∷ [])
       (pairs_more c.args.items.now c.args.room (suc (length c.args.items.now) - c.loop-turn.turn) zero c.loop-turn.end w.in_ok-kid.next w.is-dots.result _ c.loop-turn.kids (c.loop-turn.kids ++ w.in_ok-kid.kid ∷ []) w.in_ok-kid.kid c.loop-turn.invariant.rest (omega arith) (omega arith) w.is-dots.ensures.test
-        (elim w.if-not-dots-2.branch [ goal.displays::pairs-then-not-dots-2+else-not-is+else-not-starts_pair-2 v ↦ λ h. sym v.if-not-is.ensures.test | goal.displays::pairs-else-not-dots-2 v ↦ λ h. absurd (cc) ])
-        (elim w.if-not-dots-2.branch [ goal.displays::pairs-then-not-dots-2+else-not-is+else-not-starts_pair-2 v ↦ λ h. sym v.if-not-starts_pair-2.ensures.test | goal.displays::pairs-else-not-dots-2 v ↦ λ h. absurd (cc) ])
-        w.in_ok-kid.ensures.gives refl)
-      refl ]
+      (elim w.if-not-dots-2.branch [ goal.displays::pairs-then-not-dots-2+else-not-is+else-not-starts_pair-2 v ↦ λ h. sym v.if-not-is.ensures.test | goal.displays::pairs-else-not-dots-2 v ↦ λ h. absurd (cc) ])
+      (elim w.if-not-dots-2.branch [ goal.displays::pairs-then-not-dots-2+else-not-is+else-not-starts_pair-2 v ↦ λ h. sym v.if-not-starts_pair-2.ensures.test | goal.displays::pairs-else-not-dots-2 v ↦ λ h. absurd (cc) ])
+      w.in_ok-kid.ensures.gives refl)
+      refl
+]
 
 pub displays::braces-returns-then-is-clause-gives : goal.displays::braces-returns-then-is-clause-gives
 displays::braces-returns-then-is-clause-gives t c = gives_along c.closed.result _ _ (braces_entry c.args.items.now c.args.room c.args.at c.in_ok-found.close c.start_at-from.result c.in_ok-found.found (grind (arith, c.if-room-eq0.false)) c.start_at-from.ensures (sym c.if-is.ensures.test) (sym c.if-not-starts_entry.ensures.test) c.in_ok-found.ensures.gives) c.closed.ensures.gives

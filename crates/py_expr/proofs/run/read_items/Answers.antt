@@ -24,7 +24,7 @@ returns-clause-found c = λ mode.
     let cut : IsCut c.args.items.now c.args.from c.shallow_end.result = record { ordered = c.shallow_end.ensures.ordered; within = c.shallow_end.ensures.within; many = c.shallow_end.ensures.many } in
     tree_of_all mode c.args.items.now c.args.level c.args.from c.shallow_end.result _ _ cut
     (read_is_tree mode (take c.shallow_end.result c.args.items.now) c.args.level c.args.from _ _ c.in_ok-node.ensures.gives c.in_ok-node.ensures.within (leb_true _ _ (grind arith))
-        (λ k a b. let lt : _ = end_within c.args.items.now c.shallow_end.result c.in_ok-node.end k b c.in_ok-node.ensures.within in few_left c.args.items.now c.args.from c.shallow_end.result k lt (c.shallow_end.ensures.few k a lt)))
+    (λ k a b. let lt : _ = end_within c.args.items.now c.shallow_end.result c.in_ok-node.end k b c.in_ok-node.ensures.within in few_left c.args.items.now c.args.from c.shallow_end.result k lt (c.shallow_end.ensures.few k a lt)))
 
 pub returns-clause-only : goal.returns-clause-only
 returns-clause-only c = λ mode n to all r.

@@ -17,8 +17,9 @@ returns-then-not-is_shallow c = λ x r.
 
 pub returns-else-not-is_shallow : goal.returns-else-not-is_shallow
 returns-else-not-is_shallow c = (
-    read_is_whole c.args.items.now c.in-Ok.node c.in-Ok.end c.in-Ok.ensures.gives (omega (arith, c.in-Ok.ensures.within, c.if-end-items.false)) (leb_true _ _ (grind arith)) (λ k a b. c.shallow_end.ensures.few k a (omega (arith, b, c.in-Ok.ensures.within, c.if-shallow_end-items.false))),
-    λ y r. (one_whole c.args.items.now y c.in-Ok.node c.in-Ok.end r c.in-Ok.ensures.gives).0)
+  read_is_whole c.args.items.now c.in-Ok.node c.in-Ok.end c.in-Ok.ensures.gives (omega (arith, c.in-Ok.ensures.within, c.if-end-items.false)) (leb_true _ _ (grind arith)) (λ k a b. c.shallow_end.ensures.few k a (omega (arith, b, c.in-Ok.ensures.within, c.if-shallow_end-items.false))),
+  λ y r. (one_whole c.args.items.now y c.in-Ok.node c.in-Ok.end r c.in-Ok.ensures.gives).0,
+)
 
 pub returns-in-Err-NoTree : goal.returns-in-Err-NoTree
 returns-in-Err-NoTree c = λ x r. absurd (nothing_read one c.in-Err-NoTree.field-0 _ _ c.in-Err-NoTree.field-0-is c.in-Err-NoTree.ensures.gives (whole_is_read c.args.items.now x r))
