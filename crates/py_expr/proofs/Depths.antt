@@ -1,5 +1,5 @@
 -- How deep what a builder makes is.
-use Rattle.std.proofs.Common.{◌≡◌, ℕ, suc, ◌+◌, ◌<◌, ◌≤◌, List, [], ◌∷◌, ◌++◌, refl, ap, ◌∙◌, arith, Bool, cond}
+use Rattle.std.proofs.Common.{◌≡◌, ℕ, ◌+◌, ◌<◌, ◌≤◌, List, [], ◌∷◌, ◌++◌, refl, ap, ◌∙◌, arith, Bool, cond}
 use Rattle.std.specs.Prelude.{true, false, max, ltb, codes}
 use Rattle.node_tree.specs.declared.node.Node.{Node, out-Node, roll-Node}
 use Rattle.node_tree.specs.declared.kind.Kind.{Kind}
@@ -11,7 +11,7 @@ use Rattle.grammar.proofs.Facts.{true_false}
 use Rattle.py_expr.specs.declared.item.Item.{Item}
 use Rattle.py_expr.specs.Parts.{Part, whole, lacking, call, more, clauses, display, sign, bounds, node, nodes_of, depth_nodes, depth_part, depth_all}
 use Rattle.py_expr.specs.Table.{Builder, Over, Signed, Lacking, SignedLacking, Chain, Joint, Further, Clauses, Grouped, Listed, ListOf, Braced, Entry, PairEntry, Undecided, Lambda, Conditional, Compared, Joined, Called, Sign, Yielded, Bounds, Slice, Sliced, Parameter, SignedParameter, strong}
-use Rattle.py_expr.specs.Build.{token_at, end_of, absent, empty_list, or_absent, grafted, others, widened, attached, farther, chain_from, chain, joint, listed, grouped, list_of, displayed, entry, undecided, braced, lambda_kids, conditional, compared, operators, joined_strings, called, one_sign, yielded, bounded, slice, sliced, parameter, slice_kids, made, build, source, too_deep, spine}
+use Rattle.py_expr.specs.Build.{token_at, end_of, absent, empty_list, or_absent, grafted, others, widened, attached, farther, chain_from, chain, joint, listed, grouped, list_of, displayed, entry, undecided, braced, lambda_kids, conditional, compared, operators, joined_strings, called, one_sign, yielded, bounded, slice, sliced, parameter, slice_kids, made, source, too_deep, spine}
 
 -- ---- nodes
 

@@ -9,12 +9,11 @@ use Rattle.py_lex.specs.declared.token.PyToken.{PyToken, out-PyToken}
 use Rattle.py_lex.specs.declared.token.PyWord.{PyWord}
 use Rattle.py_lex.specs.declared.token.PyWord.TheVariants as lexed
 use Rattle.py_expr.specs.declared.word.Word.{Word}
-use Rattle.py_expr.specs.declared.word.Word.TheVariants as w
-use Rattle.py_expr.specs.Words.{class, word_of, word_by, mark_word, by_byte, by_text, short_marks, long_marks, keywords}
+use Rattle.py_expr.specs.Words.{class, word_by, mark_word, by_byte, by_text, short_marks, long_marks, keywords}
 use Rattle.py_expr.specs.declared.item.Item.{Item}
 use Rattle.py_expr.specs.Items.{Insides, IsItemBy, AreItems}
-use Rattle.py_expr.specs.Build.{token_at, end_item}
-use Rattle.py_expr.specs.Runs.{of_mode, of_text, of_pattern}
+use Rattle.py_expr.specs.Build.{token_at}
+use Rattle.py_expr.specs.Runs.{of_mode, of_text}
 
 abbrev OfText : Word → Type 0
 OfText word = of_text (class word) ≡ true

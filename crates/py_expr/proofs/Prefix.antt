@@ -1,18 +1,18 @@
 -- Items cut off where one stands inside too many brackets have the same closed runs.
-use Rattle.std.proofs.Common.{◌≡◌, ℕ, zero, suc, pred, ◌-◌, ◌<◌, ◌≤◌, List, [], ◌∷◌, length, take, get_or, refl, ap, sym, ◌∙◌, arith, inl, inr}
-use Rattle.std.specs.Prelude.{Bool, true, false, cond, ltb, ◌⊎◌, min}
+use Rattle.std.proofs.Common.{◌≡◌, ℕ, zero, suc, ◌-◌, ◌<◌, ◌≤◌, List, [], ◌∷◌, length, take, ap, sym, ◌∙◌, arith, inl, inr}
+use Rattle.std.specs.Prelude.{◌⊎◌, min}
 use Rattle.std.proofs.lemmas.List.{get_or-take, get_or_past, length-take}
 use Rattle.std.proofs.Math.Seq.{take-length}
 use Rattle.node_tree.specs.declared.node.Node.{Node}
 use Rattle.node_tree.specs.declared.view.Mode.{Mode}
-use Rattle.grammar.specs.Rule.{has, open_at, behind, smaller, brackets_round, IsRun}
+use Rattle.grammar.specs.Rule.{open_at}
 use Rattle.grammar.proofs.Counts.{count_same, inside_open}
 use Rattle.grammar.proofs.Cuts.{Alike, nothing_open, ends_before, same_run}
 use Rattle.py_expr.specs.declared.item.Item.{Item}
 use Rattle.py_expr.specs.declared.level.PyLevel.{PyLevel}
 use Rattle.py_expr.specs.Words.{class}
-use Rattle.py_expr.specs.Parts.{Part, whole, depth_all}
-use Rattle.py_expr.specs.Table.{Leaf, Builder, grammar}
+use Rattle.py_expr.specs.Parts.{whole, depth_all}
+use Rattle.py_expr.specs.Table.{grammar}
 use Rattle.py_expr.specs.Build.{token_at, end_item, end_of, source, leaf, made}
 use Rattle.py_expr.specs.Sets.{sets, ranks}
 use Rattle.py_expr.specs.Reading.{round_at}

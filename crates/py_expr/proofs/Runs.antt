@@ -1,6 +1,6 @@
 -- What is read of a level is the closed run, and the closed run is what is read.
-use Rattle.std.proofs.Common.{◌≡◌, ℕ, suc, ◌+◌, ◌<◌, ◌≤◌, List, [], ◌∷◌, length, refl, sym, subst, ap, ◌∙◌, arith, Option, Some, None, Err, inl, inr}
-use Rattle.std.specs.Prelude.{Bool, true, false, leb, not}
+use Rattle.std.proofs.Common.{◌≡◌, ℕ, suc, ◌<◌, ◌≤◌, List, [], ◌∷◌, length, refl, sym, ap, ◌∙◌, arith, Option, Some, Err}
+use Rattle.std.specs.Prelude.{true, leb}
 use Rattle.std.proofs.lemmas.List.{get_or_past}
 use Rattle.node_tree.specs.declared.node.Node.{Node}
 use Rattle.node_tree.specs.declared.fault.ReadFault.{ReadFault}
@@ -8,18 +8,17 @@ use Rattle.node_tree.specs.declared.fault.ReadFault.TheVariants as faults
 use Rattle.node_tree.specs.declared.view.Mode.{Mode}
 use Rattle.node_tree.specs.declared.view.Mode.TheVariants as modes
 use Rattle.node_tree.specs.Tree.{depth_of}
-use Rattle.grammar.specs.Rule.{has}
 use Rattle.grammar.specs.Check.{closes_runs}
 use Rattle.grammar.proofs.Facts.{none_some, some_pair}
 use Rattle.grammar.proofs.Theorem.{read_piece, piece_read, read_run, run_read}
 use Rattle.py_expr.specs.declared.item.Item.{Item}
 use Rattle.py_expr.specs.declared.level.PyLevel.{PyLevel}
-use Rattle.py_expr.specs.Parts.{Part, whole, depth_all}
+use Rattle.py_expr.specs.Parts.{whole, depth_all}
 use Rattle.py_expr.specs.Table.{Level, Exprs, Star, Named, Test, LambdaTest, Or, OrTail, And, AndTail, Not, Cmp, CmpTail, Cop, Bor, BorTail, Xor, XorTail, Band, BandTail, Shift, ShiftTail, Sum, SumTail, Term, TermTail, Unary, Power, Await, Prim, PrimTail, Suffix, Attr, Call, Sub, Atom, Strings, MoreStrings, StringsTail, Paren, Inner, Items, ListLit, Braces, FirstEntry, FirstValue, LaterEntry, LaterValue, Dotted, DottedTail, DotsLeaf, Pairs, DottedPairs, PairsTail, Pair, AfterPair, AfterFirstPair, Deep, Comprehension, ClausesTail, Clause, ForClause, Yield, Targs, Target, Index, Piece, SliceEnd, Bound, Args, FirstArg, Arg, PlainArg, Params, Param, Given, LambdaParams, LambdaParam, LambdaGiven, AfterStar, Stars, StarsTail, AfterItem, AfterTarget, Targets, TargetsTail, AfterPiece, Pieces, PiecesTail, AfterArg, AfterFirstArg, MoreArgs, MoreArgsTail, AfterParam, MoreParams, MoreParamsTail, AfterLambdaParam, MoreLambdaParams, MoreLambdaParamsTail, grammar}
 use Rattle.py_expr.specs.Build.{source, end_item}
 use Rattle.py_expr.specs.Words.{class}
 use Rattle.py_expr.specs.Sets.{sets, ranks}
-use Rattle.py_expr.specs.Reading.{level, one, round_at}
+use Rattle.py_expr.specs.Reading.{level, round_at}
 use Rattle.node_tree.specs.Gives.{Gives}
 use Rattle.py_expr.specs.Runs.{of_mode, level_at, IsRunTree, IsTree, AreOf}
 use Rattle.py_expr.proofs.Passes.{pass}

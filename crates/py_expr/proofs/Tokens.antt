@@ -9,7 +9,6 @@ use Rattle.py_lex.specs.declared.token.FPart.{FPart, out-FPart, out-roll-FPart}
 use Rattle.py_lex.specs.declared.token.FPart.TheVariants.{rolls-Field}
 use Rattle.py_lex.specs.declared.token.FPart.TheOpen as layers
 use Rattle.py_lex.specs.declared.token.FPart
-use Rattle.py_expr.specs.declared.item.Item.{Item}
 use Rattle.py_expr.specs.Items.{Insides, IsItem, AreItems}
 use Rattle.py_expr.specs.Insides.{Finds, IsValue, IsPart, AreParts, HasNodes, field_node, is_equal, without_equal}
 

@@ -1,5 +1,5 @@
 -- What rows spell: nodes, and parts that are to become nodes.
-use Rattle.std.specs.Prelude.{ℕ, suc, ◌+◌, max, List, [], ◌∷◌, ◌++◌, map}
+use Rattle.std.specs.Prelude.{ℕ, suc, max, List, [], ◌∷◌, ◌++◌, map}
 use Rattle.node_tree.specs.declared.node.Node.{Node, roll-Node}
 use Rattle.node_tree.specs.declared.kind.Kind.{Kind}
 use Rattle.node_tree.specs.Tree.{depth_of, largest}

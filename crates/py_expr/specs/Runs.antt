@@ -1,5 +1,5 @@
 -- The tree of a closed run of Python's expressions.
-use Rattle.std.specs.Prelude.{◌≡◌, ◌≤◌, ℕ, Bool, true, false, not, List, [], ◌∷◌, length}
+use Rattle.std.specs.Prelude.{◌≡◌, ◌≤◌, ℕ, Bool, true, not, List, [], ◌∷◌, length}
 use Rattle.node_tree.specs.declared.node.Node.{Node}
 use Rattle.node_tree.specs.declared.view.Mode.{Mode}
 use Rattle.node_tree.specs.declared.view.Mode.TheVariants as modes

@@ -1,5 +1,5 @@
 -- The text of a string's node: its prefix, a quote, and its content as written.
-use Rattle.std.specs.Prelude.{ℕ, zero, suc, ◌+◌, ◌-◌, ◌*◌, Bool, true, false, ◌==◌, ◌&&◌, ◌||◌, if◌then◌else◌, ltb, leb, List, [], ◌∷◌, ◌++◌, length, take, drop, get_or, codes}
+use Rattle.std.specs.Prelude.{ℕ, suc, ◌+◌, ◌-◌, Bool, true, false, ◌==◌, ◌&&◌, ◌||◌, if◌then◌else◌, ltb, leb, List, [], ◌∷◌, ◌++◌, length, take, drop, get_or, codes}
 
 abbrev pub is_quote : ℕ → Bool
 is_quote b = b == 34 || b == 39

@@ -1,9 +1,8 @@
-use Rattle.std.proofs.Common.{◌≡◌, ◌≤◌, ◌<◌, ◌∙◌, ◌+◌, ◌-◌, sym, ap, arith, refl, length, drop, get_or, subst}
-use Rattle.node_tree.specs.declared.node.Node.{Node}
+use Rattle.std.proofs.Common.{◌<◌, ◌-◌, arith, refl, get_or, subst}
 use Rattle.py_lex.specs.declared.token.FPart.{FPart}
-use Rattle.py_expr.specs.Items.{IsItem, AreItems}
+use Rattle.py_expr.specs.Items.{AreItems}
 use Rattle.py_expr.specs.Insides.{Finds, IsValue, IsPart, AreParts, HasNodes}
-use Rattle.py_expr.proofs.Tokens.{GoesOn, all_made, only_made, goes_on, goes_nowhere, nodes_of_parts, parts_of_nodes, by_part, finds_none, finds_some, field_parts, found_field}
+use Rattle.py_expr.proofs.Tokens.{all_made, only_made, goes_on, goes_nowhere, nodes_of_parts, parts_of_nodes, by_part, finds_none, finds_some, field_parts, found_field}
 use Rattle.py_expr.proofs.inside.+inside.Goals as goal
 
 pub items-returns-clause-found : goal.items-returns-clause-found

@@ -1,4 +1,4 @@
-use Rattle.std.proofs.Common.{◌≡◌, ◌≤◌, ◌+◌, ◌*◌, ◌-◌, length}
+use Rattle.std.proofs.Common.{◌+◌, ◌*◌, ◌-◌}
 use Rattle.py_expr.specs.Items.{AreItems}
 use Rattle.py_expr.specs.Insides.{HasNodes, AreParts}
 use Rattle.py_expr.proofs.Tokens.{GoesOn}

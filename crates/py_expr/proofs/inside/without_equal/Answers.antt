@@ -1,4 +1,4 @@
-use Rattle.std.proofs.Common.{◌≡◌, ◌∙◌, sym, ap}
+use Rattle.std.proofs.Common.{◌∙◌, sym, ap}
 use Rattle.py_expr.specs.Insides.{without_equal}
 use Rattle.py_expr.proofs.Tokens.{equal_dropped, equal_kept}
 use Rattle.py_expr.proofs.inside.without_equal.Goals as goal

@@ -1,4 +1,4 @@
-use Rattle.std.proofs.Common.{rules, ◌≡◌, ◌≤◌, take, arith, Some}
+use Rattle.std.proofs.Common.{rules, ◌≤◌, take, arith}
 use Rattle.node_tree.specs.Tree.{depth_of}
 use Rattle.py_expr.specs.Reading.{one}
 use Rattle.py_expr.proofs.Prefix.{IsCut, tree_of_all, tree_of_left, left_of_mode, few_left, end_within}

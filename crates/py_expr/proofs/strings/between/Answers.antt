@@ -1,4 +1,4 @@
-use Rattle.std.proofs.Common.{rules, arith}
+use Rattle.std.proofs.Common.{arith}
 use Rattle.py_expr.proofs.Cuts.{behind_ascii}
 use Rattle.py_expr.proofs.strings.between.Goals as goal
 
