@@ -1,3 +1,2 @@
 pub mod Walked
-pub mod Faults
 pub mod Laws

@@ -34,3 +34,25 @@ fn reads_patterns_of_json(rt: HostRuntime) -> Result<(), Fail> {
     );
     Ok(())
 }
+
+#[test]
+fn reads_patterns_of_python(rt: HostRuntime) -> Result<(), Fail> {
+    let rows = [
+        ("a", Ok(Kind::Name)),
+        ("$X + 1", Ok(Kind::Binary)),
+        ("f(..., $...A)", Ok(Kind::Call)),
+        ("[$...A]", Ok(Kind::ListLit)),
+        ("<... $X ...>", Ok(Kind::Deep)),
+        ("", Err(PatternFault::NoPattern)),
+        ("f(", Err(PatternFault::NoPattern)),
+        ("x = 1", Err(PatternFault::NoPattern)),
+        ("a\nb", Err(PatternFault::NoPattern)),
+        ("...", Err(PatternFault::OnlyDots)),
+        ("$...A", Err(PatternFault::OnlyDots)),
+        ("$...A + 1", Err(PatternFault::DotsPlace)),
+    ];
+    for (text, found) in rows {
+        assert_eq!(rt; kind_of(rt.alloc(), Lang::Python, text), found, "{text}");
+    }
+    Ok(())
+}

@@ -8,10 +8,7 @@ use Rattle.node_tree.specs.declared.node.Node.{Node}
 use Rattle.node_tree.specs.declared.view.Pattern.{Pattern}
 use Rattle.node_tree.specs.declared.view.Lang.{Lang}
 use Rattle.node_tree.specs.declared.view.Lang.TheVariants as langs
-use Rattle.node_tree.specs.declared.view.Mode.TheVariants.{Text}
-use Rattle.json_tree.proofs.Trees.{one_tree}
 use Rattle.pattern_read.specs.Patterns.{IsPatternOf}
-use Rattle.pattern_read.proofs.Laws.{one_pattern}
 use Rattle.scan_world.specs.Streams.{AppendsFront}
 use Rattle.tree_match.specs.declared.leaf.Leaf.{Leaf}
 use Rattle.tree_match.specs.declared.leaf.Leaf.TheVariants.{Full, Crowded}
@@ -22,20 +19,23 @@ use Rattle.semscan.specs.declared.status.Status.{Status}
 use Rattle.semscan.specs.declared.status.Status.TheVariants.{OverLimit, BadTarget, TooMany, Done}
 use Rattle.semscan.specs.declared.status.LimitKind.TheVariants.{Target}
 use Rattle.semscan.specs.Words.{lang_word, IsMatched, AreMatchWords}
-use Rattle.semscan.specs.Reading.{IsTreeIn, IsFileOf, HasNoFile}
+use Rattle.semscan.specs.Reading.{IsFileOf, IsOnlyFile, HasNoFile}
 use Rattle.semscan.specs.Lines.{line_of}
 use Rattle.semscan.specs.Streams.{Tells, AppendsSome}
 use Rattle.semscan.specs.Run.{AskFor, HasNoPattern, Ends, usage, bad_pattern, over_limit, bad_target, too_many, done, Printed, PrintedFront, PrintedSome}
 use Rattle.semscan.proofs.Streaming.{nothing_written}
 
--- ---- words ask for one language and one pattern, and an input has one tree
+-- ---- words ask for one language
 
 same_lang : (a b : Lang) → IsMatched a → IsMatched b → lang_word a ≡ lang_word b → a ≡ b
 same_lang langs.Json langs.Json p q e = refl
-same_lang langs.Json langs.Python p q e = elim q [ ]
+same_lang langs.Json langs.Python p q e = absurd cc
 same_lang langs.Json langs.C p q e = elim q [ ]
 same_lang langs.Json langs.Regex p q e = elim q [ ]
-same_lang langs.Python b p q e = elim p [ ]
+same_lang langs.Python langs.Json p q e = absurd cc
+same_lang langs.Python langs.Python p q e = refl
+same_lang langs.Python langs.C p q e = elim q [ ]
+same_lang langs.Python langs.Regex p q e = elim q [ ]
 same_lang langs.C b p q e = elim p [ ]
 same_lang langs.Regex b p q e = elim p [ ]
 
@@ -65,29 +65,19 @@ refused words k l text pattern are none ask =
 one_lang : (words : List (List ℕ)) (k l : Lang) (p q : Pattern) → AskFor words k p → AskFor words l q → k ≡ l
 one_lang words k l p q a b = (same_words words k l a.text b.text a.are_words b.are_words).0
 
-same_pattern : (words : List (List ℕ)) (k l : Lang) (p q : Pattern) → AskFor words k p → AskFor words l q → p ≡ q
-same_pattern words k l p q a b =
-    let same = same_words words l k b.text a.text b.are_words a.are_words in
-    let P : Lang → Type 0 = λ x. IsPatternOf x b.text q in
-    let Q : List ℕ → Type 0 = λ t. IsPatternOf k t q in
-    one_pattern k a.text p q a.is_pattern (subst Q same.1 (subst P same.0 b.is_pattern))
-
-same_tree : (lang : Lang) (text : List ℕ) (t u : Node) → IsTreeIn lang text t → IsTreeIn lang text u → t ≡ u
-same_tree langs.Json text t u a b = one_tree Text text t u a b
-same_tree langs.Python text t u a b = absurd a
-same_tree langs.C text t u a b = absurd a
-same_tree langs.Regex text t u a b = absurd a
-
 other_lang : (k l : Lang) (input : List ℕ) (t : Node) → k ≡ l → IsFileOf k input t → IsFileOf l input t
 other_lang k l input t e f = subst (λ (x : Lang). IsFileOf x input t) e f
 
+-- the words ask for one pattern, and the input has one tree
+abbrev pub Settled : List (List ℕ) → List ℕ → Type 0
+Settled words input = (k l : Lang) (p q : Pattern) (t u : Node) → AskFor words k p → AskFor words l q → IsFileOf k input t → IsFileOf l input u → (p ≡ q) × (t ≡ u)
+
 -- what is said of one pattern and file holds of the others that the words and the input give
-same_leaf : (words : List (List ℕ)) (input : List ℕ) (k l : Lang) (p q : Pattern) (t u : Node) (leaf : Leaf) → AskFor words k p → AskFor words l q → IsFileOf k input t → IsFileOf l input u → IsLeaf (IsMember q u) leaf → IsLeaf (IsMember p t) leaf
-same_leaf words input k l p q t u leaf a b f g h =
+same_leaf : (p q : Pattern) (t u : Node) (leaf : Leaf) → (p ≡ q) × (t ≡ u) → IsLeaf (IsMember q u) leaf → IsLeaf (IsMember p t) leaf
+same_leaf p q t u leaf same h =
     let P : Pattern → Type 0 = λ x. IsLeaf (IsMember x u) leaf in
     let Q : Node → Type 0 = λ x. IsLeaf (IsMember p x) leaf in
-    let g' = other_lang l k input u (one_lang words l k q p b a) g in
-    subst Q (same_tree k input u t g'.is_tree f.is_tree) (subst P (same_pattern words l k q p b a) h)
+    subst Q (sym same.1) (subst P (sym same.0) h)
 
 -- an input without a file of the language that is asked for has none of a language that is asked for too
 no_file : (words : List (List ℕ)) (input : List ℕ) (k l : Lang) (p q : Pattern) (u : Node) → AskFor words k p → AskFor words l q → HasNoFile k input → IsFileOf l input u → ⊥
@@ -97,58 +87,64 @@ no_file words input k l p q u a b none f = none u (other_lang l k input u (one_l
 abbrev Same : Status → Status → List (List ℕ) → List (List ℕ) → Type 0
 Same s t ls ms = (t ≡ s) × (ms ≡ ls)
 
+-- a run that ends so has searched a file
+abbrev pub HasSearched : Status → Type 0
+HasSearched (TooMany n) = Unit {0}
+HasSearched Done = Unit {0}
+HasSearched _ = ⊥
+
 module _ (words : List (List ℕ)) (input : List ℕ) where
-  pub once : (s t : Status) (ls ms : List (List ℕ)) → Ends words input s ls → Ends words input t ms → Same s t ls ms
-  once _ _ _ _ (usage other) (usage _) = (refl, refl)
-  once _ _ _ _ (usage other) (bad_pattern l text are _) = absurd (other l text are)
-  once _ _ _ _ (usage other) (over_limit l _ ask _) = absurd (other l ask.text ask.are_words)
-  once _ _ _ _ (usage other) (bad_target l _ ask _ _) = absurd (other l ask.text ask.are_words)
-  once _ _ _ _ (usage other) (too_many l _ _ ask _ _) = absurd (other l ask.text ask.are_words)
-  once _ _ _ _ (usage other) (done l _ _ _ ask _ _) = absurd (other l ask.text ask.are_words)
-  once _ _ _ _ (bad_pattern k text are none) (usage other) = absurd (other k text are)
-  once _ _ _ _ (bad_pattern k text are none) (bad_pattern _ _ _ _) = (refl, refl)
-  once _ _ _ _ (bad_pattern k text are none) (over_limit l q ask _) = absurd (refused words k l text q are none ask)
-  once _ _ _ _ (bad_pattern k text are none) (bad_target l q ask _ _) = absurd (refused words k l text q are none ask)
-  once _ _ _ _ (bad_pattern k text are none) (too_many l q _ ask _ _) = absurd (refused words k l text q are none ask)
-  once _ _ _ _ (bad_pattern k text are none) (done l q _ _ ask _ _) = absurd (refused words k l text q are none ask)
-  once _ _ _ _ (over_limit k p ask long) (usage other) = absurd (other k ask.text ask.are_words)
-  once _ _ _ _ (over_limit k p ask long) (bad_pattern l text are none) = absurd (refused words l k text p are none ask)
-  once _ _ _ _ (over_limit k p ask long) (over_limit _ _ _ _) = (refl, refl)
-  once _ _ _ _ (over_limit k p ask long) (bad_target _ _ _ small _) = absurd (omega arith)
-  once _ _ _ _ (over_limit k p ask long) (too_many _ _ _ _ file _) = absurd (omega (arith, file.small))
-  once _ _ _ _ (over_limit k p ask long) (done _ _ _ _ _ file _) = absurd (omega (arith, file.small))
-  once _ _ _ _ (bad_target k p ask small none) (usage other) = absurd (other k ask.text ask.are_words)
-  once _ _ _ _ (bad_target k p ask small none) (bad_pattern l text are nothing) = absurd (refused words l k text p are nothing ask)
-  once _ _ _ _ (bad_target k p ask small none) (over_limit _ _ _ long) = absurd (omega arith)
-  once _ _ _ _ (bad_target k p ask small none) (bad_target _ _ _ _ _) = (refl, refl)
-  once _ _ _ _ (bad_target k p ask small none) (too_many l q tree ask' file _) = absurd (no_file words input k l p q tree ask ask' none file)
-  once _ _ _ _ (bad_target k p ask small none) (done l q tree _ ask' file _) = absurd (no_file words input k l p q tree ask ask' none file)
-  once _ _ _ _ (too_many k p t ask file more) (usage other) = absurd (other k ask.text ask.are_words)
-  once _ _ _ _ (too_many k p t ask file more) (bad_pattern l text are none) = absurd (refused words l k text p are none ask)
-  once _ _ _ _ (too_many k p t ask file more) (over_limit _ _ _ long) = absurd (omega (arith, file.small))
-  once _ _ _ _ (too_many k p t ask file more) (bad_target l q ask' _ none) = absurd (no_file words input l k q p t ask' ask none file)
-  once _ _ _ _ (too_many k p t ask file more) (too_many _ _ _ _ _ _) = (refl, refl)
-  once _ _ _ _ (too_many k p t ask file more) (done l q u members ask' file' leaf) =
-      let whole = same_leaf words input k l p q t u (Full members) ask ask' file file' leaf in
+  once : (s t : Status) (ls ms : List (List ℕ)) → (HasSearched s → Settled words input) → Ends words input s ls → Ends words input t ms → Same s t ls ms
+  once _ _ _ _ settled (usage other) (usage _) = (refl, refl)
+  once _ _ _ _ settled (usage other) (bad_pattern l text are _) = absurd (other l text are)
+  once _ _ _ _ settled (usage other) (over_limit l _ ask _) = absurd (other l ask.text ask.are_words)
+  once _ _ _ _ settled (usage other) (bad_target l _ ask _ _) = absurd (other l ask.text ask.are_words)
+  once _ _ _ _ settled (usage other) (too_many l _ _ ask _ _) = absurd (other l ask.text ask.are_words)
+  once _ _ _ _ settled (usage other) (done l _ _ _ ask _ _) = absurd (other l ask.text ask.are_words)
+  once _ _ _ _ settled (bad_pattern k text are none) (usage other) = absurd (other k text are)
+  once _ _ _ _ settled (bad_pattern k text are none) (bad_pattern _ _ _ _) = (refl, refl)
+  once _ _ _ _ settled (bad_pattern k text are none) (over_limit l q ask _) = absurd (refused words k l text q are none ask)
+  once _ _ _ _ settled (bad_pattern k text are none) (bad_target l q ask _ _) = absurd (refused words k l text q are none ask)
+  once _ _ _ _ settled (bad_pattern k text are none) (too_many l q _ ask _ _) = absurd (refused words k l text q are none ask)
+  once _ _ _ _ settled (bad_pattern k text are none) (done l q _ _ ask _ _) = absurd (refused words k l text q are none ask)
+  once _ _ _ _ settled (over_limit k p ask long) (usage other) = absurd (other k ask.text ask.are_words)
+  once _ _ _ _ settled (over_limit k p ask long) (bad_pattern l text are none) = absurd (refused words l k text p are none ask)
+  once _ _ _ _ settled (over_limit k p ask long) (over_limit _ _ _ _) = (refl, refl)
+  once _ _ _ _ settled (over_limit k p ask long) (bad_target _ _ _ small _) = absurd (omega arith)
+  once _ _ _ _ settled (over_limit k p ask long) (too_many _ _ _ _ file _) = absurd (omega (arith, file.small))
+  once _ _ _ _ settled (over_limit k p ask long) (done _ _ _ _ _ file _) = absurd (omega (arith, file.small))
+  once _ _ _ _ settled (bad_target k p ask small none) (usage other) = absurd (other k ask.text ask.are_words)
+  once _ _ _ _ settled (bad_target k p ask small none) (bad_pattern l text are nothing) = absurd (refused words l k text p are nothing ask)
+  once _ _ _ _ settled (bad_target k p ask small none) (over_limit _ _ _ long) = absurd (omega arith)
+  once _ _ _ _ settled (bad_target k p ask small none) (bad_target _ _ _ _ _) = (refl, refl)
+  once _ _ _ _ settled (bad_target k p ask small none) (too_many l q tree ask' file _) = absurd (no_file words input k l p q tree ask ask' none file)
+  once _ _ _ _ settled (bad_target k p ask small none) (done l q tree _ ask' file _) = absurd (no_file words input k l p q tree ask ask' none file)
+  once _ _ _ _ settled (too_many k p t ask file more) (usage other) = absurd (other k ask.text ask.are_words)
+  once _ _ _ _ settled (too_many k p t ask file more) (bad_pattern l text are none) = absurd (refused words l k text p are none ask)
+  once _ _ _ _ settled (too_many k p t ask file more) (over_limit _ _ _ long) = absurd (omega (arith, file.small))
+  once _ _ _ _ settled (too_many k p t ask file more) (bad_target l q ask' _ none) = absurd (no_file words input l k q p t ask' ask none file)
+  once _ _ _ _ settled (too_many k p t ask file more) (too_many _ _ _ _ _ _) = (refl, refl)
+  once _ _ _ _ settled (too_many k p t ask file more) (done l q u members ask' file' leaf) =
+      let whole = same_leaf p q t u (Full members) (settled tt k l p q t u ask ask' file file') leaf in
       absurd (few_or_more (IsMember p t) 10000 members whole.0 whole.1 more)
-  once _ _ _ _ (done k p t members ask file leaf) (usage other) = absurd (other k ask.text ask.are_words)
-  once _ _ _ _ (done k p t members ask file leaf) (bad_pattern l text are none) = absurd (refused words l k text p are none ask)
-  once _ _ _ _ (done k p t members ask file leaf) (over_limit _ _ _ long) = absurd (omega (arith, file.small))
-  once _ _ _ _ (done k p t members ask file leaf) (bad_target l q ask' _ none) = absurd (no_file words input l k q p t ask' ask none file)
-  once _ _ _ _ (done k p t members ask file leaf) (too_many l q u ask' file' more) =
-      absurd (few_or_more (IsMember p t) 10000 members leaf.0 leaf.1 (same_leaf words input k l p q t u Crowded ask ask' file file' more))
-  once _ _ _ _ (done k p t members ask file leaf) (done l q u members' ask' file' leaf') =
-      let whole = same_leaf words input k l p q t u (Full members') ask ask' file file' leaf' in
+  once _ _ _ _ settled (done k p t members ask file leaf) (usage other) = absurd (other k ask.text ask.are_words)
+  once _ _ _ _ settled (done k p t members ask file leaf) (bad_pattern l text are none) = absurd (refused words l k text p are none ask)
+  once _ _ _ _ settled (done k p t members ask file leaf) (over_limit _ _ _ long) = absurd (omega (arith, file.small))
+  once _ _ _ _ settled (done k p t members ask file leaf) (bad_target l q ask' _ none) = absurd (no_file words input l k q p t ask' ask none file)
+  once _ _ _ _ settled (done k p t members ask file leaf) (too_many l q u ask' file' more) =
+      absurd (few_or_more (IsMember p t) 10000 members leaf.0 leaf.1 (same_leaf p q t u Crowded (settled tt k l p q t u ask ask' file file') more))
+  once _ _ _ _ settled (done k p t members ask file leaf) (done l q u members' ask' file' leaf') =
+      let whole = same_leaf p q t u (Full members') (settled tt k l p q t u ask ask' file file') leaf' in
       (refl, ap (map line_of) (whole_once (IsMember p t) members' members whole.0 leaf.0))
 
 -- so an answer and what was written are the only ones for an input that the source tells
-pub only_end : (words : List (List ℕ)) (left written after : Option (List ℕ)) (s : Status) → Printed words left written after s
+pub only_end : (words : List (List ℕ)) (left written after : Option (List ℕ)) (s : Status) → (HasSearched s → (bytes : List ℕ) → left ≡ Some bytes → Settled words bytes) → Printed words left written after s
     → (bytes : List ℕ) (t : Status) (lines : List (List ℕ)) → left ≡ Some bytes → Ends words bytes t lines → (t ≡ s) × Appends written after (concat lines)
-only_end words left written after s p bytes t lines e ends =
+only_end words left written after s settled p bytes t lines e ends =
     let P : Option (List ℕ) → Type 0 = λ o. Tells o p.input in
     let same : bytes ≡ p.input = subst P e p.told in
-    let Q : List ℕ → Type 0 = λ b. Ends words b t lines in
-    let one = once words p.input s t p.lines lines p.ends (subst Q same ends) in
+    let Q : List ℕ → Type 0 = λ b. Ends words b s p.lines in
+    let one = once words bytes s t p.lines lines (λ h. settled h bytes e) (subst Q (sym same) p.ends) ends in
     let R : List (List ℕ) → Type 0 = λ ls. Appends written after (concat ls) in
     (one.0, subst R (sym one.1) p.printed)
 
@@ -197,6 +193,25 @@ module _ (words : List (List ℕ)) (lang : Lang) (text : List ℕ) (pattern : Pa
   }
 
   module _ (left after : Option (List ℕ)) (read : List ℕ) (h : Consumes left after read) (end : IsAtEnd after) (tree : Node) (file : IsFileOf lang read tree) where
+    -- if no other pattern and no other tree were read, there is no other
+    pub settles : ((p : Pattern) → IsPatternOf lang text p → pattern ≡ p) → IsOnlyFile lang read tree → (bytes : List ℕ) → left ≡ Some bytes → Settled words bytes
+    settles only_pattern only_file bytes e k l p q t u a b f g =
+        (sym (the_pattern k p a) ∙ the_pattern l q b, the_tree k p t a f ∙ sym (the_tree l q u b g))
+      where
+        the_pattern : (m : Lang) (r : Pattern) → AskFor words m r → pattern ≡ r
+        the_pattern m r asks =
+            let same = same_words words m lang asks.text text asks.are_words are in
+            let P : Lang → Type 0 = λ x. IsPatternOf x asks.text r in
+            let Q : List ℕ → Type 0 = λ x. IsPatternOf lang x r in
+            only_pattern r (subst Q same.1 (subst P same.0 asks.is_pattern))
+
+        the_tree : (m : Lang) (r : Pattern) (v : Node) → AskFor words m r → IsFileOf m bytes v → v ≡ tree
+        the_tree m r v asks is_file =
+            let P : Option (List ℕ) → Type 0 = λ o. Tells o read in
+            let same : bytes ≡ read = subst P e (whole_input left after read h end) in
+            let Q : List ℕ → Type 0 = λ x. IsFileOf lang x v in
+            only_file v (subst Q same (other_lang m lang bytes v (one_lang words m lang r pattern asks ask) is_file))
+
     pub ends_too_many : (written : Option (List ℕ)) → IsLeaf (IsMember pattern tree) Crowded → Printed words left written written (TooMany 10000)
     ends_too_many written more = record { input = read; told = whole_input left after read h end; lines = []; ends = too_many lang pattern tree ask file more; printed = nothing_written written }
 

@@ -13,6 +13,7 @@ lang_word langs.Regex = codes "regex"
 -- the languages whose files are matched so far
 abbrev pub IsMatched : Lang → Type 0
 IsMatched langs.Json = ⊤
+IsMatched langs.Python = ⊤
 IsMatched _ = ⊥
 
 -- the words are `match`, the word of a language, and a pattern

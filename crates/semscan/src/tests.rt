@@ -19,9 +19,10 @@ fn calls(alloc: Global, failing: Option<u32>) -> Result<List<u32>, Fail> {
     Ok(calls)
 }
 
-// One run of `match json`, its input handed out by three bytes at a time.
+// One run of `match`, its input handed out by three bytes at a time.
 #[derive(Drop)]
 struct Case<'c> {
+    lang: &'c str,
     pattern: &'c str,
     input: &'c [u8],
     failing_read: Option<u32>,
@@ -31,7 +32,7 @@ struct Case<'c> {
 fn run_case(alloc: Global, case: &Case<'_>) -> Result<(Status, MemorySink), Fail> {
     let words = vec![in alloc;
         String::from_str(alloc, "match")?,
-        String::from_str(alloc, "json")?,
+        String::from_str(alloc, case.lang)?,
         String::from_str(alloc, case.pattern)?,
     ]?;
     let bytes = Bytes::from_slice(alloc, case.input)?;
@@ -41,15 +42,17 @@ fn run_case(alloc: Global, case: &Case<'_>) -> Result<(Status, MemorySink), Fail
     Ok((status, out))
 }
 
-// Whether a run without a failing call ends so and prints this.
-fn gives(
+// Whether a run of the language without a failing call ends so and prints this.
+fn gives_in(
     alloc: Global,
+    lang: &str,
     pattern: &str,
     input: &[u8],
     status: Status,
     printed: &[u8],
 ) -> Result<bool, Fail> {
     let case = Case {
+        lang,
         pattern,
         input,
         failing_read: None,
@@ -57,6 +60,17 @@ fn gives(
     };
     let (found, out) = run_case(alloc, &case)?;
     Ok(found == status && out.as_slice() == printed)
+}
+
+// The same of a run of `match json`.
+fn gives(
+    alloc: Global,
+    pattern: &str,
+    input: &[u8],
+    status: Status,
+    printed: &[u8],
+) -> Result<bool, Fail> {
+    gives_in(alloc, "json", pattern, input, status, printed)
 }
 
 #[test]
@@ -130,6 +144,7 @@ fn zeros(alloc: Global, count: usize) -> Result<Vec<u8>, Fail> {
 #[test]
 fn counts_ten_thousand_members(rt: HostRuntime) -> Result<(), Fail> {
     let mut case = Case {
+        lang: "json",
         pattern: "0",
         input: b"",
         failing_read: None,
@@ -162,8 +177,56 @@ fn refuses_what_has_no_tree(rt: HostRuntime) -> Result<(), Fail> {
 }
 
 #[test]
+fn matches_expressions_of_python(rt: HostRuntime) -> Result<(), Fail> {
+    let rows: [(&str, &[u8], &[u8]); 7] = [
+        ("$X == $X", b"a.b == (a.b)\n", b"0..12 $X=0..3\n"),
+        ("$X == $X", b"a == b\n", b""),
+        (
+            "foo(..., $X, ...)",
+            b"foo(1,2,1)\n",
+            b"0..10 $X=4..5\n0..10 $X=6..7\n0..10 $X=8..9\n",
+        ),
+        ("foo(...)", b"foo()\n", b"0..5\n"),
+        (
+            "f(<... $X + 1 ...>)",
+            b"f(g(a + 1) + 1)\n",
+            b"0..15 $X=2..10\n0..15 $X=4..5\n",
+        ),
+        ("f\"{$X}\"", b"f\"{a + 1}\"\n", b"0..10 $X=3..8\n"),
+        (
+            "\"...\"",
+            b"g(\"a\", 'b' \"c\")\n",
+            b"2..5\n7..10\n7..14\n11..14\n",
+        ),
+    ];
+    for (pattern, input, printed) in rows {
+        assert!(rt;
+            gives_in(rt.alloc(), "python", pattern, input, Status::Done, printed)?
+        );
+    }
+    Ok(())
+}
+
+#[test]
+fn refuses_what_is_no_expression_of_python(rt: HostRuntime) -> Result<(), Fail> {
+    let rows: [(&str, &[u8], Status); 6] = [
+        ("foo(", b"a\n", Status::BadPattern),
+        ("$...A + 1", b"a\n", Status::BadPattern),
+        ("...", b"a\n", Status::BadPattern),
+        ("x", b"x = 1\n", Status::BadTarget),
+        ("x", b"x\nx\n", Status::BadTarget),
+        ("x", b"", Status::BadTarget),
+    ];
+    for (pattern, input, status) in rows {
+        assert!(rt; gives_in(rt.alloc(), "python", pattern, input, status, b"")?);
+    }
+    Ok(())
+}
+
+#[test]
 fn says_which_call_failed(rt: HostRuntime) -> Result<(), Fail> {
     let mut case = Case {
+        lang: "json",
         pattern: "1",
         input: b"[1,{\"a\":1}]",
         failing_read: Some(1),

@@ -12,10 +12,12 @@ fn lang_of(word: &str) -> Option<Lang>
     ensures none { IfNone result ((l : lang) → IsMatched l → word.now ≡ lang_word l → ⊥) }
 {
     if word == "json" {
-        Some(Lang::Json)
-    } else {
-        None
+        return Some(Lang::Json);
     }
+    if word == "python" {
+        return Some(Lang::Python);
+    }
+    None
 }
 
 /// The language and the pattern in the words `match LANG PATTERN`. No other words are understood.

@@ -5,7 +5,7 @@ use Rattle.tree_match.specs.Members.{IsMember}
 use Rattle.tree_match.specs.Leaf.{IsLeaf}
 use Rattle.semscan.specs.Words.{AreOtherWords}
 use Rattle.semscan.specs.Run.{usage, bad_pattern}
-use Rattle.semscan.proofs.Runs.{asked, only_end, unread, ends_over_limit, ends_bad_target, ends_too_many, ends_done, ends_cut, ends_short}
+use Rattle.semscan.proofs.Runs.{asked, only_end, unread, ends_over_limit, ends_bad_target, ends_too_many, ends_done, ends_cut, ends_short, settles}
 use Rattle.semscan.proofs.run.run.Goals as goal
 
 pub returns-in_default-clause-ends : goal.returns-in_default-clause-ends
@@ -15,11 +15,11 @@ returns-in_default-clause-ends g c h =
 pub returns-in_default-fault-clause-ends : goal.returns-in_default-fault-clause-ends
 returns-in_default-fault-clause-ends g c h =
     unread _ _ _ _
-    (λ input. bad_pattern c.in-Some.lang c.in-Some.word.now (asked _ _ _ _ (ap (map string_bytes) c.deref.ensures.value) c.in-Some.ensures.asked) (refused c.in-Some.lang c.in-Some.word.now _ c.in_default-fault.not-Memory c.in-Err.ensures.fault))
+    (λ input. bad_pattern c.in-Some.lang c.in-Some.word.now (asked _ _ _ _ (ap (map string_bytes) c.deref.ensures.value) c.in-Some.ensures.asked) (refused c.in-Some.lang c.in-Some.word.now _ c.in_default-fault.not-Memory c.in-Err.ensures.only))
 
 pub returns-in_default-fault-clause-only : goal.returns-in_default-fault-clause-only
 returns-in_default-fault-clause-only g c h bytes s lines e ends =
-    only_end _ _ _ _ _ (returns-in_default-fault-clause-ends g c h) bytes s lines e ends
+    only_end _ _ _ _ _ (λ no. absurd no) (returns-in_default-fault-clause-ends g c h) bytes s lines e ends
 
 pub returns-then-len-eq-MOST-clause-ends : goal.returns-then-len-eq-MOST-clause-ends
 returns-then-len-eq-MOST-clause-ends g c h =
@@ -29,7 +29,7 @@ returns-then-len-eq-MOST-clause-ends g c h =
 
 pub returns-then-len-eq-MOST-clause-only : goal.returns-then-len-eq-MOST-clause-only
 returns-then-len-eq-MOST-clause-only g c h bytes s lines e ends =
-    only_end _ _ _ _ _ (returns-then-len-eq-MOST-clause-ends g c h) bytes s lines e ends
+    only_end _ _ _ _ _ (λ no. absurd no) (returns-then-len-eq-MOST-clause-ends g c h) bytes s lines e ends
 
 pub returns-in-Err-NoTree-clause-ends : goal.returns-in-Err-NoTree-clause-ends
 returns-in-Err-NoTree-clause-ends g c h =
@@ -41,7 +41,7 @@ returns-in-Err-NoTree-clause-ends g c h =
 
 pub returns-in-Err-NoTree-clause-only : goal.returns-in-Err-NoTree-clause-only
 returns-in-Err-NoTree-clause-only g c h bytes s lines e ends =
-    only_end _ _ _ _ _ (returns-in-Err-NoTree-clause-ends g c h) bytes s lines e ends
+    only_end _ _ _ _ _ (λ no. absurd no) (returns-in-Err-NoTree-clause-ends g c h) bytes s lines e ends
 
 pub returns-in-Ok-Crowded-clause-ends : goal.returns-in-Ok-Crowded-clause-ends
 returns-in-Ok-Crowded-clause-ends g c h =
@@ -52,7 +52,11 @@ returns-in-Ok-Crowded-clause-ends g c h =
 
 pub returns-in-Ok-Crowded-clause-only : goal.returns-in-Ok-Crowded-clause-only
 returns-in-Ok-Crowded-clause-only g c h bytes s lines e ends =
-    only_end _ _ _ _ _ (returns-in-Ok-Crowded-clause-ends g c h) bytes s lines e ends
+    let are = asked _ _ _ _ (ap (map string_bytes) c.deref.ensures.value) c.in-Some.ensures.asked in
+    let end = c.in-Ok-read_input.ensures.end (omega (arith, c.in-Ok-read_input.ensures.limit, c.if-len-eq-MOST.false, c.len.ensures)) in
+    let settled = settles _ c.in-Some.lang c.in-Some.word.now c.in-Ok.pattern are c.in-Ok.ensures.pattern _ _ c.in-Ok-read_input.bytes.items c.in-Ok-read_input.ensures.bytes end
+    c.in-Ok-read_file.file.tree c.in-Ok-read_file.ensures.file c.in-Ok.ensures.only c.in-Ok-read_file.ensures.only in
+    only_end _ _ _ _ _ (λ searched. settled) (returns-in-Ok-Crowded-clause-ends g c h) bytes s lines e ends
 
 pub returns-in-Ok-print_all-clause-ends : goal.returns-in-Ok-print_all-clause-ends
 returns-in-Ok-print_all-clause-ends g c h =
@@ -63,7 +67,11 @@ returns-in-Ok-print_all-clause-ends g c h =
 
 pub returns-in-Ok-print_all-clause-only : goal.returns-in-Ok-print_all-clause-only
 returns-in-Ok-print_all-clause-only g c h bytes s lines e ends =
-    only_end _ _ _ _ _ (returns-in-Ok-print_all-clause-ends g c h) bytes s lines e ends
+    let are = asked _ _ _ _ (ap (map string_bytes) c.deref.ensures.value) c.in-Some.ensures.asked in
+    let end = c.in-Ok-read_input.ensures.end (omega (arith, c.in-Ok-read_input.ensures.limit, c.if-len-eq-MOST.false, c.len.ensures)) in
+    let settled = settles _ c.in-Some.lang c.in-Some.word.now c.in-Ok.pattern are c.in-Ok.ensures.pattern _ _ c.in-Ok-read_input.bytes.items c.in-Ok-read_input.ensures.bytes end
+    c.in-Ok-read_file.file.tree c.in-Ok-read_file.ensures.file c.in-Ok.ensures.only c.in-Ok-read_file.ensures.only in
+    only_end _ _ _ _ _ (λ searched. settled) (returns-in-Ok-print_all-clause-ends g c h) bytes s lines e ends
 
 pub returns-in-Err-Memory-print_all-clause-whole_lines : goal.returns-in-Err-Memory-print_all-clause-whole_lines
 returns-in-Err-Memory-print_all-clause-whole_lines g c h =
