@@ -9,5 +9,3 @@ pub use expression::Expression;
 pub use file::read_file;
 pub use read::read_expression;
 
-#[cfg(test)]
-mod tests;
