@@ -13,10 +13,11 @@ use Rattle.node_tree.specs.Gives.{Gives}
 use Rattle.node_tree.specs.Tree.{kind_of, kids_of}
 use Rattle.json_tree.specs.Spells.{IsTreeOf}
 use Rattle.json_tree.proofs.Trees.{kid_of_root}
+use Rattle.py_text.specs.declared.expression.Expression.{Expression}
 use Rattle.pattern_read.specs.declared.fault.PatternFault.{PatternFault}
 use Rattle.pattern_read.specs.declared.fault.PatternFault.TheVariants as faults
 use Rattle.pattern_read.specs.Dots.{is_dots, DotsArePlaced}
-use Rattle.pattern_read.specs.Patterns.{IsJsonValue, IsTextOf, IsPatternOf, IsFault, GivesPattern, fault_of}
+use Rattle.pattern_read.specs.Patterns.{IsJsonValue, IsPythonExpression, IsTextOf, IsPatternOf, IsFault, GivesPattern, fault_of}
 
 module _ (text : List ℕ) (root kid value : Node) (others : List Node) (tree : IsTreeOf modes.Pattern text root) (kids : kids_of root ≡ others ++ kid ∷ []) where
   -- the last kid of the tree is the value
@@ -25,9 +26,15 @@ module _ (text : List ℕ) (root kid value : Node) (others : List Node) (tree : 
 
   pub same_kid : (is : IsJsonValue text value) → Some is.root ≡ Some root → Some value ≡ Some kid
   same_kid is h =
+      let kids_are : kids_of root ≡ kid ∷ [] = kid_of_root modes.Pattern text root kid others tree kids in
       let roots : is.root ≡ root = cc in
-      let one : value ∷ [] ≡ kid ∷ [] = sym is.kids ∙ ap kids_of roots ∙ last_kid.kids in
+      let one : value ∷ [] ≡ kid ∷ [] = sym is.kids ∙ ap kids_of roots ∙ kids_are in
       cc
+
+pub same_expression : (text : List ℕ) (found : Expression) (value : Node) → (is : IsPythonExpression text value) → Some is.expression ≡ Some found → Some value ≡ Some found.tree
+same_expression text found value is h =
+    let one : is.expression ≡ found = cc in
+    ap Some (sym is.is_tree ∙ ap (λ (e : Expression). e.tree) one)
 
 module _ (lang : Lang) (text : List ℕ) where
   -- a tree that is not read makes a pattern that is not there
