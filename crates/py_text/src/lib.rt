@@ -9,3 +9,5 @@ pub use expression::Expression;
 pub use file::read_file;
 pub use read::read_expression;
 
+#[cfg(test)]
+mod tests;
