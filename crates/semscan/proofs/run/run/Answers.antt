@@ -12,6 +12,10 @@ pub returns-in_default-clause-ends : goal.returns-in_default-clause-ends
 returns-in_default-clause-ends g c h =
     unread _ _ _ _ (λ input. usage (subst (λ (l : List (List ℕ)). AreOtherWords l) (ap (map string_bytes) c.deref.ensures.value) c.in_default.ensures.other))
 
+pub returns-in_default-clause-only : goal.returns-in_default-clause-only
+returns-in_default-clause-only g c h bytes s lines e ends =
+    only_end _ _ _ _ _ (λ no. absurd no) (returns-in_default-clause-ends g c h) bytes s lines e ends
+
 pub returns-in_default-fault-clause-ends : goal.returns-in_default-fault-clause-ends
 returns-in_default-fault-clause-ends g c h =
     unread _ _ _ _
