@@ -1,5 +1,5 @@
 -- What holds of all nodes that are left, and of one that is taken, holds of all.
-use Rattle.std.proofs.Common.{◌≡◌, ◌↔◌, ℕ, suc, List, ◌∷◌, subst, sym, arith}
+use Rattle.std.proofs.Common.{◌≡◌, ◌↔◌, suc, List, ◌∷◌, subst, sym, arith}
 use Rattle.std.specs.Prelude.{All}
 use Rattle.std.proofs.lemmas.List.Elements.{All-cons}
 

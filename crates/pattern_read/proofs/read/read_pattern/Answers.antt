@@ -1,5 +1,5 @@
 use Rattle.std.proofs.lemmas.Result.{err_from_is_err_and}
-use Rattle.pattern_read.proofs.Laws.{unread_fault, unread_pattern, dots_alone, dots_astray, one_pattern}
+use Rattle.pattern_read.proofs.Laws.{unread_fault, unread_pattern, one_pattern}
 use Rattle.pattern_read.proofs.read.read_pattern.Goals as goal
 
 pub returns-in_err-tree-clause-fault : goal.returns-in_err-tree-clause-fault
