@@ -73,6 +73,7 @@ module _ (mode : Mode) (text : List ℕ) (ts : List PyToken) (only : (us : List 
         let same : e.tree ≡ tree = (both e.tree tree (length run) to h).0 in
         let make : Node → Span → Expression = λ t s. record { tree = t; span = s } in
         ap (λ (t : Node). make t e.span) same ∙ ap (λ (s : Span). make tree s) (extends_run ∙ sym k)
+
 -- the tokens of a line lie in a text where all tokens do
 pub line_lies : (text : List ℕ) (ts run : List PyToken) → IsUtf8 text → AreTokensIn text ts → IsLine ts run → LiesIn text (extent run)
 line_lies text ts run utf8 lie line =

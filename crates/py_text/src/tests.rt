@@ -33,11 +33,7 @@ fn reads_a_file(rt: HostRuntime) -> Result<(), Fail> {
 }
 
 // The kind of the expression that a text is, and its range.
-fn expression_of(
-    alloc: Global,
-    text: &str,
-    mode: Mode,
-) -> Result<(Kind, Span), ReadFault> {
+fn expression_of(alloc: Global, text: &str, mode: Mode) -> Result<(Kind, Span), ReadFault> {
     let found = read_expression(alloc, text, mode)?;
     Ok((found.tree.kind, found.span))
 }

@@ -200,9 +200,7 @@ fn matches_expressions_of_python(rt: HostRuntime) -> Result<(), Fail> {
         ),
     ];
     for (pattern, input, printed) in rows {
-        assert!(rt;
-            gives_in(rt.alloc(), "python", pattern, input, Status::Done, printed)?
-        );
+        assert!(rt; gives_in(rt.alloc(), "python", pattern, input, Status::Done, printed)?);
     }
     Ok(())
 }
