@@ -1,3 +1,5 @@
+ghost use Rattle.std.specs.Prelude.{◌≤◌, length};
+
 use super::*;
 use node_tree::{Kind, Mode, Node, ReadFault, Span};
 use std::alloc::Global;
@@ -16,7 +18,7 @@ fn reads_a_file(rt: HostRuntime) -> Result<(), Fail> {
     let rows = [
         ("a", span(0, 1), span(0, 1), span(0, 1)),
         ("(a)\n", span(0, 4), span(0, 3), span(1, 2)),
-        ("\n ( a\n) # b\n", span(0, 12), span(2, 7), span(4, 5)),
+        ("\n( a\n) # b\n", span(0, 11), span(1, 6), span(3, 4)),
     ];
     for (text, whole, line, inside) in rows {
         let root = read_file(rt.alloc(), text)?;
@@ -33,7 +35,9 @@ fn reads_a_file(rt: HostRuntime) -> Result<(), Fail> {
 }
 
 // The kind of the expression that a text is, and its range.
-fn expression_of(alloc: Global, text: &str, mode: Mode) -> Result<(Kind, Span), ReadFault> {
+fn expression_of(alloc: Global, text: &str, mode: Mode) -> Result<(Kind, Span), ReadFault>
+    requires { length text.now ≤ 1000000 }
+{
     let found = read_expression(alloc, text, mode)?;
     Ok((found.tree.kind, found.span))
 }
