@@ -13,6 +13,9 @@ import tempfile
 
 SIZE = 1_000_000
 RUNS = 7
+# prints the processor time that json.loads takes, reading included
+LOADS = ('import sys, json, time; start = time.process_time(); json.loads(sys.stdin.buffer.read()); '
+         'print(time.process_time() - start)')
 PROGRAM = os.path.join(os.path.dirname(os.path.abspath(__file__)), '..', 'crates', 'semscan', 'out', 'semscan')
 
 
@@ -51,10 +54,8 @@ def least(command, path):
     return min(times), run.returncode
 
 
-def least_parse(path):
-    """The least processor time of several parses of a file by json.loads in new processes, reading included, in seconds."""
-    code = ('import sys, json, time; start = time.process_time(); json.loads(sys.stdin.buffer.read()); '
-            'print(time.process_time() - start)')
+def least_parse(path, code):
+    """The least of the times, in seconds, that several new processes print which run the code on a file."""
     times = []
     for _ in range(RUNS):
         with open(path, 'rb') as source:
@@ -89,7 +90,7 @@ def main():
             took, status = least(ours, path)
             if status != 0:
                 sys.exit('%s ends with %d on %s' % (ours[0], status, name))
-            a, b = took - our_start, least_parse(path)
+            a, b = took - our_start, least_parse(path, LOADS)
             room = peak(ours, path) / len(text)
             print('%-8s %7d bytes: semscan %6.1f ms, json.loads %6.1f ms, ratio %.2f, %3.0f bytes of memory a byte' % (
                 name, len(text), 1e3 * a, 1e3 * b, a / b, room))

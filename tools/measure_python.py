@@ -8,12 +8,15 @@ text (the least of as many), the ratio of the two, and the program's peak memory
 """
 import ast
 import os
-import subprocess
 import sys
 import sysconfig
 import tempfile
 
-from measure_json import PROGRAM, RUNS, SIZE, fill, least, peak
+from measure_json import PROGRAM, SIZE, fill, least, least_parse, peak
+
+# prints the processor time that ast.parse takes
+PARSE = ('import sys, ast, time; text = sys.stdin.buffer.read(); start = time.process_time(); ast.parse(text); '
+         'print(time.process_time() - start)')
 
 
 def expressions():
@@ -55,17 +58,6 @@ def texts():
     yield 'library', library()
 
 
-def least_parse(path):
-    """The least processor time of several parses of a file by ast.parse in new processes, in seconds."""
-    code = ('import sys, ast, time; text = sys.stdin.buffer.read(); start = time.process_time(); ast.parse(text); '
-            'print(time.process_time() - start)')
-    times = []
-    for _ in range(RUNS):
-        with open(path, 'rb') as source:
-            times.append(float(subprocess.run([sys.executable, '-c', code], stdin=source, capture_output=True).stdout))
-    return min(times)
-
-
 def main():
     ours = [os.path.abspath(PROGRAM), 'match', 'python', 'zzz']
     with tempfile.TemporaryDirectory() as folder:
@@ -82,7 +74,7 @@ def main():
             took, status = least(ours, path)
             if status != 0:
                 sys.exit('%s ends with %d on %s' % (ours[0], status, name))
-            a, b = took - our_start, least_parse(path)
+            a, b = took - our_start, least_parse(path, PARSE)
             print('%-9s %7d bytes: semscan %6.1f ms, ast.parse %6.1f ms, ratio %.2f, %3.0f bytes of memory a byte' % (
                 name, size, 1e3 * a, 1e3 * b, a / b, peak(ours, path) / size))
 
