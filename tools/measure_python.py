@@ -19,6 +19,14 @@ PARSE = ('import sys, ast, time; text = sys.stdin.buffer.read(); start = time.pr
          'print(time.process_time() - start)')
 
 
+def written(lines, node):
+    """A node as it is written, from the lines of its file as bytes."""
+    first, last = node.lineno - 1, node.end_lineno - 1
+    if first == last:
+        return lines[first][node.col_offset:node.end_col_offset]
+    return b''.join([lines[first][node.col_offset:], *lines[first + 1:last], lines[last][:node.end_col_offset]])
+
+
 def expressions():
     """The expressions of the standard library's statements, each as it is written, in the files' order."""
     top = sysconfig.get_paths()['stdlib']
@@ -26,27 +34,29 @@ def expressions():
         for name in sorted(files):
             if not name.endswith('.py'):
                 continue
-            with open(os.path.join(folder, name), encoding='utf-8', errors='strict') as f:
-                try:
-                    text = f.read()
-                    tree = ast.parse(text)
-                except (SyntaxError, UnicodeDecodeError, ValueError):
-                    continue
+            with open(os.path.join(folder, name), 'rb') as f:
+                text = f.read()
+            try:
+                tree = ast.parse(text)
+            except (SyntaxError, ValueError):
+                continue
+            lines = [line + b'\n' for line in text.split(b'\n')]
             for node in ast.walk(tree):
                 value = getattr(node, 'value', None) if isinstance(node, (ast.Assign, ast.Expr, ast.Return)) else None
                 if isinstance(value, ast.expr) and not isinstance(value, (ast.Yield, ast.YieldFrom, ast.Tuple, ast.Starred)):
-                    yield ast.get_source_segment(text, value)
+                    yield written(lines, value)
 
 
 def library():
+    """A list of such expressions, of those without a byte outside ASCII and a continued line."""
     parts, size = [], 2
     for one in expressions():
-        if one is None or '\\\n' in one:
+        if not one.isascii() or b'\\\n' in one:
             continue
-        if size + len(one.encode()) + 2 > SIZE:
+        if size + len(one) + 2 > SIZE:
             break
-        parts.append(one)
-        size += len(one.encode()) + 2
+        parts.append(one.decode())
+        size += len(one) + 2
     return '[%s]' % ',\n'.join(parts)
 
 
