@@ -1,0 +1,183 @@
+-- Closed runs are promised of the levels that any class may follow, in texts and in patterns.
+use Rattle.std.proofs.Common.{◌≡◌, true, refl, arith}
+use Rattle.node_tree.specs.declared.view.Mode.TheVariants as modes
+use Rattle.grammar.specs.Check.{closes}
+use Rattle.grammar.specs.Tests.{Declared}
+use Rattle.c_expr.specs.Words.{class, of_mode}
+use Rattle.c_expr.specs.Table.{Level, Comma, CommaTail, Assign, AssignMore, Cond, CondPart, Or, OrOps, And, AndOps, BitOr, BitOrOps, BitXor, BitXorOps, BitAnd, BitAndOps, Equality, EqualityOps, Relational, RelationalOps, Shift, ShiftOps, Additive, AdditiveOps, Multiplicative, MultiplicativeOps, Cast, Unary, Sizeof, Postfix, PostfixTail, Suffix, Prim, Strings, StringsTail, Deep, Args, ArgsTail, Arg, Tname, Spec, SpecStart, QualifiersTail, Typed, TypedFirst, TypedTail, Group, Body, Enumerators, EnumeratorsTail, Enumerator, Fields, Field, Members, MembersTail, Member, Width, Declr, NamedDirect, DeclrFirst, Nameless, NamelessDirect, Maybe, MaybeDirect, DeclrTail, DeclrPart, Stars, Words, Params, ParamsTail, Param, Var, Init, Inis, InisTail, Ini, Desigs, DesigsTail, Desig, table, grammar}
+use Rattle.c_expr.specs.Sets.{sets, ranks, tests}
+use Rattle.c_expr.proofs.Settled.{opens_cast_is, sizes_type_is, takes_type_is, opens_declarator_is, opens_enumerators_is}
+
+pub close_pattern : (l : Level) → closes grammar sets ranks tests (of_mode modes.Pattern) 30 l ≡ true
+unfolding class
+close_pattern Comma = refl
+close_pattern CommaTail = refl
+close_pattern Assign = refl
+close_pattern AssignMore = refl
+close_pattern Cond = refl
+close_pattern CondPart = refl
+close_pattern Or = refl
+close_pattern OrOps = refl
+close_pattern And = refl
+close_pattern AndOps = refl
+close_pattern BitOr = refl
+close_pattern BitOrOps = refl
+close_pattern BitXor = refl
+close_pattern BitXorOps = refl
+close_pattern BitAnd = refl
+close_pattern BitAndOps = refl
+close_pattern Equality = refl
+close_pattern EqualityOps = refl
+close_pattern Relational = refl
+close_pattern RelationalOps = refl
+close_pattern Shift = refl
+close_pattern ShiftOps = refl
+close_pattern Additive = refl
+close_pattern AdditiveOps = refl
+close_pattern Multiplicative = refl
+close_pattern MultiplicativeOps = refl
+close_pattern Cast = refl
+close_pattern Unary = refl
+close_pattern Sizeof = refl
+close_pattern Postfix = refl
+close_pattern PostfixTail = refl
+close_pattern Suffix = refl
+close_pattern Prim = refl
+close_pattern Strings = refl
+close_pattern StringsTail = refl
+close_pattern Deep = refl
+close_pattern Args = refl
+close_pattern ArgsTail = refl
+close_pattern Arg = refl
+close_pattern Tname = refl
+close_pattern Spec = refl
+close_pattern SpecStart = refl
+close_pattern QualifiersTail = refl
+close_pattern Typed = refl
+close_pattern TypedFirst = refl
+close_pattern TypedTail = refl
+close_pattern Group = refl
+close_pattern Body = refl
+close_pattern Enumerators = refl
+close_pattern EnumeratorsTail = refl
+close_pattern Enumerator = refl
+close_pattern Fields = refl
+close_pattern Field = refl
+close_pattern Members = refl
+close_pattern MembersTail = refl
+close_pattern Member = refl
+close_pattern Width = refl
+close_pattern Declr = refl
+close_pattern NamedDirect = refl
+close_pattern DeclrFirst = refl
+close_pattern Nameless = refl
+close_pattern NamelessDirect = refl
+close_pattern Maybe = refl
+close_pattern MaybeDirect = refl
+close_pattern DeclrTail = refl
+close_pattern DeclrPart = refl
+close_pattern Stars = refl
+close_pattern Words = refl
+close_pattern Params = refl
+close_pattern ParamsTail = refl
+close_pattern Param = refl
+close_pattern Var = refl
+close_pattern Init = refl
+close_pattern Inis = refl
+close_pattern InisTail = refl
+close_pattern Ini = refl
+close_pattern Desigs = refl
+close_pattern DesigsTail = refl
+close_pattern Desig = refl
+
+pub close_text : (l : Level) → closes grammar sets ranks tests (of_mode modes.Text) 30 l ≡ true
+unfolding class
+close_text Comma = refl
+close_text CommaTail = refl
+close_text Assign = refl
+close_text AssignMore = refl
+close_text Cond = refl
+close_text CondPart = refl
+close_text Or = refl
+close_text OrOps = refl
+close_text And = refl
+close_text AndOps = refl
+close_text BitOr = refl
+close_text BitOrOps = refl
+close_text BitXor = refl
+close_text BitXorOps = refl
+close_text BitAnd = refl
+close_text BitAndOps = refl
+close_text Equality = refl
+close_text EqualityOps = refl
+close_text Relational = refl
+close_text RelationalOps = refl
+close_text Shift = refl
+close_text ShiftOps = refl
+close_text Additive = refl
+close_text AdditiveOps = refl
+close_text Multiplicative = refl
+close_text MultiplicativeOps = refl
+close_text Cast = refl
+close_text Unary = refl
+close_text Sizeof = refl
+close_text Postfix = refl
+close_text PostfixTail = refl
+close_text Suffix = refl
+close_text Prim = refl
+close_text Strings = refl
+close_text StringsTail = refl
+close_text Deep = refl
+close_text Args = refl
+close_text ArgsTail = refl
+close_text Arg = refl
+close_text Tname = refl
+close_text Spec = refl
+close_text SpecStart = refl
+close_text QualifiersTail = refl
+close_text Typed = refl
+close_text TypedFirst = refl
+close_text TypedTail = refl
+close_text Group = refl
+close_text Body = refl
+close_text Enumerators = refl
+close_text EnumeratorsTail = refl
+close_text Enumerator = refl
+close_text Fields = refl
+close_text Field = refl
+close_text Members = refl
+close_text MembersTail = refl
+close_text Member = refl
+close_text Width = refl
+close_text Declr = refl
+close_text NamedDirect = refl
+close_text DeclrFirst = refl
+close_text Nameless = refl
+close_text NamelessDirect = refl
+close_text Maybe = refl
+close_text MaybeDirect = refl
+close_text DeclrTail = refl
+close_text DeclrPart = refl
+close_text Stars = refl
+close_text Words = refl
+close_text Params = refl
+close_text ParamsTail = refl
+close_text Param = refl
+close_text Var = refl
+close_text Init = refl
+close_text Inis = refl
+close_text InisTail = refl
+close_text Ini = refl
+close_text Desigs = refl
+close_text DesigsTail = refl
+close_text Desig = refl
+
+pub declared : (l : Level) → Declared tests l (table l)
+declared Assign = ((503, omega arith, opens_cast_is), record {})
+declared Cast = ((503, omega arith, opens_cast_is), record {})
+declared Sizeof = ((504, omega arith, sizes_type_is), record {})
+declared Arg = ((502, omega arith, takes_type_is), record {})
+declared Body = ((64, omega arith, opens_enumerators_is), record {})
+declared NamelessDirect = ((64, omega arith, opens_declarator_is), record {})
+declared MaybeDirect = ((64, omega arith, opens_declarator_is), record {})
+declared _ = record {}

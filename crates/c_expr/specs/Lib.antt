@@ -1,0 +1,7 @@
+pub mod Words
+pub mod Settling
+pub mod Table
+pub mod Sets
+pub mod Build
+pub mod Reading
+pub mod Spells
