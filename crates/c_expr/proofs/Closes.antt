@@ -4,7 +4,7 @@ use Rattle.node_tree.specs.declared.view.Mode.TheVariants as modes
 use Rattle.grammar.specs.Check.{closes}
 use Rattle.grammar.specs.Tests.{Declared}
 use Rattle.c_expr.specs.Words.{class, of_mode}
-use Rattle.c_expr.specs.Table.{Level, Comma, CommaTail, Assign, AssignMore, Cond, CondPart, Or, OrOps, And, AndOps, BitOr, BitOrOps, BitXor, BitXorOps, BitAnd, BitAndOps, Equality, EqualityOps, Relational, RelationalOps, Shift, ShiftOps, Additive, AdditiveOps, Multiplicative, MultiplicativeOps, Cast, Unary, Sizeof, Postfix, PostfixTail, Suffix, Prim, Strings, StringsTail, Deep, Args, ArgsTail, Arg, Tname, Spec, SpecStart, QualifiersTail, Typed, TypedFirst, TypedTail, Group, Body, Enumerators, EnumeratorsTail, Enumerator, Fields, Field, Members, MembersTail, Member, Width, Declr, NamedDirect, DeclrFirst, Nameless, NamelessDirect, Maybe, MaybeDirect, DeclrTail, DeclrPart, Stars, Words, Params, ParamsTail, Param, Var, Init, Inis, InisTail, Ini, Desigs, DesigsTail, Desig, table, grammar}
+use Rattle.c_expr.specs.Table.{Level, Comma, CommaTail, Assign, AssignMore, Cond, CondPart, Or, OrOps, OrTail, And, AndOps, AndTail, BitOr, BitOrOps, BitOrTail, BitXor, BitXorOps, BitXorTail, BitAnd, BitAndOps, BitAndTail, Equality, EqualityOps, EqualityTail, Relational, RelationalOps, RelationalTail, Shift, ShiftOps, ShiftTail, Additive, AdditiveOps, AdditiveTail, Multiplicative, MultiplicativeOps, MultiplicativeTail, Cast, Unary, Sizeof, Postfix, PostfixTail, Suffix, Prim, Strings, StringsTail, Deep, Args, ArgsTail, Arg, Tname, Spec, SpecStart, QualifiersTail, Typed, TypedFirst, TypedTail, Group, Body, Enumerators, EnumeratorsTail, Enumerator, Fields, Field, Members, MembersTail, Member, Width, Declr, NamedDirect, DeclrFirst, Nameless, NamelessDirect, Maybe, MaybeDirect, DeclrTail, DeclrPart, Stars, Words, Params, ParamsTail, Param, Var, Init, Inis, InisTail, Ini, Desigs, DesigsTail, Desig, table, grammar}
 use Rattle.c_expr.specs.Sets.{sets, ranks, tests}
 use Rattle.c_expr.proofs.Settled.{opens_cast_is, sizes_type_is, takes_type_is, opens_declarator_is, opens_enumerators_is}
 
@@ -18,24 +18,34 @@ close_pattern Cond = refl
 close_pattern CondPart = refl
 close_pattern Or = refl
 close_pattern OrOps = refl
+close_pattern OrTail = refl
 close_pattern And = refl
 close_pattern AndOps = refl
+close_pattern AndTail = refl
 close_pattern BitOr = refl
 close_pattern BitOrOps = refl
+close_pattern BitOrTail = refl
 close_pattern BitXor = refl
 close_pattern BitXorOps = refl
+close_pattern BitXorTail = refl
 close_pattern BitAnd = refl
 close_pattern BitAndOps = refl
+close_pattern BitAndTail = refl
 close_pattern Equality = refl
 close_pattern EqualityOps = refl
+close_pattern EqualityTail = refl
 close_pattern Relational = refl
 close_pattern RelationalOps = refl
+close_pattern RelationalTail = refl
 close_pattern Shift = refl
 close_pattern ShiftOps = refl
+close_pattern ShiftTail = refl
 close_pattern Additive = refl
 close_pattern AdditiveOps = refl
+close_pattern AdditiveTail = refl
 close_pattern Multiplicative = refl
 close_pattern MultiplicativeOps = refl
+close_pattern MultiplicativeTail = refl
 close_pattern Cast = refl
 close_pattern Unary = refl
 close_pattern Sizeof = refl
@@ -100,24 +110,34 @@ close_text Cond = refl
 close_text CondPart = refl
 close_text Or = refl
 close_text OrOps = refl
+close_text OrTail = refl
 close_text And = refl
 close_text AndOps = refl
+close_text AndTail = refl
 close_text BitOr = refl
 close_text BitOrOps = refl
+close_text BitOrTail = refl
 close_text BitXor = refl
 close_text BitXorOps = refl
+close_text BitXorTail = refl
 close_text BitAnd = refl
 close_text BitAndOps = refl
+close_text BitAndTail = refl
 close_text Equality = refl
 close_text EqualityOps = refl
+close_text EqualityTail = refl
 close_text Relational = refl
 close_text RelationalOps = refl
+close_text RelationalTail = refl
 close_text Shift = refl
 close_text ShiftOps = refl
+close_text ShiftTail = refl
 close_text Additive = refl
 close_text AdditiveOps = refl
+close_text AdditiveTail = refl
 close_text Multiplicative = refl
 close_text MultiplicativeOps = refl
+close_text MultiplicativeTail = refl
 close_text Cast = refl
 close_text Unary = refl
 close_text Sizeof = refl

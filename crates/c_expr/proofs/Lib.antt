@@ -1,3 +1,4 @@
+pub mod Parts
 pub mod Cut
 pub mod Stars
 pub mod Counting

@@ -2,7 +2,7 @@
 use Rattle.std.proofs.Common.{◌≡◌, true, refl}
 use Rattle.grammar.specs.Check.{passes}
 use Rattle.c_expr.specs.Words.{class}
-use Rattle.c_expr.specs.Table.{Level, Comma, CommaTail, Assign, AssignMore, Cond, CondPart, Or, OrOps, And, AndOps, BitOr, BitOrOps, BitXor, BitXorOps, BitAnd, BitAndOps, Equality, EqualityOps, Relational, RelationalOps, Shift, ShiftOps, Additive, AdditiveOps, Multiplicative, MultiplicativeOps, Cast, Unary, Sizeof, Postfix, PostfixTail, Suffix, Prim, Strings, StringsTail, Deep, Args, ArgsTail, Arg, Tname, Spec, SpecStart, QualifiersTail, Typed, TypedFirst, TypedTail, Group, Body, Enumerators, EnumeratorsTail, Enumerator, Fields, Field, Members, MembersTail, Member, Width, Declr, NamedDirect, DeclrFirst, Nameless, NamelessDirect, Maybe, MaybeDirect, DeclrTail, DeclrPart, Stars, Words, Params, ParamsTail, Param, Var, Init, Inis, InisTail, Ini, Desigs, DesigsTail, Desig, grammar}
+use Rattle.c_expr.specs.Table.{Level, Comma, CommaTail, Assign, AssignMore, Cond, CondPart, Or, OrOps, OrTail, And, AndOps, AndTail, BitOr, BitOrOps, BitOrTail, BitXor, BitXorOps, BitXorTail, BitAnd, BitAndOps, BitAndTail, Equality, EqualityOps, EqualityTail, Relational, RelationalOps, RelationalTail, Shift, ShiftOps, ShiftTail, Additive, AdditiveOps, AdditiveTail, Multiplicative, MultiplicativeOps, MultiplicativeTail, Cast, Unary, Sizeof, Postfix, PostfixTail, Suffix, Prim, Strings, StringsTail, Deep, Args, ArgsTail, Arg, Tname, Spec, SpecStart, QualifiersTail, Typed, TypedFirst, TypedTail, Group, Body, Enumerators, EnumeratorsTail, Enumerator, Fields, Field, Members, MembersTail, Member, Width, Declr, NamedDirect, DeclrFirst, Nameless, NamelessDirect, Maybe, MaybeDirect, DeclrTail, DeclrPart, Stars, Words, Params, ParamsTail, Param, Var, Init, Inis, InisTail, Ini, Desigs, DesigsTail, Desig, grammar}
 use Rattle.c_expr.specs.Sets.{sets, ranks}
 
 pub pass : (l : Level) → passes grammar sets ranks l ≡ true
@@ -15,24 +15,34 @@ pass Cond = refl
 pass CondPart = refl
 pass Or = refl
 pass OrOps = refl
+pass OrTail = refl
 pass And = refl
 pass AndOps = refl
+pass AndTail = refl
 pass BitOr = refl
 pass BitOrOps = refl
+pass BitOrTail = refl
 pass BitXor = refl
 pass BitXorOps = refl
+pass BitXorTail = refl
 pass BitAnd = refl
 pass BitAndOps = refl
+pass BitAndTail = refl
 pass Equality = refl
 pass EqualityOps = refl
+pass EqualityTail = refl
 pass Relational = refl
 pass RelationalOps = refl
+pass RelationalTail = refl
 pass Shift = refl
 pass ShiftOps = refl
+pass ShiftTail = refl
 pass Additive = refl
 pass AdditiveOps = refl
+pass AdditiveTail = refl
 pass Multiplicative = refl
 pass MultiplicativeOps = refl
+pass MultiplicativeTail = refl
 pass Cast = refl
 pass Unary = refl
 pass Sizeof = refl

@@ -120,6 +120,19 @@ ops_level p.BitOr = t.BitOrOps
 ops_level p.And = t.AndOps
 ops_level p.Or = t.OrOps
 
+-- the same behind the first
+abbrev pub tail_level : Precedence → Level
+tail_level p.Multiplicative = t.MultiplicativeTail
+tail_level p.Additive = t.AdditiveTail
+tail_level p.Shift = t.ShiftTail
+tail_level p.Relational = t.RelationalTail
+tail_level p.Equality = t.EqualityTail
+tail_level p.BitAnd = t.BitAndTail
+tail_level p.BitXor = t.BitXorTail
+tail_level p.BitOr = t.BitOrTail
+tail_level p.And = t.AndTail
+tail_level p.Or = t.OrTail
+
 abbrev pub operators : Precedence → List Word
 operators p.Multiplicative = w.Star ∷ w.Slash ∷ []
 operators p.Additive = w.Sign ∷ []
@@ -186,11 +199,11 @@ trails listed.Enumerators = true
 trails listed.Initializers = true
 
 abbrev pub item_starts : Listed → List Word
-item_starts listed.Args = w.Ampersand ∷ w.Sign ∷ w.Star ∷ w.OpenRound ∷ w.Flip ∷ w.Step ∷ w.Sizeof ∷ w.Name ∷ w.Meta ∷ w.Number ∷ w.Char ∷ w.MetaDots ∷ w.Dots ∷ w.Str ∷ w.StrAny ∷ w.DeepOpen ∷ w.Qualifier ∷ w.TypeWord ∷ w.Tag ∷ []
+item_starts listed.Args = w.Star ∷ w.Sign ∷ w.Ampersand ∷ w.OpenRound ∷ w.Flip ∷ w.Step ∷ w.Sizeof ∷ w.Name ∷ w.Meta ∷ w.Number ∷ w.Char ∷ w.MetaDots ∷ w.Dots ∷ w.Str ∷ w.StrAny ∷ w.DeepOpen ∷ w.Qualifier ∷ w.TypeWord ∷ w.Tag ∷ []
 item_starts listed.Params = w.Name ∷ w.Meta ∷ w.MetaDots ∷ w.Dots ∷ w.Qualifier ∷ w.TypeWord ∷ w.Tag ∷ w.Ellipsis ∷ []
 item_starts listed.Members = w.Star ∷ w.OpenRound ∷ w.Name ∷ w.Meta ∷ []
 item_starts listed.Enumerators = w.Name ∷ w.Meta ∷ []
-item_starts listed.Initializers = w.Ampersand ∷ w.Sign ∷ w.Star ∷ w.OpenRound ∷ w.Flip ∷ w.Step ∷ w.Sizeof ∷ w.OpenSquare ∷ w.Dot ∷ w.Name ∷ w.Meta ∷ w.Number ∷ w.Char ∷ w.MetaDots ∷ w.Dots ∷ w.Str ∷ w.StrAny ∷ w.DeepOpen ∷ w.OpenCurly ∷ []
+item_starts listed.Initializers = w.Star ∷ w.Sign ∷ w.Ampersand ∷ w.OpenRound ∷ w.Flip ∷ w.Step ∷ w.Sizeof ∷ w.OpenSquare ∷ w.Dot ∷ w.Name ∷ w.Meta ∷ w.Number ∷ w.Char ∷ w.MetaDots ∷ w.Dots ∷ w.Str ∷ w.StrAny ∷ w.DeepOpen ∷ w.OpenCurly ∷ []
 
 abbrev pub list_level : Listed → Level
 list_level listed.Args = t.Args

@@ -18,24 +18,34 @@ pub data Level : Type 0 where
   CondPart : Level
   Or : Level
   OrOps : Level
+  OrTail : Level
   And : Level
   AndOps : Level
+  AndTail : Level
   BitOr : Level
   BitOrOps : Level
+  BitOrTail : Level
   BitXor : Level
   BitXorOps : Level
+  BitXorTail : Level
   BitAnd : Level
   BitAndOps : Level
+  BitAndTail : Level
   Equality : Level
   EqualityOps : Level
+  EqualityTail : Level
   Relational : Level
   RelationalOps : Level
+  RelationalTail : Level
   Shift : Level
   ShiftOps : Level
+  ShiftTail : Level
   Additive : Level
   AdditiveOps : Level
+  AdditiveTail : Level
   Multiplicative : Level
   MultiplicativeOps : Level
+  MultiplicativeTail : Level
   Cast : Level
   Unary : Level
   Sizeof : Level
@@ -440,7 +450,7 @@ promised = Comma ∷ Assign ∷ Cond ∷ Or ∷ Cast ∷ Unary ∷ Postfix ∷ P
 
 -- The table.
 abbrev pub table : Level → Row
--- ---- expressions, loosest first
+-- ---- expressions
 -- comma = comma "," assign                          Binary(,)[a, b] | assign                        (6.5.17)
 table Comma = make Chain (ref Assign · ref CommaTail)
 table CommaTail = rep CommaTail comma_round
@@ -448,40 +458,50 @@ table CommaTail = rep CommaTail comma_round
 -- a cond that begins with a cast has no assignment behind it, and any other begins with a unary
 table Assign = choose opens_cast (make Chain (ref Cast · from_multiplicative)) (make Chain (ref Unary · opt (ref AssignMore)))
 table AssignMore = make (Named k.AssignE 0) (mark assignments · deep Assign) ∣ some_from_multiplicative
+-- A level of operators begins with a cast, and goes on with the operators up to its own, the tightest first.
+-- multiplicative = multiplicative ("*" | "/" | "%") cast  Binary(op)[a, b] | cast                         (6.5.5)
+table Multiplicative = make Chain (ref Cast · up_to_multiplicative)
+table MultiplicativeOps = operation multiplicative_marks Cast · ref MultiplicativeTail
+table MultiplicativeTail = rep MultiplicativeTail (opt (operation multiplicative_marks Cast · again))
+-- additive = additive ("+" | "-") multiplicative      Binary(op)[a, b] | multiplicative               (6.5.6)
+table Additive = make Chain (ref Cast · up_to_additive)
+table AdditiveOps = operation additive_marks Multiplicative · ref AdditiveTail
+table AdditiveTail = rep AdditiveTail (opt (operation additive_marks Multiplicative · again))
+-- shift = shift ("<<" | ">>") additive                Binary(op)[a, b] | additive                     (6.5.7)
+table Shift = make Chain (ref Cast · up_to_shift)
+table ShiftOps = operation shift_marks Additive · ref ShiftTail
+table ShiftTail = rep ShiftTail (opt (operation shift_marks Additive · again))
+-- relational = relational ("<" | ">" | "<=" | ">=") shift  Binary(op)[a, b] | shift                        (6.5.8)
+table Relational = make Chain (ref Cast · up_to_relational)
+table RelationalOps = operation relational_marks Shift · ref RelationalTail
+table RelationalTail = rep RelationalTail (opt (operation relational_marks Shift · again))
+-- equality = equality ("==" | "!=") relational        Binary(op)[a, b] | relational                   (6.5.9)
+table Equality = make Chain (ref Cast · up_to_equality)
+table EqualityOps = operation equality_marks Relational · ref EqualityTail
+table EqualityTail = rep EqualityTail (opt (operation equality_marks Relational · again))
+-- bit_and = bit_and ("&") equality                    Binary(op)[a, b] | equality                     (6.5.10)
+table BitAnd = make Chain (ref Cast · up_to_bit_and)
+table BitAndOps = operation bit_and_marks Equality · ref BitAndTail
+table BitAndTail = rep BitAndTail (opt (operation bit_and_marks Equality · again))
+-- bit_xor = bit_xor ("^") bit_and                     Binary(op)[a, b] | bit_and                      (6.5.11)
+table BitXor = make Chain (ref Cast · up_to_bit_xor)
+table BitXorOps = operation bit_xor_marks BitAnd · ref BitXorTail
+table BitXorTail = rep BitXorTail (opt (operation bit_xor_marks BitAnd · again))
+-- bit_or = bit_or ("|") bit_xor                       Binary(op)[a, b] | bit_xor                      (6.5.12)
+table BitOr = make Chain (ref Cast · up_to_bit_or)
+table BitOrOps = operation bit_or_marks BitXor · ref BitOrTail
+table BitOrTail = rep BitOrTail (opt (operation bit_or_marks BitXor · again))
+-- and = and ("&&") bit_or                             Binary(op)[a, b] | bit_or                       (6.5.13)
+table And = make Chain (ref Cast · up_to_and)
+table AndOps = operation and_marks BitOr · ref AndTail
+table AndTail = rep AndTail (opt (operation and_marks BitOr · again))
+-- or = or ("||") and                                  Binary(op)[a, b] | and                          (6.5.14)
+table Or = make Chain (ref Cast · up_to_or)
+table OrOps = operation or_marks And · ref OrTail
+table OrTail = rep OrTail (opt (operation or_marks And · again))
 -- cond = lor "?" comma ":" cond                     Cond[c, a, b] | lor                             (6.5.15)
 table Cond = make Chain (ref Cast · from_multiplicative)
 table CondPart = make (Over k.Cond 0) (tok w.Question · deep Comma · tok w.Colon · deep Cond)
--- A level of operators begins with a cast, and goes on with the operators up to its own, the tightest first.
--- or = or ("||") and                                  Binary(op)[a, b] | and                          (6.5.14)
-table Or = make Chain (ref Cast · up_to_or)
-table OrOps = rep OrOps (operation or_marks And · opt again)
--- and = and ("&&") bit_or                             Binary(op)[a, b] | bit_or                       (6.5.13)
-table And = make Chain (ref Cast · up_to_and)
-table AndOps = rep AndOps (operation and_marks BitOr · opt again)
--- bit_or = bit_or ("|") bit_xor                       Binary(op)[a, b] | bit_xor                      (6.5.12)
-table BitOr = make Chain (ref Cast · up_to_bit_or)
-table BitOrOps = rep BitOrOps (operation bit_or_marks BitXor · opt again)
--- bit_xor = bit_xor ("^") bit_and                     Binary(op)[a, b] | bit_and                      (6.5.11)
-table BitXor = make Chain (ref Cast · up_to_bit_xor)
-table BitXorOps = rep BitXorOps (operation bit_xor_marks BitAnd · opt again)
--- bit_and = bit_and ("&") equality                    Binary(op)[a, b] | equality                     (6.5.10)
-table BitAnd = make Chain (ref Cast · up_to_bit_and)
-table BitAndOps = rep BitAndOps (operation bit_and_marks Equality · opt again)
--- equality = equality ("==" | "!=") relational        Binary(op)[a, b] | relational                   (6.5.9)
-table Equality = make Chain (ref Cast · up_to_equality)
-table EqualityOps = rep EqualityOps (operation equality_marks Relational · opt again)
--- relational = relational ("<" | ">" | "<=" | ">=") shift  Binary(op)[a, b] | shift                        (6.5.8)
-table Relational = make Chain (ref Cast · up_to_relational)
-table RelationalOps = rep RelationalOps (operation relational_marks Shift · opt again)
--- shift = shift ("<<" | ">>") additive                Binary(op)[a, b] | additive                     (6.5.7)
-table Shift = make Chain (ref Cast · up_to_shift)
-table ShiftOps = rep ShiftOps (operation shift_marks Additive · opt again)
--- additive = additive ("+" | "-") multiplicative      Binary(op)[a, b] | multiplicative               (6.5.6)
-table Additive = make Chain (ref Cast · up_to_additive)
-table AdditiveOps = rep AdditiveOps (operation additive_marks Multiplicative · opt again)
--- multiplicative = multiplicative ("*" | "/" | "%") cast  Binary(op)[a, b] | cast                         (6.5.5)
-table Multiplicative = make Chain (ref Cast · up_to_multiplicative)
-table MultiplicativeOps = rep MultiplicativeOps (operation multiplicative_marks Cast · opt again)
 -- cast = "(" tname ")" cast                         Cast[TypeName, e] | unary                       (6.5.4)
 table Cast = choose opens_cast (make (Over k.Cast 0) (round (deep Tname) · deep Cast)) (ref Unary)
 -- unary = ("&" | "*" | "+" | "-" | "~" | "!") cast  Unary(op)[e]                                    (6.5.3)

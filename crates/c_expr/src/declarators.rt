@@ -40,9 +40,9 @@ const MAYBE_STARTS: [Word; 5] = [
 
 /// What begins the size of an array.
 const SIZE_STARTS: [Word; 16] = [
-    Word::Ampersand,
-    Word::Sign,
     Word::Star,
+    Word::Sign,
+    Word::Ampersand,
     Word::OpenRound,
     Word::Flip,
     Word::Step,

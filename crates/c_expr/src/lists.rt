@@ -28,9 +28,9 @@ pub enum Listed {
 }
 
 const ARG_STARTS: [Word; 19] = [
-    Word::Ampersand,
-    Word::Sign,
     Word::Star,
+    Word::Sign,
+    Word::Ampersand,
     Word::OpenRound,
     Word::Flip,
     Word::Step,
@@ -65,9 +65,9 @@ const MEMBER_STARTS: [Word; 4] = [Word::Star, Word::OpenRound, Word::Name, Word:
 const ENUMERATOR_STARTS: [Word; 2] = [Word::Name, Word::Meta];
 
 const INITIALIZER_STARTS: [Word; 19] = [
-    Word::Ampersand,
-    Word::Sign,
     Word::Star,
+    Word::Sign,
+    Word::Ampersand,
     Word::OpenRound,
     Word::Flip,
     Word::Step,

@@ -206,7 +206,7 @@ pub fn over_two(
 }
 
 /// A node over others.
-#[tactic(auto, unfolding(crate::specs::Build::over))]
+#[tactic(auto, unfolding(crate::specs::Build::over), using(crate::proofs::Parts::settled_more, crate::proofs::Parts::tallest_more))]
 pub fn over(
     alloc: Global,
     kind: Kind,

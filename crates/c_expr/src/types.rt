@@ -24,7 +24,7 @@ const BARE_WORDS: [Word; 2] = [Word::Name, Word::TypeWord];
 const LATER_WORDS: [Word; 2] = [Word::TypeWord, Word::Qualifier];
 
 /// What goes on with words that say a type.
-const TYPED_GOES_ON: [Word; 3] = [Word::Qualifier, Word::TypeWord, Word::Tag];
+const TYPED_GOES_ON: [Word; 3] = [Word::TypeWord, Word::Qualifier, Word::Tag];
 
 /// What goes on with a spec that has no type yet.
 const SPEC_GOES_ON: [Word; 4] = [Word::Name, Word::TypeWord, Word::Tag, Word::Qualifier];

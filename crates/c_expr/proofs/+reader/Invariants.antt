@@ -189,7 +189,7 @@ abbrev pub invariant-lists::items-loop-turn : goal.invariant-lists::items-loop-t
 invariant-lists::items-loop-turn l = record {
   within : l.end ≤ length l.tokens;
   turns : l.turn ≤ suc (length l.tokens);
-  rest : level l.fn.tokens l.fn.room (list_level l.fn.listed) l.fn.at ≡ (rest l.fn.tokens l.fn.room (list_tail l.fn.listed) (suc (length l.fn.tokens) - l.turn) l.end >>= λ y. Some (l.parts ++ y.0, y.1));
+  rest : level l.fn.tokens l.fn.room (list_level l.fn.listed) l.fn.at ≡ (rest l.fn.tokens l.fn.room (list_tail l.fn.listed) (suc (length l.fn.tokens) - l.turn) l.end >>= λ y. Some (l.parts.items ++ y.0, y.1));
 }
 
 abbrev pub invariant-types::qualified-loop-turn : goal.invariant-types::qualified-loop-turn
@@ -217,13 +217,13 @@ abbrev pub invariant-members::fields-loop-turn : goal.invariant-members::fields-
 invariant-members::fields-loop-turn l = record {
   within : l.end ≤ length l.tokens;
   turns : l.turn ≤ suc (length l.tokens);
-  rest : level l.fn.tokens l.fn.room Fields l.fn.at ≡ (rest l.fn.tokens l.fn.room Fields (suc (length l.fn.tokens) - l.turn) l.end >>= λ y. Some (l.parts ++ y.0, y.1));
+  rest : level l.fn.tokens l.fn.room Fields l.fn.at ≡ (rest l.fn.tokens l.fn.room Fields (suc (length l.fn.tokens) - l.turn) l.end >>= λ y. Some (l.parts.items ++ y.0, y.1));
 }
 
 abbrev pub invariant-initializers::designators-loop-turn : goal.invariant-initializers::designators-loop-turn
 invariant-initializers::designators-loop-turn l = record {
   within : l.end ≤ length l.tokens;
   turns : l.turn ≤ suc (length l.tokens);
-  rest : level l.fn.tokens l.fn.room Desigs l.fn.at ≡ (rest l.fn.tokens l.fn.room DesigsTail (suc (length l.fn.tokens) - l.turn) l.end >>= λ y. Some (l.parts ++ y.0, y.1));
+  rest : level l.fn.tokens l.fn.room Desigs l.fn.at ≡ (rest l.fn.tokens l.fn.room DesigsTail (suc (length l.fn.tokens) - l.turn) l.end >>= λ y. Some (l.parts.items ++ y.0, y.1));
 }
 

@@ -10,6 +10,6 @@ abbrev pub invariant-loop-turn : goal.invariant-loop-turn
 invariant-loop-turn l = record {
   within : l.end ≤ length l.tokens;
   turns : l.turn ≤ length l.tokens;
-  several : 1 < length l.parts;
-  rest : level l.fn.tokens l.fn.room Strings l.fn.at ≡ (rest l.fn.tokens l.fn.room StringsTail (length l.fn.tokens - l.turn) l.end >>= λ y. Some (cut_joined (span_between l.fn.tokens l.fn.at y.1) (l.parts ++ y.0) ∷ [], y.1));
+  several : 1 < length l.parts.items;
+  rest : level l.fn.tokens l.fn.room Strings l.fn.at ≡ (rest l.fn.tokens l.fn.room StringsTail (length l.fn.tokens - l.turn) l.end >>= λ y. Some (cut_joined (span_between l.fn.tokens l.fn.at y.1) (l.parts.items ++ y.0) ∷ [], y.1));
 }
