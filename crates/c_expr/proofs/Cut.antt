@@ -10,21 +10,21 @@ use Rattle.c_expr.specs.declared.part.Part.{Part}
 use Rattle.c_expr.specs.Build.{node, nodes, tallest, settled, settled_all, may_be_bare, empty_at, over, grafted, cut, stub}
 
 -- a part that is shallow enough stays, and another one doesn't
-cut_shallow : (p : Part) → p.depth ≤ 500 → cut p ≡ p
+pub cut_shallow : (p : Part) → p.depth ≤ 500 → cut p ≡ p
 unfolding cut
 cut_shallow p h = rw yes refl
   where
     yes : leb p.depth 500 ≡ true
     yes = grind arith
 
-cut_deep : (p : Part) → 500 < p.depth → cut p ≡ stub
+pub cut_deep : (p : Part) → 500 < p.depth → cut p ≡ stub
 unfolding cut
 cut_deep p h = rw no refl
   where
     no : leb p.depth 500 ≡ false
     no = grind arith
 
-either : (a : ℕ) → (a ≤ 500) ⊎ (500 < a)
+pub either : (a : ℕ) → (a ≤ 500) ⊎ (500 < a)
 either a = grind arith
 
 both_deep : (p q : Part) → 500 < p.depth → 500 < q.depth → cut p ≡ cut q

@@ -13,11 +13,11 @@ use Rattle.c_expr.specs.declared.part.Part.{Part}
 use Rattle.c_expr.specs.Table.{Builder, Over, Named, TypeWords, Spellings, Pointer, Chain, Rootless, Joined, Widened, strong}
 use Rattle.c_expr.specs.Build.{token_at, start_of, span_between, tallest, padded, over, absent, grafted, graft_all, is_spelling, spelled_more, gathered, pointer, joined, chained, widened, built, source}
 
-in_left : (ys zs : List Part) → tallest ys ≤ tallest (ys ++ zs)
+pub in_left : (ys zs : List Part) → tallest ys ≤ tallest (ys ++ zs)
 in_left [] zs = omega arith
 in_left (y ∷ ys) zs = omega (arith, in_left ys zs)
 
-in_right : (ys zs : List Part) → tallest zs ≤ tallest (ys ++ zs)
+pub in_right : (ys zs : List Part) → tallest zs ≤ tallest (ys ++ zs)
 in_right [] zs = omega arith
 in_right (y ∷ ys) zs = omega (arith, in_right ys zs)
 
@@ -34,7 +34,7 @@ over_deep : (kind : Kind) (text : List ℕ) (span : Span) (ps : List Part) → t
 unfolding over
 over_deep kind text span ps = omega arith
 
-grafted_deep : (from : ℕ) (t p : Part) → max t.depth p.depth ≤ (grafted from t p).depth
+pub grafted_deep : (from : ℕ) (t p : Part) → max t.depth p.depth ≤ (grafted from t p).depth
 unfolding grafted
 grafted_deep from t p = omega arith
 
@@ -74,7 +74,7 @@ widened_deep : (from : ℕ) (ps : List Part) → tallest ps ≤ (widened from ps
 widened_deep from [] = omega arith
 widened_deep from (p ∷ ps) = omega arith
 
-weak : (ts : List Token) (b : Builder) (i j : ℕ) (ps : List Part) → tallest ps ≤ (built ts b i j ps).depth
+pub weak : (ts : List Token) (b : Builder) (i j : ℕ) (ps : List Part) → tallest ps ≤ (built ts b i j ps).depth
 weak ts (Over kind n) i j ps = omega (arith, over_deep kind [] (span_between ts i j) (padded (start_of ts i) n ps), padded_deep (start_of ts i) n ps)
 weak ts (Named kind n) i j ps = omega (arith, over_deep kind (token_at ts i).text (span_between ts i j) (padded (start_of ts i) n ps), padded_deep (start_of ts i) n ps)
 weak ts TypeWords i j ps = omega (arith, over_deep k.TypeSpec (gathered ([], []) ps).0 (span_between ts i j) (gathered ([], []) ps).1, gathered_deep ([], []) ps)

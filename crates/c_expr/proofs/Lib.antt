@@ -8,5 +8,7 @@ pub mod Closes
 pub mod Steps
 pub mod Climbs
 pub mod Depths
+pub mod Alike
+pub mod Runs
 pub mod Only
 pub mod Spans

@@ -5,3 +5,4 @@ pub mod Sets
 pub mod Build
 pub mod Reading
 pub mod Spells
+pub mod Runs
