@@ -128,3 +128,6 @@ unfolding class
 words_fit mode [] k = end_of_mode mode
 words_fit mode (t ∷ ts) zero = word_fits mode (word_of mode t.word t.text)
 words_fit mode (t ∷ ts) (suc k) = words_fit mode ts k
+
+pub same_answer : (n m : Node) (d e i j : ℕ) → ◌≡◌ {A = Part} (record { node = n; depth = d }) (record { node = m; depth = e }) → i ≡ j → ◌≡◌ {A = Option (Node × ℕ)} (Some (n, i)) (Some (m, j))
+same_answer n m d e i j h k = rw (ap (λ (p : Part). p.node) h, k) refl

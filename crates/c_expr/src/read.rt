@@ -1,8 +1,11 @@
 //! The public call: from tokens to the tree of a level.
 
-ghost use Rattle.std.specs.Prelude.{◌<◌, ◌≤◌, ◌^◌, length, map, IfOk};
-ghost use Rattle.c_expr.specs.Words.{token_of};
-ghost use Rattle.c_expr.specs.Reading.{FewBrackets};
+ghost use Rattle.std.specs.Prelude.{◌≡◌, ◌≤◌, ℕ, length, IfOk, Some};
+ghost use Rattle.node_tree.specs.declared.node.Node.{Node as node};
+ghost use Rattle.node_tree.specs.declared.view.Mode.{Mode as mode_of};
+ghost use Rattle.node_tree.specs.Gives.{Gives};
+ghost use Rattle.c_expr.specs.Reading as reading;
+ghost use Rattle.c_expr.specs.Runs.{level_of, IsRunTree, IsTree, AreOf};
 
 use crate::classify::classified;
 use crate::declarators::{Naming, declarator};
@@ -60,7 +63,8 @@ fn read_part(
     at: usize,
 ) -> Result<(Part, usize), ReadFault>
     requires { at ≤ length tokens.now }
-    ensures { IfOk result (λ x. x.1 ≤ length tokens.now) }
+    ensures within { IfOk result (λ x. x.1 ≤ length tokens.now) }
+    ensures gives { Gives reading.one result (reading.level tokens.now 1002 (level_of level) at) }
 {
     match level {
         CLevel::Comma => comma(alloc, tokens, ROOM, at),
@@ -78,9 +82,31 @@ fn read_part(
     }
 }
 
-/// The tree of the run of a level that begins at the token `from`, and the place behind the run.
+/// The closed run of a level that begins at a token: its tree, and the place behind it.
+fn read_run(
+    alloc: Global,
+    tokens: &[Token<'_>],
+    level: CLevel,
+    from: usize,
+) -> Result<(Node, usize), ReadFault>
+    requires { from ≤ length tokens.now }
+    ensures found { IfOk result (λ x. (mode : mode_of) → IsRunTree mode tokens.now level from x.0 x.1) }
+    ensures only { (mode : mode_of) (n : node) (to : ℕ) → AreOf mode tokens.now → IsRunTree mode tokens.now level from n to → Gives (λ x. x) result (Some (n, to)) }
+{
+    let (part, end) = read_part(alloc, tokens, level, from)?;
+    if part.depth > MAX_DEPTH {
+        return Err(ReadFault::NoTree);
+    }
+    if !few_brackets(tokens, from, end) {
+        return Err(ReadFault::NoTree);
+    }
+    Ok((part.node, end))
+}
+
+/// The tree of the closed run of a level that begins at the token `from`, and the place behind the run.
 ///
-/// The tree is at most 500 deep, and no token of the run stands inside more than 500 brackets that were opened in it.
+/// A run is closed where the token behind it cannot go on with it. NoTree comes exactly where no closed run of the level begins
+/// at `from` whose tree is at most 500 deep and none of whose tokens stands inside more than 500 open brackets of the run.
 /// The node of a name that is left out is `Absent`, and stands where its parent begins.
 pub fn read_c(
     alloc: Global,
@@ -89,22 +115,16 @@ pub fn read_c(
     level: CLevel,
     mode: Mode,
 ) -> Result<(Node, u32), ReadFault>
-    requires place { from ≤ length tokens.now }
-    requires few { length tokens.now < 2 ^ 32 }
-    // The run ends among the tokens.
-    ensures within { IfOk result (λ x. x.1 ≤ length tokens.now) }
-    // No token of it stands inside too many brackets.
-    ensures bracketed { IfOk result (λ x. FewBrackets (map (token_of mode) tokens.now) from x.1) }
+    requires { from ≤ length tokens.now }
+    // What is read is the closed run.
+    ensures found { IfOk result (λ x. IsTree mode tokens.now level from x.0 x.1) }
+    // Each closed run is what is read, unless memory runs out. So there is at most one.
+    ensures only { (n : node) (to : ℕ) → IsTree mode tokens.now level from n to → Gives (λ x. x) result (Some (n, to)) }
 {
     let classed = classified(alloc, tokens, mode)?;
-    let classed = classed.as_slice();
-    let from = from as usize;
-    let (part, end) = read_part(alloc, classed, level, from)?;
-    if part.depth > MAX_DEPTH {
-        return Err(ReadFault::NoTree);
-    }
-    if !few_brackets(classed, from, end) {
-        return Err(ReadFault::NoTree);
-    }
-    Ok((part.node, end as u32))
+    let (node, end) = read_run(alloc, classed.as_slice(), level, from as usize)?;
+    let Ok(end) = u32::try_from(end) else {
+        return Err(ReadFault::Memory);
+    };
+    Ok((node, end))
 }
