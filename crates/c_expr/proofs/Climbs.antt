@@ -20,7 +20,7 @@ use Rattle.c_expr.specs.Table.{Level, Comma, CommaTail, Assign, AssignMore, Cond
 use Rattle.c_expr.specs.Build.{token_at, start_of, built, grafted, cut, graft_cut, cut_chained, cut_source}
 use Rattle.c_expr.specs.Sets.{sets}
 use Rattle.c_expr.specs.Reading.{level, optional, grafting, regraft, levels, level_at, looseness, levels_from, chain_level, ops_level, tail_level, operators, tighter, right_level, climbs, climbed, condition}
-use Rattle.c_expr.proofs.Steps.{Got, on, bind_same, row, level_row, rest, rest_turn, graft_seq, graft_cond, cond_both, once, op_row}
+use Rattle.c_expr.proofs.Steps.{Got, on, bind_same, going_on, goes_on, chained_on, chained, row, level_row, rest, rest_turn, graft_seq, graft_cond, cond_both, once, op_row}
 
 -- what a row outside of loops reads
 abbrev here : List Token → ℕ → Row → ℕ → Got
@@ -32,6 +32,7 @@ got_same (Some y) = refl
 
 -- an operator with its right side, put over what stands before it, and what follows
 graft_op : (from : ℕ) (t : Part) (b : Bool) (j : ℕ) (right : ℕ → Got) (over : ℕ → List Part → Part) (f : ℕ → Got) → grafting from t (on (on (on (cond b (Some ([], j)) None) (λ x. on (right x.1) (λ y. Some (x.0 ++ y.0, y.1)))) (λ z. Some (over z.1 z.0 ∷ [], z.1))) (λ x. on (f x.1) (λ y. Some (x.0 ++ y.0, y.1)))) ≡ cond b (on (right j) (λ x. grafting from (cut (grafted from t (over x.1 x.0))) (f x.1))) None
+unfolding grafting
 graft_op from t false j right over f = refl
 graft_op from t true j right over f = by (right j)
   where
@@ -43,29 +44,19 @@ graft_op from t true j right over f = by (right j)
     by None = refl
     by (Some x) = behind (f x.1) x
 
--- what one part goes on with; several parts, which no level gives, go on by the row
-abbrev pub going_on : (Part → ℕ → Got) → ℕ → (ℕ → Got) → List Part → ℕ → Got
-going_on f from r [] j = on (r j) (λ y. Some (cut_chained from y.0 ∷ [], y.1))
-going_on f from r (t ∷ []) j = f t j
-going_on f from r (t ∷ q ∷ ps) j = on (r j) (λ y. Some (cut_chained from (t ∷ q ∷ (ps ++ y.0)) ∷ [], y.1))
-
-goes_on : (f : Part → ℕ → Got) (from : ℕ) (r : ℕ → Got) → ((t : Part) (j : ℕ) → grafting from t (r j) ≡ f t j) → (ps : List Part) (j : ℕ) → on (r j) (λ y. Some (cut_chained from (ps ++ y.0) ∷ [], y.1)) ≡ going_on f from r ps j
-goes_on f from r h [] j = refl
-goes_on f from r h (t ∷ []) j = h t j
-goes_on f from r h (t ∷ q ∷ ps) j = refl
-
 -- ---- commas
 
 comma_tail : (ts : List Token) (room i : ℕ) → zero < room → level ts room CommaTail i ≡ rest ts room CommaTail (suc (length ts)) i
 unfolding rest
 comma_tail ts room i h = level_row ts room CommaTail i h
 
-pub comma_step : (ts : List Token) (room i : ℕ) → zero < room → level ts room Comma i ≡ on (level ts room Assign i) (λ x. on (rest ts room CommaTail (suc (length ts)) x.1) (λ y. Some (cut_chained (start_of ts i) (x.0 ++ y.0) ∷ [], y.1)))
+pub comma_step : (ts : List Token) (room i : ℕ) → zero < room → level ts room Comma i ≡ on (level ts room Assign i) (λ x. chained_on (start_of ts i) (rest ts room CommaTail (suc (length ts))) x.0 x.1)
 comma_step ts room i h =
     level_row ts room Comma i h ∙ made (level ts room Assign i) (level ts room CommaTail) (λ j xs. cut_chained (start_of ts i) xs ∷ [])
-    ∙ bind_same (level ts room Assign i) _ _ (λ x. ap (λ r. on r (λ y. Some (cut_chained (start_of ts i) (x.0 ++ y.0) ∷ [], y.1))) (comma_tail ts room x.1 h))
+    ∙ bind_same (level ts room Assign i) _ _ (λ x. ap (λ r. on r (λ y. Some (cut_chained (start_of ts i) (x.0 ++ y.0) ∷ [], y.1))) (comma_tail ts room x.1 h) ∙ chained (start_of ts i) (rest ts room CommaTail (suc (length ts))) x.0 x.1)
 
 pub comma_turn : (ts : List Token) (room from : ℕ) (t : Part) (n i : ℕ) → zero < n → grafting from t (rest ts room CommaTail n i) ≡ cond (has (class w.Comma ∷ []) (class (token_at ts i).word)) (on (level ts room Assign (suc i)) (λ x. grafting from (cut (grafted from t (cut (built ts (Named kinds.Binary 0) i x.1 x.0)))) (rest ts room CommaTail (n - 1) x.1))) (Some (t ∷ [], i))
+unfolding grafting
 comma_turn ts room from t n i h =
     ap (grafting from t) (rest_turn ts room CommaTail n i h) ∙ graft_cond from t comma _ (Some ([], i))
     ∙ cond_both comma _ _ (Some (t ∷ [], i)) (Some (t ∷ [], i)) (graft_op from t comma (suc i) (level ts room Assign) (λ j xs. cut (built ts (Named kinds.Binary 0) i j xs)) (rest ts room CommaTail (n - 1))) refl
@@ -73,6 +64,14 @@ comma_turn ts room from t n i h =
   where
     comma : Bool
     comma = has (class w.Comma ∷ []) (class (token_at ts i).word)
+
+-- a comma with its right side, and the round behind it
+pub comma_on : (ts : List Token) (room from : ℕ) (t q : Part) (n i j : ℕ) → zero < n → has (class w.Comma ∷ []) (class (token_at ts i).word) ≡ true → level ts room Assign (i + 1) ≡ Some (q ∷ [], j) → grafting from t (rest ts room CommaTail n i) ≡ grafting from (cut (grafted from t (cut (built ts (Named kinds.Binary 0) i j (q ∷ []))))) (rest ts room CommaTail (n - 1) j)
+comma_on ts room from t q n i j h e g = comma_turn ts room from t n i h ∙ yes (has (class w.Comma ∷ []) (class (token_at ts i).word)) e ∙ ap (λ r. on r (λ x. grafting from (cut (grafted from t (cut (built ts (Named kinds.Binary 0) i x.1 x.0)))) (rest ts room CommaTail (n - 1) x.1))) (rw add-one at g)
+  where
+    yes : (b : Bool) → b ≡ true → cond b (on (level ts room Assign (suc i)) (λ x. grafting from (cut (grafted from t (cut (built ts (Named kinds.Binary 0) i x.1 x.0)))) (rest ts room CommaTail (n - 1) x.1))) (Some (t ∷ [], i)) ≡ on (level ts room Assign (suc i)) (λ x. grafting from (cut (grafted from t (cut (built ts (Named kinds.Binary 0) i x.1 x.0)))) (rest ts room CommaTail (n - 1) x.1))
+    yes true e = refl
+    yes false e = cc
 
 -- ---- the operators of a level
 
@@ -140,7 +139,7 @@ tail_turn ts room k n i h =
     ∙ ap (λ cs. cond (has cs (class (token_at ts i).word)) (row ts room (ops_tail ts room k (n - 1)) (Some (tail_level k)) (ops_round k) i) (Some ([], i))) (append-nil (map class (operators k) ++ []) ∙ append-nil (map class (operators k)))
 
 pub ops_turn : (ts : List Token) (room from : ℕ) (t : Part) (k : Precedence) (n i : ℕ) → zero < n → grafting from t (ops_rest ts room k n i) ≡ cond (has (map class (operators k)) (class (token_at ts i).word)) (on (level ts room (right_level (tighter k)) (suc i)) (λ x. grafting from (cut (grafted from t (cut (built ts (Named kinds.Binary 0) i x.1 x.0)))) (more_ops ts room k (n - 1) x.1))) None
-unfolding ops_rest
+unfolding ops_rest grafting
 ops_turn ts room from t k n i h =
     graft_op from t stands (suc i) (level ts room (right_level (tighter k))) (λ j xs. cut (built ts (Named kinds.Binary 0) i j xs)) (ops_tail ts room k n)
     ∙ cond_both stands _ _ None None (bind_same (level ts room (right_level (tighter k)) (suc i)) _ _ (λ x. ap (grafting from (cut (grafted from t (cut (built ts (Named kinds.Binary 0) i x.1 x.0))))) (tail_turn ts room k n x.1 h))) refl
@@ -148,8 +147,16 @@ ops_turn ts room from t k n i h =
     stands : Bool
     stands = has (map class (operators k)) (class (token_at ts i).word)
 
+-- an operator with its right side, and the round behind it
+pub ops_on : (ts : List Token) (room from : ℕ) (t q : Part) (k : Precedence) (n i j : ℕ) → zero < n → has (map class (operators k)) (class (token_at ts i).word) ≡ true → level ts room (right_level (tighter k)) (i + 1) ≡ Some (q ∷ [], j) → grafting from t (ops_rest ts room k n i) ≡ grafting from (cut (grafted from t (cut (built ts (Named kinds.Binary 0) i j (q ∷ []))))) (more_ops ts room k (n - 1) j)
+ops_on ts room from t q k n i j h e g = ops_turn ts room from t k n i h ∙ yes (has (map class (operators k)) (class (token_at ts i).word)) e ∙ ap (λ r. on r (λ x. grafting from (cut (grafted from t (cut (built ts (Named kinds.Binary 0) i x.1 x.0)))) (more_ops ts room k (n - 1) x.1))) (rw add-one at g)
+  where
+    yes : (b : Bool) → b ≡ true → cond b (on (level ts room (right_level (tighter k)) (suc i)) (λ x. grafting from (cut (grafted from t (cut (built ts (Named kinds.Binary 0) i x.1 x.0)))) (more_ops ts room k (n - 1) x.1))) None ≡ on (level ts room (right_level (tighter k)) (suc i)) (λ x. grafting from (cut (grafted from t (cut (built ts (Named kinds.Binary 0) i x.1 x.0)))) (more_ops ts room k (n - 1) x.1))
+    yes true e = refl
+    yes false e = cc
+
 pub ops_turned : (ts : List Token) (room from : ℕ) (t : Part) (k : Precedence) (n i : ℕ) → n ≡ zero → grafting from t (ops_rest ts room k n i) ≡ None
-unfolding ops_rest ops_tail
+unfolding ops_rest ops_tail grafting
 ops_turned ts room from t k n i h = rw h (graft_op from t (has (map class (operators k)) (class (token_at ts i).word)) (suc i) (level ts room (right_level (tighter k))) (λ j xs. cut (built ts (Named kinds.Binary 0) i j xs)) (λ j. None) ∙ by (has (map class (operators k)) (class (token_at ts i).word)) (level ts room (right_level (tighter k)) (suc i)))
   where
     by : (b : Bool) (r : Got) → cond b (on r (λ x. None)) None ≡ None
@@ -168,7 +175,7 @@ ops_then [] e = e
 ops_then (k ∷ ks) e = opt (ref (ops_level k)) · ops_then ks e
 
 graft_ops : (ts : List Token) (room from : ℕ) (ks : List Precedence) (e : Row) (t : Part) (i : ℕ) → grafting from t (here ts room (ops_then ks e) i) ≡ on (climbs ts room from ks (t ∷ []) i) (λ z. regraft from z.0 (here ts room e z.1))
-unfolding ops_then
+unfolding ops_then grafting
 graft_ops ts room from [] e t i = refl
 graft_ops ts room from (k ∷ ks) e t i = graft_seq from t (optional ts room (ops_level k) i) (here ts room (ops_then ks e)) ∙ by (graft_ops ts room from ks e) (optional ts room (ops_level k) i)
   where
@@ -177,7 +184,7 @@ graft_ops ts room from (k ∷ ks) e t i = graft_seq from t (optional ts room (op
     by h (Some x) = h (graft_cut from t x.0) x.1
 
 graft_climbs : (ts : List Token) (room from : ℕ) (ks : List Precedence) (k : Precedence) (t : Part) (i : ℕ) → grafting from t (here ts room (ops_then ks (opt (ref (ops_level k)))) i) ≡ climbs ts room from (ks ++ k ∷ []) (t ∷ []) i
-unfolding ops_then
+unfolding ops_then grafting
 graft_climbs ts room from [] k t i = by (optional ts room (ops_level k) i)
   where
     by : (r : Got) → grafting from t r ≡ on (grafting from t r) (λ z. Some (z.0, z.1))
@@ -202,7 +209,7 @@ up_to p.And = up_to_and
 up_to p.Or = up_to_or
 
 graft_up_to : (ts : List Token) (room from : ℕ) (k : Precedence) (t : Part) (i : ℕ) → grafting from t (here ts room (up_to k) i) ≡ climbed ts room from k t i
-unfolding ops_then climbed levels_from
+unfolding ops_then climbed levels_from grafting
 graft_up_to ts room from p.Multiplicative t i = graft_climbs ts room from ([]) p.Multiplicative t i
 graft_up_to ts room from p.Additive t i = graft_climbs ts room from (p.Multiplicative ∷ []) p.Additive t i
 graft_up_to ts room from p.Shift t i = graft_climbs ts room from (p.Multiplicative ∷ p.Additive ∷ []) p.Shift t i
@@ -215,6 +222,7 @@ graft_up_to ts room from p.And t i = graft_climbs ts room from (p.Multiplicative
 graft_up_to ts room from p.Or t i = graft_climbs ts room from (p.Multiplicative ∷ p.Additive ∷ p.Shift ∷ p.Relational ∷ p.Equality ∷ p.BitAnd ∷ p.BitXor ∷ p.BitOr ∷ p.And ∷ []) p.Or t i
 
 pub chain_step : (ts : List Token) (room : ℕ) (k : Precedence) (i : ℕ) → zero < room → level ts room (chain_level k) i ≡ on (level ts room Cast i) (λ x. going_on (climbed ts room (start_of ts i) k) (start_of ts i) (here ts room (up_to k)) x.0 x.1)
+unfolding grafting
 chain_step ts room k i h = by k ∙ made (level ts room Cast i) (here ts room (up_to k)) (λ j xs. cut_chained (start_of ts i) xs ∷ []) ∙ bind_same (level ts room Cast i) _ _ (λ x. goes_on (climbed ts room (start_of ts i) k) (start_of ts i) (here ts room (up_to k)) (graft_up_to ts room (start_of ts i) k) x.0 x.1)
   where
     by : (k : Precedence) → level ts room (chain_level k) i ≡ on (on (level ts room Cast i) (λ x. on (here ts room (up_to k) x.1) (λ y. Some (x.0 ++ y.0, y.1)))) (λ z. Some (cut_chained (start_of ts i) z.0 ∷ [], z.1))
@@ -243,10 +251,11 @@ levels_turned n m h = rw h refl
 
 -- what is still climbed, over n levels from one that binds so loosely on
 unfoldable pub still : List Token → ℕ → ℕ → ℕ → ℕ → Part → ℕ → Got
+unfolding grafting
 still ts room from n m t i = climbs ts room from (levels_from n m) (t ∷ []) i
 
 pub climb_start : (ts : List Token) (room from : ℕ) (k : Precedence) (t : Part) (i : ℕ) → climbed ts room from k t i ≡ still ts room from (suc (looseness k)) 0 t i
-unfolding climbed still
+unfolding climbed still grafting
 climb_start ts room from k t i = refl
 
 -- what one part is climbed on with
@@ -256,7 +265,7 @@ still_all ts room from n m (t ∷ []) i = still ts room from n m t i
 still_all ts room from n m (t ∷ q ∷ ps) i = climbs ts room from (levels_from n m) (t ∷ q ∷ ps) i
 
 pub climb_turn : (ts : List Token) (room from : ℕ) (t : Part) (n m i : ℕ) → zero < n → still ts room from n m t i ≡ on (grafting from t (optional ts room (ops_level (level_at m)) i)) (λ z. still_all ts room from (n - 1) (m + 1) z.0 z.1)
-unfolding still
+unfolding still grafting
 climb_turn ts room from t n m i h = ap (λ ks. climbs ts room from ks (t ∷ []) i) (levels_turn n m h) ∙ bind_same (grafting from t (optional ts room (ops_level (level_at m)) i)) _ _ (λ z. rw (add-one m) (by z.0 z.1))
   where
     by : (ps : List Part) (j : ℕ) → climbs ts room from (levels_from (n - 1) (suc m)) ps j ≡ still_all ts room from (n - 1) (suc m) ps j
@@ -265,7 +274,7 @@ climb_turn ts room from t n m i h = ap (λ ks. climbs ts room from ks (t ∷ [])
     by (t ∷ q ∷ ps) j = refl
 
 pub climb_turned : (ts : List Token) (room from : ℕ) (t : Part) (n m i : ℕ) → n ≡ zero → still ts room from n m t i ≡ Some (t ∷ [], i)
-unfolding still
+unfolding still grafting
 climb_turned ts room from t n m i h = ap (λ ks. climbs ts room from ks (t ∷ []) i) (levels_turned n m h)
 
 -- a level binds as loosely as its place, or more tightly
@@ -321,20 +330,22 @@ some_is ts room (k ∷ ks) i =
     ∙ sym (opt_then (has (sets.first (ops_level k)) c) (level ts room (ops_level k) i) (here ts room r) i)
 
 graft_condition : (ts : List Token) (room from : ℕ) (t : Part) (i : ℕ) → grafting from t (here ts room from_multiplicative i) ≡ condition ts room from t i
-unfolding ops_then climbed levels_from
+unfolding ops_then climbed levels_from grafting
 graft_condition ts room from t i = graft_ops ts room from levels (opt (ref CondPart)) t i
 
 pub cond_step : (ts : List Token) (room i : ℕ) → zero < room → level ts room Cond i ≡ on (level ts room Cast i) (λ x. going_on (condition ts room (start_of ts i)) (start_of ts i) (here ts room from_multiplicative) x.0 x.1)
+unfolding grafting
 cond_step ts room i h = level_row ts room Cond i h ∙ made (level ts room Cast i) (here ts room from_multiplicative) (λ j xs. cut_chained (start_of ts i) xs ∷ []) ∙ bind_same (level ts room Cast i) _ _ (λ x. goes_on (condition ts room (start_of ts i)) (start_of ts i) (here ts room from_multiplicative) (graft_condition ts room (start_of ts i)) x.0 x.1)
 
-pub assign_step : (ts : List Token) (room i : ℕ) → zero < room → level ts room Assign i ≡ cond (opens_cast (cut_source ts).cls i) (on (level ts room Cast i) (λ x. going_on (condition ts room (start_of ts i)) (start_of ts i) (here ts room from_multiplicative) x.0 x.1)) (on (level ts room Unary i) (λ x. on (optional ts room AssignMore x.1) (λ y. Some (cut_chained (start_of ts i) (x.0 ++ y.0) ∷ [], y.1))))
+pub assign_step : (ts : List Token) (room i : ℕ) → zero < room → level ts room Assign i ≡ cond (opens_cast (cut_source ts).cls i) (on (level ts room Cast i) (λ x. going_on (condition ts room (start_of ts i)) (start_of ts i) (here ts room from_multiplicative) x.0 x.1)) (on (level ts room Unary i) (λ x. chained_on (start_of ts i) (optional ts room AssignMore) x.0 x.1))
+unfolding grafting
 assign_step ts room i h =
     level_row ts room Assign i h ∙ cond_both (opens_cast (cut_source ts).cls i) _ _ _ _
     (made (level ts room Cast i) (here ts room from_multiplicative) (λ j xs. cut_chained (start_of ts i) xs ∷ []) ∙ bind_same (level ts room Cast i) _ _ (λ x. goes_on (condition ts room (start_of ts i)) (start_of ts i) (here ts room from_multiplicative) (graft_condition ts room (start_of ts i)) x.0 x.1))
-    (made (level ts room Unary i) (optional ts room AssignMore) (λ j xs. cut_chained (start_of ts i) xs ∷ []))
+    (made (level ts room Unary i) (optional ts room AssignMore) (λ j xs. cut_chained (start_of ts i) xs ∷ []) ∙ bind_same (level ts room Unary i) _ _ (λ x. chained (start_of ts i) (optional ts room AssignMore) x.0 x.1))
 
 pub assign_more_step : (ts : List Token) (room from : ℕ) (t : Part) (i : ℕ) → zero < room → grafting from t (optional ts room AssignMore i) ≡ cond (has assignments (class (token_at ts i).word)) (grafting from t (on (level ts (room - 1) Assign (suc i)) (λ x. Some (cut (built ts (Named kinds.AssignE 0) i x.1 x.0) ∷ [], x.1)))) (condition ts room from t i)
-unfolding ops_then some_then
+unfolding ops_then some_then grafting
 assign_more_step ts room from t i h =
     let c : ℕ = class (token_at ts i).word in
     ap (λ r. grafting from t (cond (has (sets.first AssignMore) c) r (Some ([], i)))) (level_row ts room AssignMore i h)

@@ -86,10 +86,12 @@ rest_turned ts room l n i h = ap (λ f. f i) (turned (λ i. None) (λ X. row ts 
 -- ---- parts put over what stands before them
 
 pub graft_more : (from : ℕ) (t : Part) (xs ys : List Part) → graft_cut from t (xs ++ ys) ≡ graft_cut from (graft_cut from t xs) ys
+unfolding grafting gathering
 graft_more from t [] ys = refl
 graft_more from t (x ∷ xs) ys = graft_more from (cut (grafted from t x)) xs ys
 
 pub graft_seq : (from : ℕ) (p : Part) (r : Option (List Part × ℕ)) (f : ℕ → Option (List Part × ℕ)) → grafting from p (on r (λ x. on (f x.1) (λ y. Some (x.0 ++ y.0, y.1)))) ≡ on (grafting from p r) (λ z. regraft from z.0 (f z.1))
+unfolding grafting gathering
 graft_seq from p None f = refl
 graft_seq from p (Some x) f = inner (f x.1)
   where
@@ -98,10 +100,12 @@ graft_seq from p (Some x) f = inner (f x.1)
     inner (Some y) = rw (graft_more from p x.0 y.0) refl
 
 pub graft_cond : (from : ℕ) (p : Part) (b : Bool) (r r' : Option (List Part × ℕ)) → grafting from p (cond b r r') ≡ cond b (grafting from p r) (grafting from p r')
+unfolding grafting gathering
 graft_cond from p true r r' = refl
 graft_cond from p false r r' = refl
 
 pub graft_turn : (from : ℕ) (p : Part) (i : ℕ) (b : Bool) (r : Option (List Part × ℕ)) (f : ℕ → Option (List Part × ℕ)) → grafting from p (cond b (on r (λ x. on (f x.1) (λ y. Some (x.0 ++ y.0, y.1)))) (Some ([], i))) ≡ cond b (on (grafting from p r) (λ z. regraft from z.0 (f z.1))) (Some (p ∷ [], i))
+unfolding grafting gathering
 graft_turn from p i true r f = graft_seq from p r f
 graft_turn from p i false r f = refl
 
@@ -131,6 +135,48 @@ op_row true j f g = inner (f j)
     inner (Some y) = refl
 op_row false j f g = refl
 
+pub graft_none : (from : ℕ) (p : Part) (i : ℕ) → grafting from p (Some ([], i)) ≡ Some (p ∷ [], i)
+unfolding grafting
+graft_none from p i = refl
+
+pub graft_one : (from : ℕ) (p q : Part) (i : ℕ) → grafting from p (Some (q ∷ [], i)) ≡ Some (cut (grafted from p q) ∷ [], i)
+unfolding grafting
+graft_one from p q i = refl
+
+pub graft_nothing : (from : ℕ) (p : Part) → grafting from p None ≡ None
+unfolding grafting
+graft_nothing from p = refl
+
+pub gather_none : (s : List ℕ × List Part) (i : ℕ) → gathering s (Some ([], i)) ≡ Some (s, i)
+unfolding gathering
+gather_none s i = refl
+
+pub gather_nothing : (s : List ℕ × List Part) → gathering s None ≡ None
+unfolding gathering
+gather_nothing s = refl
+
+-- what one part goes on with; several parts, which no level gives, go on by the row
+abbrev pub going_on : (Part → ℕ → Got) → ℕ → (ℕ → Got) → List Part → ℕ → Got
+going_on f from r [] j = on (r j) (λ y. Some (cut_chained from y.0 ∷ [], y.1))
+going_on f from r (t ∷ []) j = f t j
+going_on f from r (t ∷ q ∷ ps) j = on (r j) (λ y. Some (cut_chained from (t ∷ q ∷ (ps ++ y.0)) ∷ [], y.1))
+
+pub goes_on : (f : Part → ℕ → Got) (from : ℕ) (r : ℕ → Got) → ((t : Part) (j : ℕ) → grafting from t (r j) ≡ f t j) → (ps : List Part) (j : ℕ) → on (r j) (λ y. Some (cut_chained from (ps ++ y.0) ∷ [], y.1)) ≡ going_on f from r ps j
+unfolding grafting
+goes_on f from r h [] j = refl
+goes_on f from r h (t ∷ []) j = h t j
+goes_on f from r h (t ∷ q ∷ ps) j = refl
+
+-- the same where it is put over the part
+abbrev pub chained_on : ℕ → (ℕ → Got) → List Part → ℕ → Got
+chained_on from r ps j = going_on (λ t j. grafting from t (r j)) from r ps j
+
+pub chained : (from : ℕ) (r : ℕ → Got) (ps : List Part) (j : ℕ) → on (r j) (λ y. Some (cut_chained from (ps ++ y.0) ∷ [], y.1)) ≡ chained_on from r ps j
+chained from r ps j = goes_on (λ t j. grafting from t (r j)) from r (λ t j. refl) ps j
+
+-- what is put over or gathered, where nothing or one part is read
+pub ruleset graft_laws = (graft_none, graft_one, graft_nothing, gather_none, gather_nothing)
+
 -- ---- expressions
 
 pub cast_step : (ts : List Token) (room i : ℕ) → zero < room → level ts room Cast i ≡ row ts room (λ i. None) None (table Cast) i
@@ -146,11 +192,22 @@ postfix_tail_step : (ts : List Token) (room i : ℕ) → zero < room → level t
 unfolding rest
 postfix_tail_step ts room i h = level_row ts room PostfixTail i h
 
-pub postfix_step : (ts : List Token) (room i : ℕ) → zero < room → level ts room Postfix i ≡ on (level ts room Prim i) (λ x. on (rest ts room PostfixTail (suc (length ts)) x.1) (λ y. Some (cut_chained (start_of ts i) (x.0 ++ y.0) ∷ [], y.1)))
-postfix_step ts room i h = level_row ts room Postfix i h ∙ made (level ts room Prim i) (level ts room PostfixTail) (λ j xs. cut_chained (start_of ts i) xs ∷ []) ∙ bind_same (level ts room Prim i) _ _ (λ x. ap (λ r. on r (λ y. Some (cut_chained (start_of ts i) (x.0 ++ y.0) ∷ [], y.1))) (postfix_tail_step ts room x.1 h))
+pub postfix_step : (ts : List Token) (room i : ℕ) → zero < room → level ts room Postfix i ≡ on (level ts room Prim i) (λ x. chained_on (start_of ts i) (rest ts room PostfixTail (suc (length ts))) x.0 x.1)
+postfix_step ts room i h =
+    level_row ts room Postfix i h ∙ made (level ts room Prim i) (level ts room PostfixTail) (λ j xs. cut_chained (start_of ts i) xs ∷ [])
+    ∙ bind_same (level ts room Prim i) _ _ (λ x. ap (λ r. on r (λ y. Some (cut_chained (start_of ts i) (x.0 ++ y.0) ∷ [], y.1))) (postfix_tail_step ts room x.1 h) ∙ chained (start_of ts i) (rest ts room PostfixTail (suc (length ts))) x.0 x.1)
 
 pub postfix_turn : (ts : List Token) (room from : ℕ) (p : Part) (n i : ℕ) → zero < n → grafting from p (rest ts room PostfixTail n i) ≡ cond (has (sets.first Suffix) (class (token_at ts i).word)) (on (grafting from p (level ts room Suffix i)) (λ z. regraft from z.0 (rest ts room PostfixTail (n - 1) z.1))) (Some (p ∷ [], i))
+unfolding grafting gathering
 postfix_turn ts room from p n i h = ap (grafting from p) (rest_turn ts room PostfixTail n i h) ∙ graft_turn from p i (has (sets.first Suffix) (class (token_at ts i).word)) (level ts room Suffix i) (rest ts room PostfixTail (n - 1))
+
+-- a suffix, and the round behind it
+pub postfix_on : (ts : List Token) (room from : ℕ) (p q : Part) (n i j : ℕ) → zero < n → has (sets.first Suffix) (class (token_at ts i).word) ≡ true → grafting from p (level ts room Suffix i) ≡ Some (q ∷ [], j) → grafting from p (rest ts room PostfixTail n i) ≡ grafting from q (rest ts room PostfixTail (n - 1) j)
+postfix_on ts room from p q n i j h e g = postfix_turn ts room from p n i h ∙ yes (has (sets.first Suffix) (class (token_at ts i).word)) e ∙ ap (λ r. on r (λ z. regraft from z.0 (rest ts room PostfixTail (n - 1) z.1))) g
+  where
+    yes : (b : Bool) → b ≡ true → cond b (on (grafting from p (level ts room Suffix i)) (λ z. regraft from z.0 (rest ts room PostfixTail (n - 1) z.1))) (Some (p ∷ [], i)) ≡ on (grafting from p (level ts room Suffix i)) (λ z. regraft from z.0 (rest ts room PostfixTail (n - 1) z.1))
+    yes true e = refl
+    yes false e = cc
 
 pub suffix_step : (ts : List Token) (room i : ℕ) → zero < room → level ts room Suffix i ≡ row ts room (λ i. None) None (table Suffix) i
 suffix_step ts room i h = level_row ts room Suffix i h
@@ -254,10 +311,12 @@ pub tname_step : (ts : List Token) (room i : ℕ) → zero < room → level ts r
 tname_step ts room i h = level_row ts room Tname i h
 
 gather_all : (s : List ℕ × List Part) (xs ys : List Part) → gathered s (xs ++ ys) ≡ gathered (gathered s xs) ys
+unfolding grafting gathering
 gather_all s [] ys = refl
 gather_all s (x ∷ xs) ys = gather_all (cond (is_spelling x) (spelled_more s.0 (text_of x.node), s.1) (s.0, s.1 ++ x ∷ [])) xs ys
 
 gather_seq : (s : List ℕ × List Part) (r : Option (List Part × ℕ)) (f : ℕ → Option (List Part × ℕ)) → gathering s (on r (λ x. on (f x.1) (λ y. Some (x.0 ++ y.0, y.1)))) ≡ ◌>>=◌ {B = (List ℕ × List Part) × ℕ} (gathering s r) (λ z. gathering z.0 (f z.1))
+unfolding grafting gathering
 gather_seq s None f = refl
 gather_seq s (Some x) f = inner (f x.1)
   where
@@ -266,6 +325,7 @@ gather_seq s (Some x) f = inner (f x.1)
     inner (Some y) = rw (gather_all s x.0 y.0) refl
 
 gather_cond : (s : List ℕ × List Part) (b : Bool) (r r' : Option (List Part × ℕ)) → gathering s (cond b r r') ≡ cond b (gathering s r) (gathering s r')
+unfolding grafting gathering
 gather_cond s true r r' = refl
 gather_cond s false r r' = refl
 
@@ -278,24 +338,29 @@ leaf_text_is : (ts : List Token) (i : ℕ) → text_of (leaf ts Spelling i).node
 leaf_text_is ts i = made_text kinds.Keyword (token_at ts i).text [] (token_at ts i).span
 
 pub gathered_spelling : (ts : List Token) (i : ℕ) (s : List ℕ × List Part) (xs : List Part) → gathered s (leaf ts Spelling i ∷ xs) ≡ gathered (spelled_more s.0 (token_at ts i).text, s.1) xs
+unfolding grafting gathering
 gathered_spelling ts i s xs = rw (spelling_leaf ts i, leaf_text_is ts i) refl
 
 -- a spelling and then a level
 gather_word : (ts : List Token) (i : ℕ) (s : List ℕ × List Part) (b : Bool) (f : ℕ → Option (List Part × ℕ)) → gathering s (on (cond b (Some (leaf ts Spelling i ∷ [], suc i)) None) (λ x. on (f x.1) (λ y. Some (x.0 ++ y.0, y.1)))) ≡ cond b (gathering (spelled_more s.0 (token_at ts i).text, s.1) (f (suc i))) None
+unfolding grafting gathering
 gather_word ts i s true f = gather_seq s (Some (leaf ts Spelling i ∷ [], suc i)) f ∙ ap (λ z. gathering z (f (suc i))) (gathered_spelling ts i s [])
 gather_word ts i s false f = refl
 
 gather_made : (s : List ℕ × List Part) (r : Option (List Part × ℕ)) (g : ℕ → List ℕ × List Part → List Part) → on r (λ x. Some (g x.1 (gathered s x.0), x.1)) ≡ on_spelt (gathering s r) (λ z. Some (g z.1 z.0, z.1))
+unfolding grafting gathering
 gather_made s None g = refl
 gather_made s (Some x) g = refl
 
 pub spec_step : (ts : List Token) (room i : ℕ) → zero < room → level ts room Spec i ≡ cond {A = Got} (has meta (class (token_at ts i).word)) (Some (leaf ts Own i ∷ [], suc i)) (on_spelt (gathering ([], []) (level ts room SpecStart i)) (λ z. Some (cut (type_over (span_between ts i z.1) z.0) ∷ [], z.1)))
+unfolding grafting gathering
 spec_step ts room i h = level_row ts room Spec i h ∙ cond_both (has meta (class (token_at ts i).word)) _ _ _ _ (pick (has meta (class (token_at ts i).word))) (gather_made ([], []) (level ts room SpecStart i) (λ j s. cut (type_over (span_between ts i j) s) ∷ [])) ∙ once (has meta (class (token_at ts i).word)) _ None _
   where
     pick : (b : Bool) → cond {A = Got} b (Some (leaf ts Own i ∷ [], suc i)) None ≡ cond {A = Got} b (Some (leaf ts Own i ∷ [], suc i)) None
     pick b = refl
 
 pub spec_start_step : (ts : List Token) (room : ℕ) (s : List ℕ × List Part) (i : ℕ) → zero < room → gathering s (level ts room SpecStart i) ≡ cond (has qualifiers (class (token_at ts i).word)) (gathering (spelled_more s.0 (token_at ts i).text, s.1) (level ts room QualifiersTail (suc i))) (gathering s (level ts room Typed i))
+unfolding grafting gathering
 spec_start_step ts room s i h = ap (gathering s) (level_row ts room SpecStart i h) ∙ gather_cond s (has qualifiers (class (token_at ts i).word)) _ (level ts room Typed i) ∙ cond_both (has qualifiers (class (token_at ts i).word)) _ _ (gathering s (level ts room Typed i)) (gathering s (level ts room Typed i)) (gather_word ts i s (has qualifiers (class (token_at ts i).word)) (level ts room QualifiersTail)) refl ∙ once (has qualifiers (class (token_at ts i).word)) _ None _
 
 pub qualifiers_tail_step : (ts : List Token) (room i : ℕ) → zero < room → level ts room QualifiersTail i ≡ rest ts room QualifiersTail (suc (length ts)) i
@@ -303,6 +368,7 @@ unfolding rest
 qualifiers_tail_step ts room i h = level_row ts room QualifiersTail i h
 
 pub qualifiers_turn : (ts : List Token) (room : ℕ) (s : List ℕ × List Part) (n i : ℕ) → zero < n → gathering s (rest ts room QualifiersTail n i) ≡ cond (has spec_goes_on (class (token_at ts i).word)) (cond (has qualifiers (class (token_at ts i).word)) (gathering (spelled_more s.0 (token_at ts i).text, s.1) (rest ts room QualifiersTail (n - 1) (suc i))) (gathering s (level ts room Typed i))) (Some (s, i))
+unfolding grafting gathering
 qualifiers_turn ts room s n i h = ap (gathering s) (rest_turn ts room QualifiersTail n i h) ∙ gather_cond s (has spec_goes_on (class (token_at ts i).word)) _ (Some ([], i)) ∙ cond_both (has spec_goes_on (class (token_at ts i).word)) _ _ (Some (s, i)) (Some (s, i)) (gather_cond s (has qualifiers (class (token_at ts i).word)) _ (level ts room Typed i) ∙ cond_both (has qualifiers (class (token_at ts i).word)) _ _ (gathering s (level ts room Typed i)) (gathering s (level ts room Typed i)) (gather_word ts i s (has qualifiers (class (token_at ts i).word)) (rest ts room QualifiersTail (n - 1))) refl ∙ once (has qualifiers (class (token_at ts i).word)) _ None _) refl
 
 typed_first : (ts : List Token) (room i : ℕ) → zero < room → level ts room TypedFirst i ≡ word_or_group ts room bare_words i
@@ -313,6 +379,7 @@ unfolding rest
 typed_tail_step ts room i h = level_row ts room TypedTail i h
 
 pub typed_step : (ts : List Token) (room : ℕ) (s : List ℕ × List Part) (i : ℕ) → zero < room → gathering s (level ts room Typed i) ≡ ◌>>=◌ {B = (List ℕ × List Part) × ℕ} (gathering s (word_or_group ts room bare_words i)) (λ z. gathering z.0 (rest ts room TypedTail (suc (length ts)) z.1))
+unfolding grafting gathering
 typed_step ts room s i h =
     ap (gathering s) (level_row ts room Typed i h) ∙ gather_seq s (level ts room TypedFirst i) (level ts room TypedTail) ∙ ap (λ r. ◌>>=◌ {B = (List ℕ × List Part) × ℕ} (gathering s r) (λ z. gathering z.0 (level ts room TypedTail z.1))) (typed_first ts room i h)
     ∙ bind_same (gathering s (word_or_group ts room bare_words i)) _ _ (λ z. ap (gathering z.0) (typed_tail_step ts room z.1 h))
@@ -321,9 +388,11 @@ abbrev pub typed_goes_on : List ℕ
 typed_goes_on = class w.TypeWord ∷ class w.Qualifier ∷ class w.Tag ∷ []
 
 pub typed_turn : (ts : List Token) (room : ℕ) (s : List ℕ × List Part) (n i : ℕ) → zero < n → gathering s (rest ts room TypedTail n i) ≡ cond (has typed_goes_on (class (token_at ts i).word)) (◌>>=◌ {B = (List ℕ × List Part) × ℕ} (gathering s (word_or_group ts room later_words i)) (λ z. gathering z.0 (rest ts room TypedTail (n - 1) z.1))) (Some (s, i))
+unfolding grafting gathering
 typed_turn ts room s n i h = ap (gathering s) (rest_turn ts room TypedTail n i h) ∙ gather_cond s (has typed_goes_on (class (token_at ts i).word)) _ (Some ([], i)) ∙ cond_both (has typed_goes_on (class (token_at ts i).word)) _ _ (Some (s, i)) (Some (s, i)) (gather_seq s (row ts room (λ i. None) None (word Spelling later_words ∣ ref Group) i) (rest ts room TypedTail (n - 1)) ∙ ap (λ r. ◌>>=◌ {B = (List ℕ × List Part) × ℕ} (gathering s r) (λ z. gathering z.0 (rest ts room TypedTail (n - 1) z.1))) (once (has later_words (class (token_at ts i).word)) _ None _)) refl
 
 pub group_step : (ts : List Token) (room : ℕ) (s : List ℕ × List Part) (i : ℕ) → zero < room → gathering s (level ts room Group i) ≡ cond (has tags (class (token_at ts i).word)) (cond (has name (class (token_at ts (suc i)).word)) (gathering (spelled_more (spelled_more s.0 (token_at ts i).text) (token_at ts (suc i)).text, s.1) (optional ts room Body (suc (suc i)))) (gathering (spelled_more s.0 (token_at ts i).text, s.1) (optional ts room Body (suc i)))) None
+unfolding grafting gathering
 group_step ts room s i h = ap (gathering s) (level_row ts room Group i h) ∙ gather_word ts i s (has tags (class (token_at ts i).word)) named ∙ cond_both (has tags (class (token_at ts i).word)) _ _ None None (after (spelled_more s.0 (token_at ts i).text, s.1) (has name (class (token_at ts (suc i)).word))) refl
   where
     named : ℕ → Option (List Part × ℕ)
@@ -376,10 +445,12 @@ pub words_step : (ts : List Token) (room i : ℕ) → zero < room → level ts r
 words_step ts room i h = loop_words ts room i h
 
 pub words_turn : (ts : List Token) (room : ℕ) (s : List ℕ × List Part) (n i : ℕ) → zero < n → gathering s (rest ts room Words n i) ≡ cond (has spec_words (class (token_at ts i).word)) (gathering (spelled_more s.0 (token_at ts i).text, s.1) (rest ts room Words (n - 1) (suc i))) (Some (s, i))
+unfolding grafting gathering
 words_turn ts room s n i h = ap (gathering s) (rest_turn ts room Words n i h) ∙ gather_cond s (has spec_words (class (token_at ts i).word)) _ (Some ([], i)) ∙ cond_both (has spec_words (class (token_at ts i).word)) _ _ (Some (s, i)) (Some (s, i)) (gather_word ts i s (has spec_words (class (token_at ts i).word)) (rest ts room Words (n - 1))) refl ∙ once (has spec_words (class (token_at ts i).word)) _ None _
 
 -- the words behind a star and what they point to, made into a pointer
 pointer_row : (ts : List Token) (room i : ℕ) (r : Option (List Part × ℕ)) (f : ℕ → Option (List Part × ℕ)) → on (on (on r (λ z. Some (spellings (span_between ts i z.1) (gathered ([], []) z.0) ∷ [], z.1))) (λ x. on (f x.1) (λ y. Some (x.0 ++ y.0, y.1)))) (λ z. Some (cut (pointer (span_between ts i z.1) z.0) ∷ [], z.1)) ≡ on_spelt (gathering ([], []) r) (λ s. on (f s.1) (λ y. Some (cut (pointing (span_between ts i y.1) s.0.0 (tallest s.0.1) y.0) ∷ [], y.1)))
+unfolding grafting gathering
 pointer_row ts room i None f = refl
 pointer_row ts room i (Some w) f = inner (f w.1)
   where
@@ -388,6 +459,7 @@ pointer_row ts room i (Some w) f = inner (f w.1)
     inner (Some y) = rw (made_text kinds.Keyword (gathered ([], []) w.0).0 [] (span_between ts i w.1)) refl
 
 stars_row : (ts : List Token) (room i : ℕ) → zero < room → level ts room Stars i ≡ cond (has (class w.Star ∷ []) (class (token_at ts i).word)) (on (level ts room Words (suc i)) (λ z. Some (spellings (span_between ts i z.1) (gathered ([], []) z.0) ∷ [], z.1))) None
+unfolding grafting gathering
 stars_row ts room i h = level_row ts room Stars i h ∙ op_row (has (class w.Star ∷ []) (class (token_at ts i).word)) (suc i) (level ts room Words) (λ j xs. spellings (span_between ts i j) (gathered ([], []) xs) ∷ [])
 
 -- a pointer, where a star stands
@@ -395,6 +467,7 @@ abbrev pub pointer_read : List Token → ℕ → Naming → ℕ → Option (List
 pointer_read ts room k i = on_spelt (gathering ([], []) (level ts room Words (suc i))) (λ s. on (pointed_read ts (room - 1) k s.1) (λ y. Some (cut (pointing (span_between ts i y.1) s.0.0 (tallest s.0.1) y.0) ∷ [], y.1)))
 
 starred : (ts : List Token) (room i : ℕ) (b : Bool) (r q : Option (List Part × ℕ)) (f : ℕ → Option (List Part × ℕ)) → cond b (on (on (cond b (on r (λ z. Some (spellings (span_between ts i z.1) (gathered ([], []) z.0) ∷ [], z.1))) None) (λ x. on (f x.1) (λ y. Some (x.0 ++ y.0, y.1)))) (λ z. Some (cut (pointer (span_between ts i z.1) z.0) ∷ [], z.1))) q ≡ cond b (on_spelt (gathering ([], []) r) (λ s. on (f s.1) (λ y. Some (cut (pointing (span_between ts i y.1) s.0.0 (tallest s.0.1) y.0) ∷ [], y.1)))) q
+unfolding grafting gathering
 starred ts room i true r q f = pointer_row ts room i r f
 starred ts room i false r q f = refl
 
@@ -415,14 +488,14 @@ rootless_read ts room naming.Maybe i = on (grafting (start_of ts i) (absent (sta
 
 -- a declarator in parentheses or a name, with the brackets behind it
 abbrev pub behind_read : List Token → ℕ → ℕ → Option (List Part × ℕ) → Option (List Part × ℕ)
-behind_read ts room i r = on r (λ x. on (level ts room DeclrTail x.1) (λ y. Some (cut_chained (start_of ts i) (x.0 ++ y.0) ∷ [], y.1)))
+behind_read ts room i r = on r (λ x. chained_on (start_of ts i) (level ts room DeclrTail) x.0 x.1)
 
 behind_cond : (ts : List Token) (room i : ℕ) (b : Bool) (r q : Option (List Part × ℕ)) → behind_read ts room i (cond b r q) ≡ cond b (behind_read ts room i r) (behind_read ts room i q)
 behind_cond ts room i true r q = refl
 behind_cond ts room i false r q = refl
 
 behind_made : (ts : List Token) (room i : ℕ) (r : Option (List Part × ℕ)) → on (on r (λ x. on (level ts room DeclrTail x.1) (λ y. Some (x.0 ++ y.0, y.1)))) (λ z. Some (cut_chained (start_of ts i) z.0 ∷ [], z.1)) ≡ behind_read ts room i r
-behind_made ts room i r = made r (level ts room DeclrTail) (λ j xs. cut_chained (start_of ts i) xs ∷ [])
+behind_made ts room i r = made r (level ts room DeclrTail) (λ j xs. cut_chained (start_of ts i) xs ∷ []) ∙ bind_same r _ _ (λ x. chained (start_of ts i) (level ts room DeclrTail) x.0 x.1)
 
 first_named : (ts : List Token) (room i : ℕ) → zero < room → level ts room DeclrFirst i ≡ cond (has (class w.OpenRound ∷ []) (class (token_at ts i).word)) (nested_read ts room naming.Named i) (cond (has names (class (token_at ts i).word)) (Some (leaf ts AsId i ∷ [], suc i)) None)
 first_named ts room i h = level_row ts room DeclrFirst i h ∙ once (has (class w.OpenRound ∷ []) (class (token_at ts i).word)) (nested_read ts room naming.Named i) None _
@@ -443,6 +516,7 @@ nested_behind ts room k i true false z = refl
 nested_behind ts room k i false b z = refl
 
 rootless : (ts : List Token) (room i : ℕ) → on (on (level ts room DeclrPart i) (λ x. on (level ts room DeclrTail x.1) (λ y. Some (x.0 ++ y.0, y.1)))) (λ z. Some (graft_cut (start_of ts i) (absent (start_of ts i)) z.0 ∷ [], z.1)) ≡ rootless_read ts room naming.Maybe i
+unfolding grafting gathering
 rootless ts room i = graft_seq (start_of ts i) (absent (start_of ts i)) (level ts room DeclrPart i) (level ts room DeclrTail)
 
 nameless_direct : (ts : List Token) (room i : ℕ) → zero < room → level ts room NamelessDirect i ≡ cond (opens_declarator (cut_source ts).cls i) (behind_read ts room i (nested_read ts room naming.Nameless i)) (rootless_read ts room naming.Nameless i)
@@ -463,6 +537,7 @@ unfolding rest
 declr_tail_step ts room i h = level_row ts room DeclrTail i h
 
 pub declr_turn : (ts : List Token) (room from : ℕ) (p : Part) (n i : ℕ) → zero < n → grafting from p (rest ts room DeclrTail n i) ≡ cond (has (sets.first DeclrPart) (class (token_at ts i).word)) (on (grafting from p (level ts room DeclrPart i)) (λ z. regraft from z.0 (rest ts room DeclrTail (n - 1) z.1))) (Some (p ∷ [], i))
+unfolding grafting gathering
 declr_turn ts room from p n i h = ap (grafting from p) (rest_turn ts room DeclrTail n i h) ∙ graft_turn from p i (has (sets.first DeclrPart) (class (token_at ts i).word)) (level ts room DeclrPart i) (rest ts room DeclrTail (n - 1))
 
 pub declr_part_step : (ts : List Token) (room i : ℕ) → zero < room → level ts room DeclrPart i ≡ row ts room (λ i. None) None (table DeclrPart) i

@@ -52,11 +52,11 @@ abbrev pub behind_equals : List Token → ℕ → Level → ℕ → Option (List
 behind_equals ts room l i = cond (has (class w.Equals ∷ []) (class (token_at ts i).word)) (level ts room l (suc i)) (Some ([], i))
 
 -- what is read, put over what stands before it
-abbrev pub grafting : ℕ → Part → Option (List Part × ℕ) → Option (List Part × ℕ)
+unfoldable pub grafting : ℕ → Part → Option (List Part × ℕ) → Option (List Part × ℕ)
 grafting from left read = read >>= λ x. Some (graft_cut from left x.0 ∷ [], x.1)
 
 -- what is read, behind spellings and others so far
-abbrev pub gathering : List ℕ × List Part → Option (List Part × ℕ) → Option ((List ℕ × List Part) × ℕ)
+unfoldable pub gathering : List ℕ × List Part → Option (List Part × ℕ) → Option ((List ℕ × List Part) × ℕ)
 gathering s read = read >>= λ x. Some (gathered s x.0, x.1)
 
 -- spellings and others, and where they end

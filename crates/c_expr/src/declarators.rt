@@ -144,7 +144,7 @@ fn pointed(
 }
 
 /// The words behind a `*`, with a space between two.
-#[tactic(auto, using(crate::proofs::Steps::level_none, crate::proofs::Steps::words_step, crate::proofs::Steps::words_turn, crate::proofs::Steps::rest_turned))]
+#[tactic(auto, using(crate::proofs::Steps::level_none, crate::proofs::Steps::words_step, crate::proofs::Steps::words_turn, crate::proofs::Steps::rest_turned, crate::proofs::Steps::graft_laws))]
 fn words(
     alloc: Global,
     tokens: &[Token<'_>],
@@ -176,7 +176,7 @@ fn words(
 
 /// `Id | "(" declr ")"` and the brackets behind it, or these alone where there is no name.
 #[cycle(reader)]
-#[tactic(auto, using(crate::proofs::Steps::level_none, crate::proofs::Steps::direct_step))]
+#[tactic(auto, using(crate::proofs::Steps::level_none, crate::proofs::Steps::direct_step, crate::proofs::Steps::graft_laws))]
 fn direct(
     alloc: Global,
     tokens: &[Token<'_>],
@@ -234,7 +234,7 @@ fn takes_name(tokens: &[Token<'_>], naming: Naming, at: usize) -> bool
 
 /// `{"[" [assign] "]" | "(" [params] ")"}`, put over what stands before it.
 #[cycle(reader)]
-#[tactic(auto, using(crate::proofs::Steps::level_none, crate::proofs::Steps::declr_tail_step, crate::proofs::Steps::declr_turn, crate::proofs::Steps::rest_turned))]
+#[tactic(auto, using(crate::proofs::Steps::level_none, crate::proofs::Steps::declr_tail_step, crate::proofs::Steps::declr_turn, crate::proofs::Steps::rest_turned, crate::proofs::Steps::graft_laws))]
 fn brackets(
     alloc: Global,
     tokens: &[Token<'_>],
@@ -263,7 +263,7 @@ fn brackets(
 
 /// `"[" [assign] "]" | "(" [params] ")"`, put over what stands before it.
 #[cycle(reader)]
-#[tactic(auto, using(crate::proofs::Steps::level_none, crate::proofs::Steps::declr_part_step))]
+#[tactic(auto, using(crate::proofs::Steps::level_none, crate::proofs::Steps::declr_part_step, crate::proofs::Steps::graft_laws))]
 fn bracket(
     alloc: Global,
     tokens: &[Token<'_>],

@@ -149,7 +149,7 @@ fn binary(
 
 /// `assign {"," assign}`
 #[cycle(reader)]
-#[tactic(auto, using(crate::proofs::Steps::level_none, crate::proofs::Climbs::comma_step, crate::proofs::Climbs::comma_turn, crate::proofs::Steps::rest_turned))]
+#[tactic(auto, using(crate::proofs::Steps::level_none, crate::proofs::Climbs::comma_step, crate::proofs::Climbs::comma_turn, crate::proofs::Steps::rest_turned, crate::proofs::Steps::graft_laws))]
 pub fn comma(
     alloc: Global,
     tokens: &[Token<'_>],
@@ -203,7 +203,7 @@ pub fn assign(
 
 /// What stands behind a unary at the start of an assign.
 #[cycle(reader)]
-#[tactic(auto, using(crate::proofs::Climbs::assign_more_step))]
+#[tactic(auto, using(crate::proofs::Climbs::assign_more_step, crate::proofs::Steps::graft_laws))]
 fn assign_rest(
     alloc: Global,
     tokens: &[Token<'_>],
@@ -247,6 +247,7 @@ pub fn conditional(
 
 /// What may stand behind the first operand of a cond: operators, the tightest first, and a condition.
 #[cycle(reader)]
+#[tactic(auto, using(crate::proofs::Steps::graft_laws))]
 fn cond_rest(
     alloc: Global,
     tokens: &[Token<'_>],
@@ -269,7 +270,7 @@ fn cond_rest(
 
 /// `"?" comma ":" cond`
 #[cycle(reader)]
-#[tactic(auto, using(crate::proofs::Steps::level_none, crate::proofs::Climbs::cond_part_step))]
+#[tactic(auto, using(crate::proofs::Steps::level_none, crate::proofs::Climbs::cond_part_step, crate::proofs::Steps::graft_laws))]
 fn cond_part(
     alloc: Global,
     tokens: &[Token<'_>],
@@ -348,7 +349,7 @@ fn climb(
 
 /// The operators of a level, each with its right side, put over what stands before them.
 #[cycle(reader)]
-#[tactic(auto, using(crate::proofs::Climbs::ops_read, crate::proofs::Climbs::ops_turn, crate::proofs::Climbs::ops_turned))]
+#[tactic(auto, using(crate::proofs::Climbs::ops_read, crate::proofs::Climbs::ops_turn, crate::proofs::Climbs::ops_turned, crate::proofs::Steps::graft_laws))]
 fn level_operators(
     alloc: Global,
     tokens: &[Token<'_>],

@@ -45,7 +45,7 @@ const ACCESSES: [Word; 2] = [Word::Dot, Word::Arrow];
 
 /// `prim {suffix}`
 #[cycle(reader)]
-#[tactic(auto, using(crate::proofs::Steps::level_none, crate::proofs::Steps::postfix_step, crate::proofs::Steps::postfix_turn, crate::proofs::Steps::rest_turned))]
+#[tactic(auto, using(crate::proofs::Steps::level_none, crate::proofs::Steps::postfix_step, crate::proofs::Steps::postfix_turn, crate::proofs::Steps::rest_turned, crate::proofs::Steps::graft_laws))]
 pub fn postfix(
     alloc: Global,
     tokens: &[Token<'_>],
@@ -72,7 +72,7 @@ pub fn postfix(
 
 /// `"[" comma "]" | "(" args ")" | ("." | "->") NAME | "++" | "--"`, put over what stands before it.
 #[cycle(reader)]
-#[tactic(auto, using(crate::proofs::Steps::level_none, crate::proofs::Steps::suffix_step))]
+#[tactic(auto, using(crate::proofs::Steps::level_none, crate::proofs::Steps::suffix_step, crate::proofs::Steps::graft_laws))]
 fn suffix(
     alloc: Global,
     tokens: &[Token<'_>],

@@ -68,7 +68,7 @@ pub fn type_name(
 
 /// Words, one name at most, and groups; or one metavariable.
 #[cycle(reader)]
-#[tactic(auto, using(crate::proofs::Steps::level_none, crate::proofs::Steps::spec_step))]
+#[tactic(auto, using(crate::proofs::Steps::level_none, crate::proofs::Steps::spec_step, crate::proofs::Steps::graft_laws))]
 pub fn spec(
     alloc: Global,
     tokens: &[Token<'_>],
@@ -97,7 +97,7 @@ pub fn spec(
 
 /// Qualifiers, and what else follows.
 #[cycle(reader)]
-#[tactic(auto, using(crate::proofs::Steps::level_none, crate::proofs::Steps::spec_start_step))]
+#[tactic(auto, using(crate::proofs::Steps::level_none, crate::proofs::Steps::spec_start_step, crate::proofs::Steps::graft_laws))]
 fn spec_start(
     alloc: Global,
     tokens: &[Token<'_>],
@@ -121,7 +121,7 @@ fn spec_start(
 
 /// What stands behind a first qualifier.
 #[cycle(reader)]
-#[tactic(auto, using(crate::proofs::Steps::level_none, crate::proofs::Steps::qualifiers_tail_step, crate::proofs::Steps::qualifiers_turn, crate::proofs::Steps::rest_turned))]
+#[tactic(auto, using(crate::proofs::Steps::level_none, crate::proofs::Steps::qualifiers_tail_step, crate::proofs::Steps::qualifiers_turn, crate::proofs::Steps::rest_turned, crate::proofs::Steps::graft_laws))]
 fn qualified(
     alloc: Global,
     tokens: &[Token<'_>],
@@ -153,7 +153,7 @@ fn qualified(
 
 /// A name, a type word or a group, and then no name.
 #[cycle(reader)]
-#[tactic(auto, using(crate::proofs::Steps::level_none, crate::proofs::Steps::typed_step, crate::proofs::Steps::typed_turn, crate::proofs::Steps::rest_turned))]
+#[tactic(auto, using(crate::proofs::Steps::level_none, crate::proofs::Steps::typed_step, crate::proofs::Steps::typed_turn, crate::proofs::Steps::rest_turned, crate::proofs::Steps::graft_laws))]
 fn typed(
     alloc: Global,
     tokens: &[Token<'_>],
@@ -202,7 +202,7 @@ fn word_or_group(
 
 /// `("struct" | "union" | "enum") [NAME] [body]`
 #[cycle(reader)]
-#[tactic(auto, using(crate::proofs::Steps::level_none, crate::proofs::Steps::group_step))]
+#[tactic(auto, using(crate::proofs::Steps::level_none, crate::proofs::Steps::group_step, crate::proofs::Steps::graft_laws))]
 fn group(
     alloc: Global,
     tokens: &[Token<'_>],
