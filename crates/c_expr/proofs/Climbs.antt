@@ -1,6 +1,6 @@
 -- The reader of expressions with operators, one step.
 use Rattle.std.proofs.Common.{◌≡◌, ℕ, zero, suc, ◌-◌, ◌+◌, ◌<◌, ◌≤◌, List, [], ◌∷◌, ◌++◌, length, map, refl, ap, sym, ◌∙◌, arith, add-one, Option, None, Some, Bool, true, false, cond}
-use Rattle.std.specs.Prelude.{◌||◌}
+use Rattle.std.specs.Prelude.{◌||◌, eqb}
 use Rattle.std.proofs.lemmas.List.{append-nil}
 use Rattle.node_tree.specs.declared.kind.Kind.{Kind}
 use Rattle.node_tree.specs.declared.kind.Kind.TheVariants as kinds
@@ -44,6 +44,9 @@ graft_op from t true j right over f = by (right j)
     by None = refl
     by (Some x) = behind (f x.1) x
 
+pub has_one : (d c : ℕ) → eqb d c ≡ true → has (d ∷ []) c ≡ true
+has_one d c h = rw h refl
+
 -- ---- commas
 
 comma_tail : (ts : List Token) (room i : ℕ) → zero < room → level ts room CommaTail i ≡ rest ts room CommaTail (suc (length ts)) i
@@ -66,8 +69,8 @@ comma_turn ts room from t n i h =
     comma = has (class w.Comma ∷ []) (class (token_at ts i).word)
 
 -- a comma with its right side, and the round behind it
-pub comma_on : (ts : List Token) (room from : ℕ) (t q : Part) (n i j : ℕ) → zero < n → has (class w.Comma ∷ []) (class (token_at ts i).word) ≡ true → level ts room Assign (i + 1) ≡ Some (q ∷ [], j) → grafting from t (rest ts room CommaTail n i) ≡ grafting from (cut (grafted from t (cut (built ts (Named kinds.Binary 0) i j (q ∷ []))))) (rest ts room CommaTail (n - 1) j)
-comma_on ts room from t q n i j h e g = comma_turn ts room from t n i h ∙ yes (has (class w.Comma ∷ []) (class (token_at ts i).word)) e ∙ ap (λ r. on r (λ x. grafting from (cut (grafted from t (cut (built ts (Named kinds.Binary 0) i x.1 x.0)))) (rest ts room CommaTail (n - 1) x.1))) (rw add-one at g)
+pub comma_on : (ts : List Token) (room from : ℕ) (t q u : Part) (n m i j : ℕ) → zero < n → has (class w.Comma ∷ []) (class (token_at ts i).word) ≡ true → level ts room Assign (i + 1) ≡ Some (q ∷ [], j) → u ≡ cut (grafted from t (cut (built ts (Named kinds.Binary 0) i j (q ∷ [])))) → n - 1 ≡ m → grafting from t (rest ts room CommaTail n i) ≡ grafting from u (rest ts room CommaTail m j)
+comma_on ts room from t q u n m i j h e g made less = comma_turn ts room from t n i h ∙ yes (has (class w.Comma ∷ []) (class (token_at ts i).word)) e ∙ ap (λ r. on r (λ x. grafting from (cut (grafted from t (cut (built ts (Named kinds.Binary 0) i x.1 x.0)))) (rest ts room CommaTail (n - 1) x.1))) (rw add-one at g) ∙ ap (λ v. grafting from v (rest ts room CommaTail (n - 1) j)) (sym made) ∙ ap (λ k. grafting from u (rest ts room CommaTail k j)) less
   where
     yes : (b : Bool) → b ≡ true → cond b (on (level ts room Assign (suc i)) (λ x. grafting from (cut (grafted from t (cut (built ts (Named kinds.Binary 0) i x.1 x.0)))) (rest ts room CommaTail (n - 1) x.1))) (Some (t ∷ [], i)) ≡ on (level ts room Assign (suc i)) (λ x. grafting from (cut (grafted from t (cut (built ts (Named kinds.Binary 0) i x.1 x.0)))) (rest ts room CommaTail (n - 1) x.1))
     yes true e = refl
@@ -148,8 +151,8 @@ ops_turn ts room from t k n i h =
     stands = has (map class (operators k)) (class (token_at ts i).word)
 
 -- an operator with its right side, and the round behind it
-pub ops_on : (ts : List Token) (room from : ℕ) (t q : Part) (k : Precedence) (n i j : ℕ) → zero < n → has (map class (operators k)) (class (token_at ts i).word) ≡ true → level ts room (right_level (tighter k)) (i + 1) ≡ Some (q ∷ [], j) → grafting from t (ops_rest ts room k n i) ≡ grafting from (cut (grafted from t (cut (built ts (Named kinds.Binary 0) i j (q ∷ []))))) (more_ops ts room k (n - 1) j)
-ops_on ts room from t q k n i j h e g = ops_turn ts room from t k n i h ∙ yes (has (map class (operators k)) (class (token_at ts i).word)) e ∙ ap (λ r. on r (λ x. grafting from (cut (grafted from t (cut (built ts (Named kinds.Binary 0) i x.1 x.0)))) (more_ops ts room k (n - 1) x.1))) (rw add-one at g)
+pub ops_on : (ts : List Token) (room from : ℕ) (t q u : Part) (k : Precedence) (n m i j : ℕ) → zero < n → has (map class (operators k)) (class (token_at ts i).word) ≡ true → level ts room (right_level (tighter k)) (i + 1) ≡ Some (q ∷ [], j) → u ≡ cut (grafted from t (cut (built ts (Named kinds.Binary 0) i j (q ∷ [])))) → n - 1 ≡ m → grafting from t (ops_rest ts room k n i) ≡ grafting from u (more_ops ts room k m j)
+ops_on ts room from t q u k n m i j h e g made less = ops_turn ts room from t k n i h ∙ yes (has (map class (operators k)) (class (token_at ts i).word)) e ∙ ap (λ r. on r (λ x. grafting from (cut (grafted from t (cut (built ts (Named kinds.Binary 0) i x.1 x.0)))) (more_ops ts room k (n - 1) x.1))) (rw add-one at g) ∙ ap (λ v. grafting from v (more_ops ts room k (n - 1) j)) (sym made) ∙ ap (λ l. grafting from u (more_ops ts room k l j)) less
   where
     yes : (b : Bool) → b ≡ true → cond b (on (level ts room (right_level (tighter k)) (suc i)) (λ x. grafting from (cut (grafted from t (cut (built ts (Named kinds.Binary 0) i x.1 x.0)))) (more_ops ts room k (n - 1) x.1))) None ≡ on (level ts room (right_level (tighter k)) (suc i)) (λ x. grafting from (cut (grafted from t (cut (built ts (Named kinds.Binary 0) i x.1 x.0)))) (more_ops ts room k (n - 1) x.1))
     yes true e = refl
