@@ -150,6 +150,10 @@ ops_turn ts room from t k n i h =
     stands : Bool
     stands = has (map class (operators k)) (class (token_at ts i).word)
 
+-- where an operator stands
+pub more_there : (ts : List Token) (room from : ℕ) (t : Part) (k : Precedence) (n i : ℕ) → has (map class (operators k)) (class (token_at ts i).word) ≡ true → grafting from t (more_ops ts room k n i) ≡ grafting from t (ops_rest ts room k n i)
+more_there ts room from t k n i h = ap (λ b. grafting from t (cond b (ops_rest ts room k n i) (Some ([], i)))) h
+
 -- an operator with its right side, and the round behind it
 pub ops_on : (ts : List Token) (room from : ℕ) (t q u : Part) (k : Precedence) (n m i j : ℕ) → zero < n → has (map class (operators k)) (class (token_at ts i).word) ≡ true → level ts room (right_level (tighter k)) (i + 1) ≡ Some (q ∷ [], j) → u ≡ cut (grafted from t (cut (built ts (Named kinds.Binary 0) i j (q ∷ [])))) → n - 1 ≡ m → grafting from t (ops_rest ts room k n i) ≡ grafting from u (more_ops ts room k m j)
 ops_on ts room from t q u k n m i j h e g made less = ops_turn ts room from t k n i h ∙ yes (has (map class (operators k)) (class (token_at ts i).word)) e ∙ ap (λ r. on r (λ x. grafting from (cut (grafted from t (cut (built ts (Named kinds.Binary 0) i x.1 x.0)))) (more_ops ts room k (n - 1) x.1))) (rw add-one at g) ∙ ap (λ v. grafting from v (more_ops ts room k (n - 1) j)) (sym made) ∙ ap (λ l. grafting from u (more_ops ts room k l j)) less

@@ -5,5 +5,5 @@ use Rattle.c_expr.proofs.make.over.Goals as goal
 pub loop-part-preserved : goal.loop-part-preserved
 loop-part-preserved c = record {
   kids = cc (settled_more c.args.span.from c.loop-part.yielded c.in-Some.part, c.in_ok-push.ensures.items);
-  depth = cc (tallest_more c.loop-part.yielded c.in-Some.part);
+  depth = omega (arith, tallest_more c.loop-part.yielded c.in-Some.part, c.loop-part.invariant.depth);
 }
