@@ -119,13 +119,13 @@ module _ (ts : List Token) (m : ℕ) where
   reads_alike (around cs ds r) V V' A A' q v a i =
       both_cond (has cs ((source ts).cls i)) _ _ None None
       (both_bind (read (source ts) sets m V A q r (suc i)) (read (cut_source ts) sets m V' A' q r (suc i)) (λ x. cond (has ds ((source ts).cls x.1)) (Some (x.0, suc x.1)) None) (λ x. cond (has ds ((source ts).cls x.1)) (Some (x.0, suc x.1)) None) (reads_alike r V V' A A' q v a (suc i))
-          (λ xs ys j h. both_cond (has ds ((source ts).cls j)) (Some (xs, suc j)) (Some (ys, suc j)) None None (h, refl) tt))
+      (λ xs ys j h. both_cond (has ds ((source ts).cls j)) (Some (xs, suc j)) (Some (ys, suc j)) None None (h, refl) tt))
       tt
   reads_alike (alt r s) V V' A A' q v a i = both_cond (has (first sets q r) ((source ts).cls i)) _ _ _ _ (reads_alike r V V' A A' q v a i) (reads_alike s V V' A A' q v a i)
   reads_alike (look w cs ds b r s) V V' A A' q v a i =
       both_cond (has cs ((source ts).cls i) && has ds ((source ts).cls (suc i))) _ _ _ _
       (both_bind (read (source ts) sets m V A q r (suc (suc i))) (read (cut_source ts) sets m V' A' q r (suc (suc i))) (λ x. Some (built ts b i x.1 (leaf ts w i ∷ x.0) ∷ [], x.1)) (λ x. Some (cut_built ts b i x.1 (leaf ts w i ∷ x.0) ∷ [], x.1)) (reads_alike r V V' A A' q v a (suc (suc i)))
-          (λ xs ys j h. (built_alike ts b i j (leaf ts w i ∷ xs) (leaf ts w i ∷ ys) (both_parts (leaf ts w i ∷ []) (leaf ts w i ∷ []) xs ys (alone (leaf ts w i) (leaf ts w i) (itself (leaf ts w i))) h), refl)))
+      (λ xs ys j h. (built_alike ts b i j (leaf ts w i ∷ xs) (leaf ts w i ∷ ys) (both_parts (leaf ts w i ∷ []) (leaf ts w i ∷ []) xs ys (alone (leaf ts w i) (leaf ts w i) (itself (leaf ts w i))) h), refl)))
       (reads_alike s V V' A A' q v a i)
   reads_alike (choose p r s) V V' A A' q v a i = both_cond (p (source ts).cls i) _ _ _ _ (reads_alike r V V' A A' q v a i) (reads_alike s V V' A A' q v a i)
   reads_alike (opt r) V V' A A' q v a i = both_cond (has (first sets q r) ((source ts).cls i)) _ _ (Some ([], i)) (Some ([], i)) (reads_alike r V V' A A' q v a i) (inl (omega arith, refl), refl)

@@ -87,5 +87,6 @@ grafted_deep from t p = omega arith
 
 pub graft_made : (from : ℕ) (t : Part) (kind : Kind) (text : List ℕ) (span : Span) (ps : List Part) → cut (grafted from t (cut (over kind text span ps))) ≡ cut (whole from t kind text span ps)
 graft_made from t kind text span ps = elim (either (suc (tallest ps))) [
-    inl h ↦ ap (λ p. cut (grafted from t p)) (cut_shallow (over kind text span ps) (omega (arith, h, over_depth kind text span ps))) ∙ ap cut (grafted_over from t kind text span ps)
-  | inr h ↦ ap (λ p. cut (grafted from t p)) (cut_deep (over kind text span ps) (omega (arith, h, over_depth kind text span ps))) ∙ both_deep (grafted from t stub) (whole from t kind text span ps) (omega (arith, grafted_deep from t stub)) (omega (arith, h)) ]
+  | inl h ↦ ap (λ p. cut (grafted from t p)) (cut_shallow (over kind text span ps) (omega (arith, h, over_depth kind text span ps))) ∙ ap cut (grafted_over from t kind text span ps)
+  | inr h ↦ ap (λ p. cut (grafted from t p)) (cut_deep (over kind text span ps) (omega (arith, h, over_depth kind text span ps))) ∙ both_deep (grafted from t stub) (whole from t kind text span ps) (omega (arith, grafted_deep from t stub)) (omega (arith, h))
+]

@@ -82,7 +82,6 @@ pub rest_turned : (ts : List Token) (room : ℕ) (l : Level) (n i : ℕ) → n �
 unfolding rest
 rest_turned ts room l n i h = ap (λ f. f i) (turned (λ i. None) (λ X. row ts room X (Some l) (round_of l)) n h)
 
-
 -- ---- parts put over what stands before them
 
 pub graft_more : (from : ℕ) (t : Part) (xs ys : List Part) → graft_cut from t (xs ++ ys) ≡ graft_cut from (graft_cut from t xs) ys
@@ -232,7 +231,6 @@ strings_step ts room i h =
 
 pub strings_turn : (ts : List Token) (room n i : ℕ) → zero < n → rest ts room StringsTail n i ≡ row ts room (rest ts room StringsTail (n - 1)) (Some StringsTail) (round_of StringsTail) i
 strings_turn ts room n i h = rest_turn ts room StringsTail n i h
-
 
 -- one more at the end
 pub push_more : (xs : List Part) (x : Part) (ys : List Part) → (xs ++ x ∷ []) ++ ys ≡ xs ++ (x ∷ ys)
@@ -566,4 +564,3 @@ desigs_turn ts room n i h = rest_turn ts room DesigsTail n i h
 
 pub desig_step : (ts : List Token) (room i : ℕ) → zero < room → level ts room Desig i ≡ row ts room (λ i. None) None (table Desig) i
 desig_step ts room i h = level_row ts room Desig i h
-

@@ -119,7 +119,13 @@ pub fn declarator(
     let (text, end) = words(alloc, tokens, room, at + 1)?;
     let (kid, end) = pointed(alloc, tokens, naming, room - 1, end)?;
     let span = span_at(tokens, at, end);
-    let part = over_one(alloc, Kind::Ptr, text, span, or_absent(alloc, span.from, kid))?;
+    let part = over_one(
+        alloc,
+        Kind::Ptr,
+        text,
+        span,
+        or_absent(alloc, span.from, kid),
+    )?;
     Ok((part, end))
 }
 
@@ -287,7 +293,15 @@ fn bracket(
         let end = close + 1;
         let span = span_at(tokens, at, end);
         let size = or_absent(alloc, span.from, size);
-        let part = graft_one(alloc, from, first, Kind::ArrayOf, Text::new(alloc), span, size)?;
+        let part = graft_one(
+            alloc,
+            from,
+            first,
+            Kind::ArrayOf,
+            Text::new(alloc),
+            span,
+            size,
+        )?;
         return Ok((part, end));
     }
     if !is(tokens, at, Word::OpenRound) {
@@ -299,7 +313,15 @@ fn bracket(
     }
     let end = close + 1;
     let span = span_at(tokens, at, end);
-    let part = graft_one(alloc, from, first, Kind::FuncOf, Text::new(alloc), span, params)?;
+    let part = graft_one(
+        alloc,
+        from,
+        first,
+        Kind::FuncOf,
+        Text::new(alloc),
+        span,
+        params,
+    )?;
     Ok((part, end))
 }
 

@@ -23,6 +23,5 @@ pub use part::Part;
 pub use read::{CLevel, read_c};
 pub use word::{Token, Word};
 
-
 #[cfg(test)]
 mod tests;

@@ -276,7 +276,11 @@ pub fn graft_two(
     ensures { IfOk result (λ p. p ≡ cut (build.grafted from left (cut (build.over kind text span (kid ∷ last ∷ []))))) }
 {
     let depth = left.depth.max(kid.depth).max(last.depth);
-    let kids = vec![in alloc; settle(left.node, from), settle(kid.node, from), settle(last.node, from)]?;
+    let kids = vec![in alloc;
+        settle(left.node, from),
+        settle(kid.node, from),
+        settle(last.node, from),
+    ]?;
     let span = Span { from, to: span.to };
     Ok(finish(alloc, kind, text, span, kids, depth))
 }

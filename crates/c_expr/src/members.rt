@@ -56,7 +56,10 @@ pub fn body(
             return Err(ReadFault::NoTree);
         }
         let end = close + 1;
-        return Ok((body_over(alloc, tokens, Kind::EnumItems, parts, at, end)?, end));
+        return Ok((
+            body_over(alloc, tokens, Kind::EnumItems, parts, at, end)?,
+            end,
+        ));
     }
     let (parts, close) = fields(alloc, tokens, room - 1, at + 1)?;
     if !is(tokens, close, Word::CloseCurly) {
@@ -79,7 +82,13 @@ fn body_over(
     ensures made { IfOk result (λ p. p ≡ cut (over kind [] (span_between tokens.now at end) parts.items)) }
     ensures no_spelling { IfOk result (λ p. is_spelling p ≡ false) }
 {
-    over(alloc, kind, Text::new(alloc), span_at(tokens, at, end), parts)
+    over(
+        alloc,
+        kind,
+        Text::new(alloc),
+        span_at(tokens, at, end),
+        parts,
+    )
 }
 
 /// `{field}`

@@ -41,14 +41,23 @@ pub enum Precedence {
 }
 
 const MULTIPLICATIVE: [Word; 2] = [Word::Star, Word::Slash];
+
 const ADDITIVE: [Word; 1] = [Word::Sign];
+
 const SHIFT: [Word; 1] = [Word::Shift];
+
 const RELATIONAL: [Word; 1] = [Word::Order];
+
 const EQUALITY: [Word; 1] = [Word::Equality];
+
 const BIT_AND: [Word; 1] = [Word::Ampersand];
+
 const BIT_XOR: [Word; 1] = [Word::Caret];
+
 const BIT_OR: [Word; 1] = [Word::Bar];
+
 const AND: [Word; 1] = [Word::And];
+
 const OR: [Word; 1] = [Word::Or];
 
 /// All levels, the tightest first.
@@ -144,7 +153,15 @@ fn binary(
     ensures { IfOk result (λ p. p ≡ cut (grafted from left (cut (built tokens.now (Named kind 0) at end (right ∷ []))))) }
 {
     let text = Text::from_str(alloc, text_at(tokens, at))?;
-    graft_one(alloc, from, left, kind, text, span_at(tokens, at, end), right)
+    graft_one(
+        alloc,
+        from,
+        left,
+        kind,
+        text,
+        span_at(tokens, at, end),
+        right,
+    )
 }
 
 /// `assign {"," assign}`
@@ -504,4 +521,3 @@ fn size(
     let part = over_one(alloc, Kind::SizeofType, Text::new(alloc), span, target)?;
     Ok((part, end))
 }
-

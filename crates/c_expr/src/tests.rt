@@ -47,11 +47,7 @@ fn read(alloc: Global, level: CLevel, mode: Mode, text: &str) -> Result<String, 
     Ok(out)
 }
 
-fn all_read(
-    alloc: Global,
-    mode: Mode,
-    rows: &[(CLevel, &str, &str)],
-) -> Result<bool, Fail> {
+fn all_read(alloc: Global, mode: Mode, rows: &[(CLevel, &str, &str)]) -> Result<bool, Fail> {
     for (level, text, tree) in rows {
         let found = read(alloc, *level, mode, *text)?;
         if found.as_str().as_bytes() != tree.as_bytes() {
@@ -85,8 +81,16 @@ fn reads_operators(rt: HostRuntime) -> Result<(), Fail> {
             "a ? b : c ? d : e",
             "Cond[Name(a) Name(b) Cond[Name(c) Name(d) Name(e)]] 9",
         ),
-        (CLevel::Assign, "a ? b : c = d", "Cond[Name(a) Name(b) Name(c)] 5"),
-        (CLevel::Assign, "(T)a = b", "Cast[TypeName[TypeSpec(T) Absent] Name(a)] 4"),
+        (
+            CLevel::Assign,
+            "a ? b : c = d",
+            "Cond[Name(a) Name(b) Name(c)] 5",
+        ),
+        (
+            CLevel::Assign,
+            "(T)a = b",
+            "Cast[TypeName[TypeSpec(T) Absent] Name(a)] 4",
+        ),
         (
             CLevel::Comma,
             "(a + b) = c",
@@ -102,7 +106,11 @@ fn reads_operators(rt: HostRuntime) -> Result<(), Fail> {
 #[test]
 fn settles_by_the_next_tokens(rt: HostRuntime) -> Result<(), Fail> {
     let rows = [
-        (CLevel::Cast, "(f)(x)", "Cast[TypeName[TypeSpec(f) Absent] Name(x)] 6"),
+        (
+            CLevel::Cast,
+            "(f)(x)",
+            "Cast[TypeName[TypeSpec(f) Absent] Name(x)] 6",
+        ),
         (CLevel::Postfix, "(f)(x)", "Call[Name(f) List[Name(x)]] 6"),
         (CLevel::Lor, "(T)-a", "Binary(-)[Name(T) Name(a)] 5"),
         (CLevel::Cast, "(T)[a]", "Sub[Name(T) Name(a)] 6"),
@@ -183,16 +191,32 @@ fn reads_types(rt: HostRuntime) -> Result<(), Fail> {
 #[test]
 fn reads_patterns(rt: HostRuntime) -> Result<(), Fail> {
     let rows = [
-        (CLevel::Comma, "(T)$X", "Cast[TypeName[TypeSpec(T) Absent] Meta($X)] 4"),
-        (CLevel::Comma, "(int)...", "Cast[TypeName[TypeSpec(int) Absent] Dots] 4"),
+        (
+            CLevel::Comma,
+            "(T)$X",
+            "Cast[TypeName[TypeSpec(T) Absent] Meta($X)] 4",
+        ),
+        (
+            CLevel::Comma,
+            "(int)...",
+            "Cast[TypeName[TypeSpec(int) Absent] Dots] 4",
+        ),
         (CLevel::Comma, "(T)...", "Name(T) 3"),
-        (CLevel::Comma, "$F(..., $...A)", "Call[Meta($F) List[Dots MetaDots($...A)]] 6"),
+        (
+            CLevel::Comma,
+            "$F(..., $...A)",
+            "Call[Meta($F) List[Dots MetaDots($...A)]] 6",
+        ),
         (
             CLevel::Comma,
             "<... a, $X ...>",
             "Deep[Binary(,)[Name(a) Meta($X)]] 5",
         ),
-        (CLevel::Prim, "\"...\" \"x\" $Y", "StrJoin[StrAny Str(\"x) Meta($Y)] 3"),
+        (
+            CLevel::Prim,
+            "\"...\" \"x\" $Y",
+            "StrJoin[StrAny Str(\"x) Meta($Y)] 3",
+        ),
         (CLevel::Spec, "$T const", "Meta($T) 1"),
         (
             CLevel::Declr,
@@ -205,7 +229,13 @@ fn reads_patterns(rt: HostRuntime) -> Result<(), Fail> {
 }
 
 // A text that repeats a front and a back round a middle.
-fn repeated(alloc: Global, front: &str, times: u32, middle: &str, back: &str) -> Result<String, Fail> {
+fn repeated(
+    alloc: Global,
+    front: &str,
+    times: u32,
+    middle: &str,
+    back: &str,
+) -> Result<String, Fail> {
     let mut text = String::new(alloc);
     for _ in 0..times {
         text.push_str(front)?;
@@ -218,7 +248,12 @@ fn repeated(alloc: Global, front: &str, times: u32, middle: &str, back: &str) ->
 }
 
 fn is_read(alloc: Global, text: &str) -> Result<bool, Fail> {
-    Ok(read(alloc, CLevel::Comma, Mode::Text, text)?.as_str().as_bytes() != b"none".as_slice())
+    Ok(
+        read(alloc, CLevel::Comma, Mode::Text, text)?
+            .as_str()
+            .as_bytes()
+            != b"none".as_slice(),
+    )
 }
 
 #[test]

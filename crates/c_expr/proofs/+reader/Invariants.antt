@@ -226,4 +226,3 @@ invariant-initializers::designators-loop-turn l = record {
   turns : l.turn ≤ suc (length l.tokens);
   rest : level l.fn.tokens l.fn.room Desigs l.fn.at ≡ (rest l.fn.tokens l.fn.room DesigsTail (suc (length l.fn.tokens) - l.turn) l.end >>= λ y. Some (l.parts.items ++ y.0, y.1));
 }
-
