@@ -106,7 +106,7 @@ unfolding round_at
 tree_is_bracketed mode ts l from n to r k a b = r.run.piece.few_brackets k a b
 
 -- a fault that comes although there is a tree is want of memory
-pub fails_still : {X Y : Type 0} (view : X → Y) (e : ReadFault) (o : Option Y) (y : Y) (x : X) → Gives view (Err e) o → o ≡ Some y → Gives (λ (z : X). z) (Err e) (Some x)
+pub fails_still : {X Y Z : Type 0} (view : X → Y) (e : ReadFault) (o : Option Y) (y : Y) (x : Z) → Gives view (Err e) o → o ≡ Some y → Gives (λ (z : Z). z) (Err e) (Some x)
 fails_still view faults.Memory o y x f h = tt
 fails_still view faults.NoTree o y x f h = absurd (none_some y (sym f ∙ h))
 
