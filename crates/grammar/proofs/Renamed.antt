@@ -1,7 +1,7 @@
 -- A table that stands in another under other names reads, and spells, just what it did.
 use Rattle.std.proofs.Common.{◌≡◌, ℕ, zero, suc, ◌<◌, ◌≤◌, List, [], ◌∷◌, ◌++◌, refl, arith}
 use Rattle.std.specs.Prelude.{Bool, true, false, cond, ◌||◌, ◌&&◌, Option, Some, None}
-use Rattle.grammar.specs.Rule.{Rule, done, mark, word, ref, deep, again, seq, around, alt, look, choose, opt, must, rep, make, has, Source, Table, Grammar}
+use Rattle.grammar.specs.Rule.{Rule, done, mark, word, ref, deep, again, seq, around, alt, look, choose, opt, must, rep, make, has, Source, Table, Grammar, Loop, outside, within, Derives, d_done, d_mark, d_word, d_ref, d_deep, d_again, d_rep, d_seq, d_around, d_left, d_right, d_seen, d_unseen, d_chosen, d_unchosen, d_without, d_with, d_barred, d_taken, d_make}
 use Rattle.grammar.specs.Sets.{Sets, nul, first, first_of, empty_of}
 use Rattle.grammar.specs.Reader.{Read, ◌>>=◌, turns, read, choice, climb, read_level}
 use Rattle.grammar.specs.Check.{apart, within_set, Ranks, fit, passes}
@@ -13,6 +13,15 @@ use Rattle.grammar.proofs.Checked.{fits, ranked}
 abbrev named : {L M : Type 0} → (L → M) → Option L → Option M
 named w None = None
 named w (Some q) = Some (w q)
+
+-- a rule and what it is under the other names
+data Row {K B C L M : Type 0} (v : B → C) (w : L → M) : Rule K B L → Rule K C M → Type 0 where
+  row : (r : Rule K B L) → Row v w r (renamed v w r)
+
+-- the same of the loop around
+data Round {K B C L M : Type 0} (v : B → C) (w : L → M) : Loop K B L → Loop K C M → Type 0 where
+  nothing : Round v w outside outside
+  loop : (l : L) (r : Rule K B L) → Round v w (within l r) (within (w l) (renamed v w r))
 
 -- Tokens that have the same classes, leaves and nodes for both tables.
 module _ {K B C L M N : Type 0} (v : B → C) (w : L → M) (t : Source K B N) (u : Source K C N) (same_classes : u.cls ≡ t.cls) (same_leaf : (k : K) (n : ℕ) → u.leaf k n ≡ t.leaf k n) (same_build : (b : B) (i j : ℕ) (ys : List N) → u.build (v b) i j ys ≡ t.build b i j ys) where
@@ -106,3 +115,64 @@ module _ {K B C L M N : Type 0} (v : B → C) (w : L → M) (t : Source K B N) (
     same_reading (suc h) l i =
         let lt : R.rank l < R.top = ltb_true (R.rank l) R.top (ranked g S R pass l) in
         climbs_renamed (read_level t S m g.table R.top h) (read_level u S' m table' top' h) (same_reading h) R.top top' l lt (omega (arith, lt, within_top)) i
+
+  -- The rows of any table.
+  module _ (table : Table K B L) (table' : Table K C M) (same_rows : (l : L) → table' (w l) ≡ renamed v w (table l)) where
+    -- what a rule spells, it spells under the other names
+    there : {c : Loop K B L} {c' : Loop K C M} {r : Rule K B L} {xs : List N} {i j : ℕ} → Round v w c c' → Derives t table c r xs i j → Derives u table' c' (renamed v w r) xs i j
+    there a (d_done e s) = d_done e s
+    there a (d_mark h e s) = d_mark (rw same_classes h) e s
+    there a (d_word {k = k} {i = i} h e s) = d_word (rw same_classes h) (rw (same_leaf k i) e) s
+    there a (d_ref {l = l} d) = d_ref (rw (same_rows l) (there nothing d))
+    there a (d_deep {l = l} d) = d_deep (rw (same_rows l) (there nothing d))
+    there (loop l r) (d_again d) = d_again (there (loop l r) d)
+    there a (d_rep {l = l} {r = r} d) = d_rep (there (loop l r) d)
+    there a (d_seq k ys zs d e s) = d_seq k ys zs (there a d) (there a e) s
+    there a (d_around k h d h' s) = d_around k (rw same_classes h) (there a d) (rw same_classes h') s
+    there a (d_left d) = d_left (there a d)
+    there a (d_right d) = d_right (there a d)
+    there a (d_seen {w = k} {b = b} {i = i} {j = j} ys h h' d s) = d_seen ys (rw same_classes h) (rw same_classes h') (there a d) (rw (same_leaf k i, same_build b i j (t.leaf k i ∷ ys)) s)
+    there a (d_unseen h d) = d_unseen (rw same_classes h) (there a d)
+    there a (d_chosen h d) = d_chosen (rw same_classes h) (there a d)
+    there a (d_unchosen h d) = d_unchosen (rw same_classes h) (there a d)
+    there a (d_without e s) = d_without e s
+    there a (d_with d) = d_with (there a d)
+    there a (d_barred h e s) = d_barred (rw same_classes h) e s
+    there a (d_taken d) = d_taken (there a d)
+    there a (d_make {b = b} {i = i} {j = j} ys d s) = d_make ys (there a d) (rw (same_build b i j ys) s)
+
+    -- each row, under its other name
+    rows : (l : L) → Row v w (table l) (table' (w l))
+    rows l = rw (same_rows l) (row (table l))
+
+    -- what it spells there, it spells here
+    back : {c' : Loop K C M} {r' : Rule K C M} {xs : List N} {i j : ℕ} {c : Loop K B L} {r : Rule K B L} → Round v w c c' → Row v w r r' → Derives u table' c' r' xs i j → Derives t table c r xs i j
+    back a (row done) (d_done e s) = d_done e s
+    back a (row (mark cs)) (d_mark h e s) = d_mark (rw same_classes at h) e s
+    back a (row (word k cs)) (d_word {i = i} h e s) = d_word (rw same_classes at h) (rw (same_leaf k i) at e) s
+    back a (row (ref l)) (d_ref d) = d_ref (back nothing (rows l) d)
+    back a (row (deep l)) (d_deep d) = d_deep (back nothing (rows l) d)
+    back nothing (row again) d = elim d [ ]
+    back (loop l r) (row again) (d_again d) = d_again (back (loop l r) (row r) d)
+    back a (row (rep l r)) (d_rep d) = d_rep (back (loop l r) (row r) d)
+    back a (row (seq r s)) (d_seq k ys zs d e s') = d_seq k ys zs (back a (row r) d) (back a (row s) e) s'
+    back a (row (around cs ds r)) (d_around k h d h' s) = d_around k (rw same_classes at h) (back a (row r) d) (rw same_classes at h') s
+    back a (row (alt r s)) (d_left d) = d_left (back a (row r) d)
+    back a (row (alt r s)) (d_right d) = d_right (back a (row s) d)
+    back a (row (look k cs ds b r s)) (d_seen {i = i} {j = j} ys h h' d e) = d_seen ys (rw same_classes at h) (rw same_classes at h') (back a (row r) d) (rw (same_leaf k i, same_build b i j (t.leaf k i ∷ ys)) at e)
+    back a (row (look k cs ds b r s)) (d_unseen h d) = d_unseen (rw same_classes at h) (back a (row s) d)
+    back a (row (choose p r s)) (d_chosen h d) = d_chosen (rw same_classes at h) (back a (row r) d)
+    back a (row (choose p r s)) (d_unchosen h d) = d_unchosen (rw same_classes at h) (back a (row s) d)
+    back a (row (opt r)) (d_without e s) = d_without e s
+    back a (row (opt r)) (d_with d) = d_with (back a (row r) d)
+    back a (row (must cs r)) (d_barred h e s) = d_barred (rw same_classes at h) e s
+    back a (row (must cs r)) (d_taken d) = d_taken (back a (row r) d)
+    back a (row (make b r)) (d_make {i = i} {j = j} ys d e) = d_make ys (back a (row r) d) (rw (same_build b i j ys) at e)
+
+    -- A level spells what it did under its other name.
+    pub same_pieces : (l : L) (xs : List N) (i j : ℕ) → Derives t table outside (table l) xs i j → Derives u table' outside (table' (w l)) xs i j
+    same_pieces l xs i j d = rw (same_rows l) (there nothing d)
+
+    -- And nothing else.
+    pub no_other_pieces : (l : L) (xs : List N) (i j : ℕ) → Derives u table' outside (table' (w l)) xs i j → Derives t table outside (table l) xs i j
+    no_other_pieces l xs i j d = back nothing (rows l) d
