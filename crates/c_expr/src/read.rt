@@ -1,0 +1,130 @@
+//! The public call: from tokens to the tree of a level.
+
+ghost use Rattle.std.specs.Prelude.{◌≡◌, ◌≤◌, ℕ, length, IfOk, Some};
+ghost use Rattle.node_tree.specs.declared.node.Node.{Node as node};
+ghost use Rattle.node_tree.specs.declared.view.Mode.{Mode as mode_of};
+ghost use Rattle.node_tree.specs.Gives.{Gives};
+ghost use Rattle.c_expr.specs.Reading as reading;
+ghost use Rattle.c_expr.specs.Runs.{level_of, IsRunTree, IsTree, AreOf};
+
+use crate::classify::classified;
+use crate::declarators::{Naming, declarator};
+use crate::initializers::variable;
+use crate::limits::few_brackets;
+use crate::operators::{Precedence, assign, cast, chain, comma, conditional, unary};
+use crate::part::Part;
+use crate::primaries::{postfix, primary};
+use crate::types::{spec, type_name};
+use crate::word::Token;
+use c_lex::CToken;
+use node_tree::{List, Mode, Node, ReadFault};
+use std::alloc::Global;
+
+/// A level of the grammar of C.
+#[derive(Clone, Copy, Debug, PartialEq, Eq)]
+pub enum CLevel {
+    /// Expressions with commas (C11 6.5.17).
+    Comma,
+    /// Assignments (6.5.16).
+    Assign,
+    /// Conditional expressions (6.5.15).
+    Cond,
+    /// Logical or, with all that binds more tightly (6.5.5 to 6.5.14).
+    Lor,
+    /// Casts (6.5.4).
+    Cast,
+    /// Unary expressions (6.5.3).
+    Unary,
+    /// Postfix expressions (6.5.2).
+    Postfix,
+    /// Primary expressions (6.5.1).
+    Prim,
+    /// Type names (6.7.7).
+    Tname,
+    /// The words of a declaration (6.7).
+    Spec,
+    /// Declarators with a name (6.7.6).
+    Declr,
+    /// A declarator and its value (6.7).
+    Var,
+}
+
+/// How deep a tree may be.
+const MAX_DEPTH: u32 = 500;
+
+/// How many steps deeper the reader may go: so that depth, brackets and what stands in them never reach it.
+const ROOM: u32 = 1002;
+
+/// The part of a level that begins there.
+fn read_part(
+    alloc: Global,
+    tokens: &[Token<'_>],
+    level: CLevel,
+    at: usize,
+) -> Result<(Part, usize), ReadFault>
+    requires { at ≤ length tokens.now }
+    ensures within { IfOk result (λ x. x.1 ≤ length tokens.now) }
+    ensures gives { Gives reading.one result (reading.level tokens.now 1002 (level_of level) at) }
+{
+    match level {
+        CLevel::Comma => comma(alloc, tokens, ROOM, at),
+        CLevel::Assign => assign(alloc, tokens, ROOM, at),
+        CLevel::Cond => conditional(alloc, tokens, ROOM, at),
+        CLevel::Lor => chain(alloc, tokens, Precedence::Or, ROOM, at),
+        CLevel::Cast => cast(alloc, tokens, ROOM, at),
+        CLevel::Unary => unary(alloc, tokens, ROOM, at),
+        CLevel::Postfix => postfix(alloc, tokens, ROOM, at),
+        CLevel::Prim => primary(alloc, tokens, ROOM, at),
+        CLevel::Tname => type_name(alloc, tokens, ROOM, at),
+        CLevel::Spec => spec(alloc, tokens, ROOM, at),
+        CLevel::Declr => declarator(alloc, tokens, Naming::Named, ROOM, at),
+        CLevel::Var => variable(alloc, tokens, ROOM, at),
+    }
+}
+
+/// The closed run of a level that begins at a token: its tree, and the place behind it.
+fn read_run(
+    alloc: Global,
+    tokens: &[Token<'_>],
+    level: CLevel,
+    from: usize,
+) -> Result<(Node, usize), ReadFault>
+    requires { from ≤ length tokens.now }
+    ensures found { IfOk result (λ x. (mode : mode_of) → IsRunTree mode tokens.now level from x.0 x.1) }
+    ensures only { (mode : mode_of) (n : node) (to : ℕ) → AreOf mode tokens.now → IsRunTree mode tokens.now level from n to → Gives (λ x. x) result (Some (n, to)) }
+{
+    let (part, end) = read_part(alloc, tokens, level, from)?;
+    if part.depth > MAX_DEPTH {
+        return Err(ReadFault::NoTree);
+    }
+    if !few_brackets(tokens, from, end) {
+        return Err(ReadFault::NoTree);
+    }
+    Ok((part.node, end))
+}
+
+/// The tree of the closed run of a level that begins at the token `from`, and the place behind the run.
+///
+/// A run is closed where the token behind it cannot go on with it. NoTree comes exactly where no closed run of the level begins
+/// at `from` whose tree is at most 500 deep and none of whose tokens stands inside more than 500 open brackets of the run.
+/// The node of a name that is left out is `Absent`, and stands where its parent begins.
+pub fn read_c(
+    alloc: Global,
+    tokens: &List<CToken>,
+    from: u32,
+    level: CLevel,
+    mode: Mode,
+) -> Result<(Node, u32), ReadFault>
+    requires { from ≤ length tokens.now }
+    // What is read is the closed run.
+    ensures found { IfOk result (λ x. IsTree mode tokens.now level from x.0 x.1) }
+    // Each closed run is what is read, unless memory runs out. So there is at most one.
+    ensures only { (n : node) (to : ℕ) → IsTree mode tokens.now level from n to → Gives (λ x. x) result (Some (n, to)) }
+{
+    let classed = classified(alloc, tokens, mode)?;
+    let (node, end) = read_run(alloc, classed.as_slice(), level, from as usize)?;
+    let Ok(end) = u32::try_from(end) else {
+        return Err(ReadFault::Memory);
+    };
+    Ok((node, end))
+}
