@@ -10,5 +10,7 @@ pub mod Climbs
 pub mod Depths
 pub mod Alike
 pub mod Runs
+pub mod Prefix
 pub mod Only
 pub mod Spans
+pub mod Ends

@@ -29,11 +29,11 @@ use Rattle.c_expr.proofs.Closes.{close_text, close_pattern, declared}
 use Rattle.c_expr.proofs.Depths.{deepens}
 use Rattle.c_expr.proofs.Alike.{levels_alike, cut_reads, uncut_reads}
 
-close : (mode : Mode) (l : Level) → closes grammar sets ranks tests (of_mode mode) 30 l ≡ true
+pub close : (mode : Mode) (l : Level) → closes grammar sets ranks tests (of_mode mode) 30 l ≡ true
 close modes.Text l = close_text l
 close modes.Pattern l = close_pattern l
 
-shut : (l : CLevel) → ranks.shut (level_of l) ≡ true
+pub shut : (l : CLevel) → ranks.shut (level_of l) ≡ true
 shut levels.Comma = refl
 shut levels.Assign = refl
 shut levels.Cond = refl
@@ -47,7 +47,7 @@ shut levels.Spec = refl
 shut levels.Declr = refl
 shut levels.Var = refl
 
-open_behind : (l : CLevel) → tests.follow (level_of l) ≡ None
+pub open_behind : (l : CLevel) → tests.follow (level_of l) ≡ None
 open_behind levels.Comma = refl
 open_behind levels.Assign = refl
 open_behind levels.Cond = refl
@@ -61,7 +61,7 @@ open_behind levels.Spec = refl
 open_behind levels.Declr = refl
 open_behind levels.Var = refl
 
-end_of_mode : (mode : Mode) → of_mode mode 0 ≡ true
+pub end_of_mode : (mode : Mode) → of_mode mode 0 ≡ true
 unfolding class
 end_of_mode modes.Text = refl
 end_of_mode modes.Pattern = refl
@@ -131,3 +131,16 @@ words_fit mode (t ∷ ts) (suc k) = words_fit mode ts k
 
 pub same_answer : (n m : Node) (d e i j : ℕ) → ◌≡◌ {A = Part} (record { node = n; depth = d }) (record { node = m; depth = e }) → i ≡ j → ◌≡◌ {A = Option (Node × ℕ)} (Some (n, i)) (Some (m, j))
 same_answer n m d e i j h k = rw (ap (λ (p : Part). p.node) h, k) refl
+
+-- a run of the tokens of the scanner
+pub tree_of_tokens : (mode : Mode) (ts : List CToken) (us : List Token) (l : CLevel) (from : ℕ) (n : Node) (i j : ℕ) → us ≡ map (token_of mode) ts → i ≡ j → IsRunTree mode us l from n i → IsTree mode ts l from n j
+tree_of_tokens mode ts us l from n i j e f r = rw e at (rw f at r)
+
+pub tree_of_classed : (mode : Mode) (ts : List CToken) (us : List Token) (l : CLevel) (from : ℕ) (n : Node) (to : ℕ) → us ≡ map (token_of mode) ts → IsTree mode ts l from n to → IsRunTree mode us l from n to
+tree_of_classed mode ts us l from n to e r = rw e r
+
+pub all_of_mode : (mode : Mode) (ts : List CToken) (us : List Token) → us ≡ map (token_of mode) ts → AreOf mode us
+all_of_mode mode ts us e = rw e (words_fit mode ts)
+
+pub answer_there : (n m : Node) (i j k : ℕ) → j ≡ k → ◌≡◌ {A = Option (Node × ℕ)} (Some (n, i)) (Some (m, j)) → ◌≡◌ {A = Option (Node × ℕ)} (Some (n, i)) (Some (m, k))
+answer_there n m i j k h e = rw h at e

@@ -6,3 +6,4 @@ pub mod Build
 pub mod Reading
 pub mod Spells
 pub mod Runs
+pub mod Places

@@ -1,6 +1,6 @@
 //! The limits of what is read.
 
-ghost use Rattle.std.specs.Prelude.{◌≡◌, ℕ, ◌<◌, ◌≤◌, true, false, length};
+ghost use Rattle.std.specs.Prelude.{◌≡◌, ℕ, ◌<◌, ◌≤◌, length};
 ghost use Rattle.grammar.specs.Rule.{behind};
 ghost use Rattle.c_expr.specs.Words.{class};
 ghost use Rattle.c_expr.specs.Table.{grammar};
@@ -24,22 +24,25 @@ fn open_behind(word: Word, count: u32) -> u32
     }
 }
 
-/// Whether no token between the places stands inside more than 500 brackets, counted from the first place.
+/// The first place from this one on whose token stands inside more than 500 brackets, or the end: no run within the limits
+/// comes as far.
 #[tactic(auto, using(crate::proofs::Counting::open_next, crate::proofs::Counting::open_start, crate::proofs::Counting::round_is))]
-pub fn few_brackets(tokens: &[Token<'_>], from: usize, to: usize) -> bool
-    requires { to ≤ length tokens.now }
-    ensures few { result ≡ true → (n : ℕ) → from ≤ n → n < to → round_at tokens.now from n ≤ 500 }
-    ensures many { result ≡ false → (n : ℕ) × (from ≤ n) × (n < to) × (500 < round_at tokens.now from n) }
+pub fn shallow_end(tokens: &[Token<'_>], from: usize) -> usize
+    requires { from ≤ length tokens.now }
+    ensures ordered { from ≤ result }
+    ensures within { result ≤ length tokens.now }
+    ensures few { (n : ℕ) → from ≤ n → n < result → round_at tokens.now from n ≤ 500 }
+    ensures many { result < length tokens.now → 500 < round_at tokens.now from result }
 {
     let mut count = 0;
-    for at in from..to {
+    for at in from..tokens.len() {
         let next = open_behind(tokens[at].word, count);
         if count > MAX_BRACKETS {
             if next > MAX_BRACKETS {
-                return false;
+                return at;
             }
         }
         count = next;
     }
-    true
+    tokens.len()
 }

@@ -1,16 +1,18 @@
 //! The public call: from tokens to the tree of a level.
 
-ghost use Rattle.std.specs.Prelude.{◌≡◌, ◌≤◌, ℕ, length, IfOk, Some};
+ghost use Rattle.std.specs.Prelude.{◌≡◌, ◌≤◌, ℕ, length, IfOk, List as list, Some};
 ghost use Rattle.node_tree.specs.declared.node.Node.{Node as node};
 ghost use Rattle.node_tree.specs.declared.view.Mode.{Mode as mode_of};
 ghost use Rattle.node_tree.specs.Gives.{Gives};
+ghost use Rattle.node_tree.specs.Spans.{SpansLieIn};
+ghost use Rattle.c_expr.specs.Places.{AreTokensIn};
 ghost use Rattle.c_expr.specs.Reading as reading;
 ghost use Rattle.c_expr.specs.Runs.{level_of, IsRunTree, IsTree, AreOf};
 
 use crate::classify::classified;
 use crate::declarators::{Naming, declarator};
 use crate::initializers::variable;
-use crate::limits::few_brackets;
+use crate::limits::shallow_end;
 use crate::operators::{Precedence, assign, cast, chain, comma, conditional, unary};
 use crate::part::Part;
 use crate::primaries::{postfix, primary};
@@ -93,11 +95,9 @@ fn read_run(
     ensures found { IfOk result (λ x. (mode : mode_of) → IsRunTree mode tokens.now level from x.0 x.1) }
     ensures only { (mode : mode_of) (n : node) (to : ℕ) → AreOf mode tokens.now → IsRunTree mode tokens.now level from n to → Gives (λ x. x) result (Some (n, to)) }
 {
-    let (part, end) = read_part(alloc, tokens, level, from)?;
+    let shallow = &tokens[..shallow_end(tokens, from)];
+    let (part, end) = read_part(alloc, shallow, level, from)?;
     if part.depth > MAX_DEPTH {
-        return Err(ReadFault::NoTree);
-    }
-    if !few_brackets(tokens, from, end) {
         return Err(ReadFault::NoTree);
     }
     Ok((part.node, end))
@@ -118,6 +118,8 @@ pub fn read_c(
     requires { from ≤ length tokens.now }
     // What is read is the closed run.
     ensures found { IfOk result (λ x. IsTree mode tokens.now level from x.0 x.1) }
+    // Its spans lie in each text in which the tokens lie.
+    ensures placed { (text : list ℕ) → AreTokensIn text tokens.now → IfOk result (λ x. SpansLieIn text x.0) }
     // Each closed run is what is read, unless memory runs out. So there is at most one.
     ensures only { (n : node) (to : ℕ) → IsTree mode tokens.now level from n to → Gives (λ x. x) result (Some (n, to)) }
 {

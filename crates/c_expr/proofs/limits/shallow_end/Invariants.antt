@@ -1,7 +1,7 @@
 use Rattle.std.proofs.Common.{◌≡◌, ℕ, ◌≤◌, ◌<◌}
 use Rattle.c_expr.specs.Reading.{round_at}
 use Rattle.c_expr.proofs.Counting.{open_before}
-use Rattle.c_expr.proofs.limits.few_brackets.Given as goal
+use Rattle.c_expr.proofs.limits.shallow_end.Given as goal
 
 abbrev pub invariant-loop-at : goal.invariant-loop-at
 invariant-loop-at l = record {
