@@ -221,9 +221,15 @@ one_more mode (u ∷ front) t = ap suc (one_more mode front t)
 -- a piece ends before the end, or at it
 ends_within : (mode : Mode) (ts : List CToken) (front : List CToken) (t : CToken) (l : Level) (xs : List Part) (i j : ℕ) → ts ≡ front ++ t ∷ [] → t.word ≡ lexed.End → Derives (source (map (token_of mode) ts)) table outside (table l) xs i j → i ≤ length front → j ≤ length (map (token_of mode) ts) → j < length (map (token_of mode) ts)
 ends_within mode ts front t l xs i j all h d le short = elim (earlier_or_later (length front) j) [
-  | inl past ↦ absurd (passes_by (map (token_of mode) ts) (length front) (rw all (end_there mode front t h)) d refl (no_end l) le past)
-  | inr before ↦ omega (arith, before, rw all (one_more mode front t))
+  | inl past ↦ absurd (passes_by (map (token_of mode) ts) (length front) last d refl (no_end l) le past)
+  | inr before ↦ omega (arith, before, size)
 ]
+  where
+    last : class (token_at (map (token_of mode) ts) (length front)).word ≡ 0
+    last = rw all (end_there mode front t h)
+
+    size : length (map (token_of mode) ts) ≡ suc (length front)
+    size = rw all (one_more mode front t)
 
 something : (l : CLevel) → nul sets None (table (level_of l)) ≡ false
 something levels.Comma = refl
