@@ -261,6 +261,12 @@ strings_begun ts room i h e d =
     first true e = refl
     first false e = cc
 
+pub strings_first : (ts : List Token) (room i : ℕ) (ps : List Part) → zero < room → has strings (class (token_at ts i).word) ≡ true → has joined (class (token_at ts (i + 1)).word) ≡ true → ps ≡ leaf ts Own i ∷ leaf ts Own (i + 1) ∷ [] → level ts room Strings i ≡ on (rest ts room StringsTail (length ts - 0) (i + 2)) (λ y. Some (cut_joined (span_between ts i y.1) (ps ++ y.0) ∷ [], y.1))
+strings_first ts room i ps h e d f = strings_begun ts room i h e d ∙ ap (λ qs. on (rest ts room StringsTail (length ts - 0) (i + 2)) (λ y. Some (cut_joined (span_between ts i y.1) (qs ++ y.0) ∷ [], y.1))) (sym f)
+
+pub strings_more : (ts : List Token) (room at : ℕ) (ps qs : List Part) (n m i : ℕ) → zero < n → has joined (class (token_at ts i).word) ≡ true → qs ≡ ps ++ leaf ts Own i ∷ [] → n - 1 ≡ m → on (rest ts room StringsTail n i) (λ y. Some (cut_joined (span_between ts at y.1) (ps ++ y.0) ∷ [], y.1)) ≡ on (rest ts room StringsTail m (i + 1)) (λ y. Some (cut_joined (span_between ts at y.1) (qs ++ y.0) ∷ [], y.1))
+strings_more ts room at ps qs n m i h e f g = strings_on ts room at ps n i h e ∙ ap (λ k. on (rest ts room StringsTail k (i + 1)) (λ y. Some (cut_joined (span_between ts at y.1) ((ps ++ leaf ts Own i ∷ []) ++ y.0) ∷ [], y.1))) g ∙ ap (λ rs. on (rest ts room StringsTail m (i + 1)) (λ y. Some (cut_joined (span_between ts at y.1) (rs ++ y.0) ∷ [], y.1))) (sym f)
+
 pub joined_many : (span : Span) (ps : List Part) → 1 < length ps → cut_joined span ps ≡ cut (over kinds.StrJoin [] span ps)
 joined_many span [] h = absurd (omega arith)
 joined_many span (p ∷ []) h = absurd (omega arith)
