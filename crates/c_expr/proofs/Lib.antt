@@ -7,6 +7,7 @@ pub mod Passes
 pub mod Closes
 pub mod Steps
 pub mod Climbs
+pub mod Pieces
 pub mod Depths
 pub mod Alike
 pub mod Runs

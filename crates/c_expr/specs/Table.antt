@@ -576,8 +576,8 @@ table Param = word Own dots ∣ make (Named k.ParamC 2) (tok w.Ellipsis) ∣ mak
 -- ---- variables and their values
 -- var = declr ["=" init]                            Var[declr, value]                               (6.7)
 table Var = make (Over k.Var 2) (ref Declr · opt (tok w.Equals · ref Init))
--- init = assign | "{" [ini {"," ini} [","]] "}"      InitList[ini ..]                               (6.7.9)
-table Init = ref Assign ∣ make (Over k.InitList 0) (curly (deep Inis))
+-- init = "{" [ini {"," ini} [","]] "}"               InitList[ini ..] | assign                      (6.7.9)
+table Init = make (Over k.InitList 0) (curly (deep Inis)) ∣ ref Assign
 table Inis = trailed Ini InisTail
 table InisTail = rep InisTail (trailing Ini)
 -- ini = init | desig {desig} "=" init               Designated[List, init]

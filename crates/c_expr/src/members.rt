@@ -1,8 +1,6 @@
 //! The bodies of structures, unions and enumerations.
 
-ghost use Rattle.std.specs.Prelude.{◌≤◌, length, IfOk, ◌≡◌, ◌≢◌, false, []};
-ghost use Rattle.node_tree.specs.declared.kind.Kind.TheVariants as kinds;
-ghost use Rattle.node_tree.specs.Order.{kind_place};
+ghost use Rattle.std.specs.Prelude.{◌≤◌, length, IfOk, ◌≡◌, false, []};
 ghost use Rattle.c_expr.specs.Build.{cut, over, span_between, is_spelling};
 ghost use Rattle.node_tree.specs.Gives.{Gives};
 ghost use Rattle.c_expr.specs.Table as table;
@@ -70,6 +68,7 @@ pub fn body(
 }
 
 /// The node over a body.
+#[tactic(auto, using(crate::proofs::Pieces::no_spelling))]
 fn body_over(
     alloc: Global,
     tokens: &[Token<'_>],
@@ -78,7 +77,6 @@ fn body_over(
     at: usize,
     end: usize,
 ) -> Result<Part, Memory>
-    requires { kind_place kind ≢ kind_place kinds.Keyword }
     ensures made { IfOk result (λ p. p ≡ cut (over kind [] (span_between tokens.now at end) parts.items)) }
     ensures no_spelling { IfOk result (λ p. is_spelling p ≡ false) }
 {

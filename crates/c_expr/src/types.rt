@@ -230,6 +230,7 @@ fn group(
 
 /// `[body]`
 #[cycle(reader)]
+#[tactic(auto, using(crate::proofs::Steps::graft_laws))]
 fn maybe_body(
     alloc: Global,
     tokens: &[Token<'_>],
