@@ -131,6 +131,3 @@ function_read ts room i j p h square opened inner close = rw (add-one j) (declr_
 
 pub designated_read : (ts : List Token) (room i j e : ℕ) (ps : List Part) (q found : Part) → zero < room → has (sets.first Desig) (class (token_at ts i).word) ≡ true → level ts room Desigs i ≡ Some (ps, j) → eqb (class w.Equals) (class (token_at ts j).word) ≡ true → level ts room Init (j + 1) ≡ Some (q ∷ [], e) → found ≡ cut (over kinds.Designated [] (span_between ts i e) (cut (over kinds.List [] (span_between ts i j) ps) ∷ q ∷ [])) → level ts room Ini i ≡ Some (found ∷ [], e)
 designated_read ts room i j e ps q found h begins places equals value made = rw made (ini_step ts room i h ∙ rw (begins, places, equals, (rw add-one at value)) refl)
-
-pub values_read : (ts : List Token) (room i j : ℕ) (ps : List Part) (found : Part) → zero < room → eqb (class w.OpenCurly) (class (token_at ts i).word) ≡ true → level ts (room - 1) Inis (i + 1) ≡ Some (ps, j) → eqb (class w.CloseCurly) (class (token_at ts j).word) ≡ true → found ≡ cut (over kinds.InitList [] (span_between ts i (j + 1)) ps) → level ts room Init i ≡ Some (found ∷ [], j + 1)
-values_read ts room i j ps found h opened inner close made = rw (made, add-one j) (init_step ts room i h ∙ rw (opened, (rw add-one at inner), close) refl)

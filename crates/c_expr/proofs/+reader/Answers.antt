@@ -7,7 +7,7 @@ use Rattle.c_expr.specs.Words.{class}
 use Rattle.c_expr.specs.Build.{token_at}
 use Rattle.c_expr.specs.Reading.{operators, trails, item_starts}
 use Rattle.c_expr.proofs.Climbs.{has_one, comma_on, ops_on, more_there}
-use Rattle.c_expr.proofs.Pieces.{grafted_there, cast_read, cond_part_read, sub_read, call_read, attr_read, desigs_more, fields_more, items_more, word_there, body_there, pointer_there, array_read, function_read, designated_read, values_read}
+use Rattle.c_expr.proofs.Pieces.{grafted_there, cast_read, cond_part_read, sub_read, call_read, attr_read, desigs_more, fields_more, items_more, word_there, body_there, pointer_there, array_read, function_read, designated_read}
 use Rattle.c_expr.proofs.+reader.Goals as goal
 
 pub operators::comma-loop-turn-preserved : goal.operators::comma-loop-turn-preserved
@@ -63,12 +63,14 @@ primaries::suffix-returns-then-is_among-clause-gives t c =
 
 pub declarators::declarator-returns-clause-gives : goal.declarators::declarator-returns-clause-gives
 declarators::declarator-returns-clause-gives t c =
-    pointer_there c.args.tokens.now c.args.room c.args.naming c.args.at c.in_ok-text.end c.in_ok-kid.end _ _ _ c.in_ok-part.part (grind (arith, c.if-room-eq0.false)) (sym c.if-not-is.ensures.test) c.in_ok-text.ensures.gives c.in_ok-kid.ensures.gives ? ?
+    pointer_there c.args.tokens.now c.args.room c.args.naming c.args.at c.in_ok-text.end c.in_ok-kid.end _ _ c.or_absent.result c.in_ok-part.part (grind (arith, c.if-room-eq0.false)) (sym c.if-not-is.ensures.test) c.in_ok-text.ensures.gives c.in_ok-kid.ensures.gives (rw c.span_at-span.ensures at c.or_absent.ensures)
+    (grind (arith, c.in_ok-part.ensures, common_steps))
 
 pub declarators::bracket-returns-then-is-clause-gives : goal.declarators::bracket-returns-then-is-clause-gives
 declarators::bracket-returns-then-is-clause-gives t c =
     grafted_there c.args.from c.args.first _ c.in_ok-part.part _ (c.in_ok-size.close + 1)
-    (array_read c.args.tokens.now c.args.room c.args.at c.in_ok-size.close _ _ (grind (arith, c.if-room-eq0.false)) (sym c.if-is.ensures.test) c.in_ok-size.ensures.gives (sym c.if-not-is.ensures.test) ?) ?
+    (array_read c.args.tokens.now c.args.room c.args.at c.in_ok-size.close _ _ (grind (arith, c.if-room-eq0.false)) (sym c.if-is.ensures.test) c.in_ok-size.ensures.gives (sym c.if-not-is.ensures.test) (rw c.span_at-span.ensures at c.or_absent-size.ensures))
+    (grind (arith, c.in_ok-part.ensures, common_steps))
 
 pub declarators::bracket-returns-clause-gives : goal.declarators::bracket-returns-clause-gives
 declarators::bracket-returns-clause-gives t c =
