@@ -14,10 +14,12 @@ fn show(alloc: Global, out: &mut String, node: &Node) -> Result<(), Fail> {
     }
     if node.kids.len() > 0 {
         out.push_str("[")?;
-        let mut between = "";
+        let mut first = true;
         for kid in node.kids.as_slice() {
-            out.push_str(between)?;
-            between = " ";
+            if !first {
+                out.push_str(" ")?;
+            }
+            first = false;
             show(alloc, out, kid)?;
         }
         out.push_str("]")?;
