@@ -1,13 +1,13 @@
 -- What is read with parts cut off that are too deep is what is read without, where it is shallow enough.
-use Rattle.std.proofs.Common.{◌≡◌, ℕ, zero, suc, ◌<◌, ◌≤◌, List, [], ◌∷◌, ◌++◌, length, refl, ap, sym, subst, ◌∙◌, arith, Bool, true, false, cond, Option, Some, None, inl, inr}
+use Rattle.std.proofs.Common.{◌≡◌, ℕ, zero, suc, ◌<◌, ◌≤◌, List, [], ◌∷◌, ◌++◌, refl, ap, sym, subst, ◌∙◌, arith, Bool, true, false, cond, Option, Some, None, inl, inr}
 use Rattle.std.specs.Prelude.{◌⊎◌, ◌&&◌, max}
-use Rattle.grammar.specs.Rule.{Rule, done, mark, word, ref, deep, again, seq, around, alt, look, choose, opt, must, rep, make, has}
+use Rattle.grammar.specs.Rule.{done, mark, word, ref, deep, again, seq, around, alt, look, choose, opt, must, rep, make, has}
 use Rattle.grammar.specs.Sets.{first}
-use Rattle.grammar.specs.Reader.{Read, ◌>>=◌, turns, read, choice, climb, read_level}
+use Rattle.grammar.specs.Reader.{◌>>=◌, turns, read, choice, climb, read_level}
 use Rattle.c_expr.specs.declared.word.Token.{Token}
 use Rattle.c_expr.specs.declared.part.Part.{Part}
 use Rattle.c_expr.specs.Table.{Builder, Over, Named, TypeWords, Spellings, Pointer, Chain, Rootless, Joined, Widened, Level, Row, table}
-use Rattle.c_expr.specs.Build.{start_of, tallest, absent, cut, stub, leaf, grafted, graft_all, graft_cut, built, cut_built, source, cut_source}
+use Rattle.c_expr.specs.Build.{start_of, tallest, absent, cut, leaf, grafted, graft_all, graft_cut, built, cut_built, source, cut_source}
 use Rattle.c_expr.specs.Sets.{sets}
 use Rattle.c_expr.proofs.Cut.{cut_shallow, cut_deep, either}
 use Rattle.c_expr.proofs.Depths.{in_left, in_right, weak, grafted_deep}

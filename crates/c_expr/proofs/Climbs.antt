@@ -1,14 +1,13 @@
 -- The reader of expressions with operators, one step.
-use Rattle.std.proofs.Common.{◌≡◌, ℕ, zero, suc, ◌-◌, ◌+◌, ◌<◌, ◌≤◌, List, [], ◌∷◌, ◌++◌, length, map, refl, ap, sym, ◌∙◌, arith, add-one, Option, None, Some, Bool, true, false, cond}
+use Rattle.std.proofs.Common.{◌≡◌, ℕ, zero, suc, ◌-◌, ◌+◌, ◌<◌, ◌≤◌, List, [], ◌∷◌, ◌++◌, length, map, refl, ap, sym, ◌∙◌, arith, add-one, None, Some, Bool, true, false, cond}
 use Rattle.std.specs.Prelude.{◌||◌, eqb}
 use Rattle.std.proofs.lemmas.List.{append-nil}
-use Rattle.node_tree.specs.declared.kind.Kind.{Kind}
 use Rattle.node_tree.specs.declared.kind.Kind.TheVariants as kinds
-use Rattle.grammar.specs.Rule.{ref, again, opt, mark, deep, make, has, ◌·◌, ◌∣◌}
+use Rattle.grammar.specs.Rule.{ref, again, opt, has, ◌·◌, ◌∣◌}
 use Rattle.grammar.specs.Sets.{first}
-use Rattle.grammar.specs.Reader.{turns, ◌>>=◌}
+use Rattle.grammar.specs.Reader.{turns}
 use Rattle.grammar.proofs.Facts.{has_append}
-use Rattle.grammar.proofs.Rounds.{turn, turned, made}
+use Rattle.grammar.proofs.Rounds.{turn, made}
 use Rattle.c_expr.specs.declared.word.Word.TheVariants as w
 use Rattle.c_expr.specs.declared.word.Token.{Token}
 use Rattle.c_expr.specs.declared.part.Part.{Part}
@@ -16,7 +15,7 @@ use Rattle.c_expr.specs.declared.operators.Precedence.{Precedence}
 use Rattle.c_expr.specs.declared.operators.Precedence.TheVariants as p
 use Rattle.c_expr.specs.Words.{class}
 use Rattle.c_expr.specs.Settling.{assignments, opens_cast}
-use Rattle.c_expr.specs.Table.{Level, Comma, CommaTail, Assign, AssignMore, Cond, CondPart, Multiplicative, MultiplicativeOps, MultiplicativeTail, Additive, AdditiveOps, AdditiveTail, Shift, ShiftOps, ShiftTail, Relational, RelationalOps, RelationalTail, Equality, EqualityOps, EqualityTail, BitAnd, BitAndOps, BitAndTail, BitXor, BitXorOps, BitXorTail, BitOr, BitOrOps, BitOrTail, And, AndOps, AndTail, Or, OrOps, OrTail, Cast, Unary, Named, Row, operation, multiplicative_marks, additive_marks, shift_marks, relational_marks, equality_marks, bit_and_marks, bit_xor_marks, bit_or_marks, and_marks, or_marks, up_to_multiplicative, up_to_additive, up_to_shift, up_to_relational, up_to_equality, up_to_bit_and, up_to_bit_xor, up_to_bit_or, up_to_and, up_to_or, from_multiplicative, some_from_multiplicative, table}
+use Rattle.c_expr.specs.Table.{Comma, CommaTail, Assign, AssignMore, Cond, CondPart, Multiplicative, MultiplicativeOps, MultiplicativeTail, Additive, AdditiveOps, AdditiveTail, Shift, ShiftOps, ShiftTail, Relational, RelationalOps, RelationalTail, Equality, EqualityOps, EqualityTail, BitAnd, BitAndOps, BitAndTail, BitXor, BitXorOps, BitXorTail, BitOr, BitOrOps, BitOrTail, And, AndOps, AndTail, Or, OrOps, OrTail, Cast, Unary, Named, Row, operation, up_to_multiplicative, up_to_additive, up_to_shift, up_to_relational, up_to_equality, up_to_bit_and, up_to_bit_xor, up_to_bit_or, up_to_and, up_to_or, from_multiplicative, table}
 use Rattle.c_expr.specs.Build.{token_at, start_of, built, grafted, cut, graft_cut, cut_chained, cut_source}
 use Rattle.c_expr.specs.Sets.{sets}
 use Rattle.c_expr.specs.Reading.{level, optional, grafting, regraft, levels, level_at, looseness, levels_from, chain_level, ops_level, tail_level, operators, tighter, right_level, climbs, climbed, condition}

@@ -4,7 +4,7 @@ use Rattle.std.specs.Prelude.{max, leb, eqb, length, ◌&&◌, ◌⊎◌}
 use Rattle.node_tree.specs.declared.node.Node.{Node}
 use Rattle.node_tree.specs.declared.kind.Kind.{Kind}
 use Rattle.node_tree.specs.declared.span.Span.{Span}
-use Rattle.node_tree.specs.Tree.{kind_of, text_of, kids_of, span_of}
+use Rattle.node_tree.specs.Tree.{kind_of, text_of, kids_of}
 use Rattle.node_tree.proofs.Nodes.{made_kind, made_text, made_kids, made_span}
 use Rattle.c_expr.specs.declared.part.Part.{Part}
 use Rattle.c_expr.specs.Build.{node, nodes, tallest, settled, settled_all, may_be_bare, empty_at, over, grafted, cut, stub}

@@ -1,6 +1,6 @@
 -- How deep what a builder makes is.
 use Rattle.std.proofs.Common.{◌≡◌, ℕ, zero, suc, ◌<◌, ◌≤◌, List, [], ◌∷◌, ◌++◌, refl, arith, Bool, true, false, cond}
-use Rattle.std.specs.Prelude.{max, eqb, ◌&&◌}
+use Rattle.std.specs.Prelude.{max, eqb}
 use Rattle.node_tree.specs.declared.kind.Kind.{Kind}
 use Rattle.node_tree.specs.declared.kind.Kind.TheVariants as k
 use Rattle.node_tree.specs.declared.span.Span.{Span}

@@ -1,18 +1,17 @@
 -- A piece has no end of the tokens in it, and the spans of a run's tree lie in the text where the tokens do.
-use Rattle.std.proofs.Common.{◌≡◌, ℕ, zero, suc, ◌<◌, ◌≤◌, List, [], ◌∷◌, ◌++◌, length, map, refl, ap, sym, ◌∙◌, arith, Bool, true, false, inl, inr}
+use Rattle.std.proofs.Common.{◌≡◌, ℕ, suc, ◌<◌, ◌≤◌, List, [], ◌∷◌, ◌++◌, length, map, refl, ap, ◌∙◌, arith, Bool, true, false, inl, inr}
 use Rattle.std.specs.Prelude.{◌&&◌, ◌⊎◌, not, None}
 use Rattle.node_tree.specs.declared.node.Node.{Node}
 use Rattle.node_tree.specs.declared.view.Mode.{Mode}
 use Rattle.node_tree.specs.declared.view.Mode.TheVariants as modes
 use Rattle.node_tree.specs.Spans.{SpansLieIn}
-use Rattle.grammar.specs.Rule.{Rule, done, mark, word, ref, deep, again, seq, around, alt, look, choose, opt, must, rep, make, has, Loop, outside, within, Derives, d_done, d_mark, d_word, d_ref, d_deep, d_again, d_rep, d_seq, d_around, d_left, d_right, d_seen, d_unseen, d_chosen, d_unchosen, d_without, d_with, d_barred, d_taken, d_make}
+use Rattle.grammar.specs.Rule.{done, mark, word, ref, deep, again, seq, around, alt, look, choose, opt, must, rep, make, has, Loop, outside, within, Derives, d_done, d_mark, d_word, d_ref, d_deep, d_again, d_rep, d_seq, d_around, d_left, d_right, d_seen, d_unseen, d_chosen, d_unchosen, d_without, d_with, d_barred, d_taken, d_make}
 use Rattle.grammar.specs.Sets.{nul}
 use Rattle.grammar.proofs.Facts.{true_false, and_both, not_true}
 use Rattle.grammar.proofs.Bounded.{forward, still}
 use Rattle.grammar.proofs.Spelled.{IsGrammar}
 use Rattle.grammar.proofs.Checked.{is_grammar}
 use Rattle.c_lex.specs.declared.token.CToken.{CToken}
-use Rattle.c_lex.specs.declared.token.CWord.{CWord}
 use Rattle.c_lex.specs.declared.token.CWord.TheVariants as lexed
 use Rattle.c_expr.specs.declared.word.Token.{Token}
 use Rattle.c_expr.specs.declared.part.Part.{Part}

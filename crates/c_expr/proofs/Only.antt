@@ -1,5 +1,5 @@
 -- There is at most one tree.
-use Rattle.std.proofs.Common.{◌≡◌, ℕ, suc, ◌<◌, ◌≤◌, List, length, sym, ◌∙◌, arith, Some}
+use Rattle.std.proofs.Common.{◌≡◌, ℕ, suc, List, length, sym, ◌∙◌, arith, Some}
 use Rattle.grammar.specs.Reader.{read_level, room_of}
 use Rattle.grammar.proofs.Facts.{some_pair}
 use Rattle.grammar.proofs.Theorem.{piece_read}

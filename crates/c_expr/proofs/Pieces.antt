@@ -1,5 +1,5 @@
 -- Where the parts of a level are read, so is the level.
-use Rattle.std.proofs.Common.{◌≡◌, ℕ, zero, suc, ◌-◌, ◌+◌, ◌<◌, add-one, List, [], ◌∷◌, ◌++◌, length, map, refl, ap, sym, ◌∙◌, arith, Option, None, Some, Bool, true, false, cond}
+use Rattle.std.proofs.Common.{◌≡◌, ℕ, zero, suc, ◌-◌, ◌+◌, ◌<◌, add-one, List, [], ◌∷◌, ◌++◌, map, refl, ap, ◌∙◌, arith, None, Some, Bool, true, false, cond}
 use Rattle.std.specs.Prelude.{eqb, leb, max, ◌&&◌}
 use Rattle.node_tree.specs.Order.{kind_place}
 use Rattle.node_tree.specs.Tree.{kind_of}
@@ -7,23 +7,20 @@ use Rattle.node_tree.specs.declared.kind.Kind.{Kind}
 use Rattle.node_tree.specs.declared.kind.Kind.TheVariants as kinds
 use Rattle.node_tree.specs.declared.span.Span.{Span}
 use Rattle.grammar.specs.Rule.{has}
-use Rattle.grammar.specs.Reader.{◌>>=◌}
 use Rattle.grammar.proofs.Facts.{and_both}
-use Rattle.c_expr.specs.declared.word.Word.{Word}
 use Rattle.c_expr.specs.declared.word.Word.TheVariants as w
 use Rattle.c_expr.specs.declared.word.Token.{Token}
 use Rattle.c_expr.specs.declared.part.Part.{Part}
 use Rattle.c_expr.specs.declared.lists.Listed.{Listed}
 use Rattle.c_expr.specs.declared.lists.Listed.TheVariants as listed
 use Rattle.c_expr.specs.declared.declarators.Naming.{Naming}
-use Rattle.c_expr.specs.declared.declarators.Naming.TheVariants as naming
 use Rattle.c_expr.specs.Words.{class}
 use Rattle.c_expr.specs.Settling.{names, opens_cast, is_cast}
-use Rattle.c_expr.specs.Table.{Level, Comma, Assign, Cond, CondPart, Cast, Suffix, Args, Tname, Group, Body, Fields, Field, Desigs, DesigsTail, Desig, Ini, Init, Inis, DeclrPart, Params, Words, AsId, Spelling, accesses}
-use Rattle.c_expr.specs.Build.{token_at, start_of, span_between, leaf, absent, over, padded, grafted, cut, stub, is_spelling, spelled_more, gathered, pointing, tallest, cut_source}
+use Rattle.c_expr.specs.Table.{Comma, Assign, Cond, CondPart, Cast, Suffix, Tname, Body, Fields, Field, Desigs, DesigsTail, Desig, Ini, Init, DeclrPart, Words, AsId, Spelling, accesses}
+use Rattle.c_expr.specs.Build.{token_at, start_of, span_between, leaf, over, padded, grafted, cut, stub, is_spelling, spelled_more, pointing, tallest, cut_source}
 use Rattle.c_expr.specs.Sets.{sets}
-use Rattle.c_expr.specs.Reading.{level, optional, grafting, gathering, word_or_group, list_read, list_level, list_tail, item_level, item_starts, trails, declr_level, pointed_read}
-use Rattle.c_expr.proofs.Steps.{Got, on, row, rest, rest_turn, round_of, push_more, graft_one, listed_turn, list_next, cast_step, suffix_step, declr_step, declr_part_step, ini_step, init_step, gathered_spelling}
+use Rattle.c_expr.specs.Reading.{level, optional, grafting, gathering, word_or_group, list_read, list_tail, item_level, item_starts, trails, declr_level, pointed_read}
+use Rattle.c_expr.proofs.Steps.{Got, on, rest, rest_turn, push_more, graft_one, listed_turn, list_next, cast_step, suffix_step, declr_step, declr_part_step, ini_step, gathered_spelling}
 use Rattle.c_expr.proofs.Climbs.{cond_part_step}
 
 -- what is read, put over what stands before it

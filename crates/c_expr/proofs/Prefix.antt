@@ -1,5 +1,5 @@
 -- Tokens cut off where one stands inside too many brackets have the same closed runs.
-use Rattle.std.proofs.Common.{◌≡◌, ℕ, zero, suc, ◌-◌, ◌<◌, ◌≤◌, List, [], ◌∷◌, length, take, refl, ap, sym, ◌∙◌, arith, inl, inr}
+use Rattle.std.proofs.Common.{◌≡◌, ℕ, zero, suc, ◌-◌, ◌<◌, ◌≤◌, List, [], ◌∷◌, length, take, ap, sym, ◌∙◌, arith, inl, inr}
 use Rattle.std.specs.Prelude.{◌⊎◌, min, cond, ltb}
 use Rattle.std.proofs.lemmas.List.{get_or-take, get_or_past, length-take}
 use Rattle.std.proofs.Math.Seq.{take-length}
@@ -13,7 +13,7 @@ use Rattle.c_expr.specs.declared.word.Token.{Token}
 use Rattle.c_expr.specs.declared.part.Part.{Part}
 use Rattle.c_expr.specs.declared.read.CLevel.{CLevel}
 use Rattle.c_expr.specs.Words.{class, of_mode}
-use Rattle.c_expr.specs.Table.{Leaf, Own, AsId, Spelling, Builder, Over, Named, TypeWords, Spellings, Pointer, Chain, Rootless, Joined, Widened, grammar}
+use Rattle.c_expr.specs.Table.{Leaf, Builder, Over, Named, TypeWords, Spellings, Pointer, Chain, Rootless, Joined, Widened, grammar}
 use Rattle.c_expr.specs.Build.{token_at, start_of, end_of, span_between, end_token, tallest, node, leaf, leaf_kind, leaf_text, leaf_depth, padded, over, absent, graft_all, gathered, type_over, spellings, pointer, joined, chained, widened, built, source}
 use Rattle.c_expr.specs.Sets.{sets, ranks, tests}
 use Rattle.c_expr.specs.Reading.{round_at}

@@ -1,6 +1,5 @@
 -- What is read of a level is the closed run, and the closed run is what is read.
 use Rattle.std.proofs.Common.{◌≡◌, ℕ, zero, suc, ◌<◌, ◌≤◌, List, [], ◌∷◌, length, map, refl, sym, ap, ◌∙◌, arith, Option, Some, None, Err, Bool, true, false, cond}
-use Rattle.std.proofs.lemmas.List.{get_or_past}
 use Rattle.node_tree.specs.declared.node.Node.{Node}
 use Rattle.node_tree.specs.declared.fault.ReadFault.{ReadFault}
 use Rattle.node_tree.specs.declared.fault.ReadFault.TheVariants as faults
@@ -20,9 +19,9 @@ use Rattle.c_expr.specs.declared.read.CLevel.{CLevel}
 use Rattle.c_expr.specs.declared.read.CLevel.TheVariants as levels
 use Rattle.c_expr.specs.Words.{class, of_mode, in_mode, token_of, word_of}
 use Rattle.c_expr.specs.Table.{Level, grammar}
-use Rattle.c_expr.specs.Build.{token_at, tallest, source, cut_source}
+use Rattle.c_expr.specs.Build.{tallest, source, cut_source}
 use Rattle.c_expr.specs.Sets.{sets, ranks, tests}
-use Rattle.c_expr.specs.Reading.{level, one, round_at}
+use Rattle.c_expr.specs.Reading.{level, round_at}
 use Rattle.c_expr.specs.Runs.{level_of, IsRunTree, IsTree, AreOf}
 use Rattle.c_expr.proofs.Passes.{pass}
 use Rattle.c_expr.proofs.Closes.{close_text, close_pattern, declared}

@@ -2,7 +2,7 @@
 use Rattle.std.proofs.Common.{◌≡◌, ℕ, zero, suc, ◌-◌, ◌<◌, List, [], ◌∷◌, refl, ap, sym, ◌∙◌, arith, cond}
 use Rattle.std.specs.Prelude.{Bool, true, false, ◌&&◌, ◌||◌}
 use Rattle.grammar.specs.Rule.{has}
-use Rattle.grammar.specs.Tests.{Move, say, go, State, ◌⇒◌, arm_at, arms, step, verdict}
+use Rattle.grammar.specs.Tests.{say, go, step, verdict}
 use Rattle.grammar.proofs.Lookahead.{then, test_step}
 use Rattle.c_expr.specs.declared.word.Word.TheVariants as w
 use Rattle.c_expr.specs.Words.{class}

@@ -2,14 +2,14 @@
 use Rattle.std.proofs.Common.{◌≡◌, ℕ, zero, suc, ◌-◌, ◌<◌, ◌≤◌, List, [], ◌∷◌, ◌++◌, length, refl, sym, subst, arith, Bool, true, false, cond}
 use Rattle.std.specs.Prelude.{◌&&◌, eqb, ltb}
 use Rattle.std.specs.Str.{IsCharBoundary}
-use Rattle.node_tree.specs.declared.node.Node.{Node, roll-Node}
+use Rattle.node_tree.specs.declared.node.Node.{Node}
 use Rattle.node_tree.specs.declared.kind.Kind.{Kind}
 use Rattle.node_tree.specs.declared.kind.Kind.TheVariants as k
 use Rattle.node_tree.specs.declared.span.Span.{Span}
 use Rattle.node_tree.specs.Span.{LiesIn}
 use Rattle.node_tree.specs.Spans.{SpansLieIn}
 use Rattle.node_tree.specs.Tree.{kind_of, text_of, kids_of, span_of}
-use Rattle.node_tree.proofs.Nodes.{made, made_kids, made_span}
+use Rattle.node_tree.proofs.Nodes.{made_kids, made_span}
 use Rattle.node_tree.proofs.SpanLaws.{AllLieIn, none_lie, more_lie, node_lies}
 use Rattle.grammar.specs.Rule.{Loop, Rule, Derives, d_done, d_mark, d_word, d_ref, d_deep, d_again, d_rep, d_seq, d_around, d_left, d_right, d_seen, d_unseen, d_chosen, d_unchosen, d_without, d_with, d_barred, d_taken, d_make}
 use Rattle.grammar.proofs.Facts.{and_both}
@@ -18,9 +18,9 @@ use Rattle.grammar.proofs.Checked.{is_grammar}
 use Rattle.c_expr.specs.declared.word.Token.{Token}
 use Rattle.c_expr.specs.declared.part.Part.{Part}
 use Rattle.c_expr.specs.Table.{Level, Leaf, Builder, Over, Named, TypeWords, Spellings, Pointer, Chain, Rootless, Joined, Widened, table, grammar}
-use Rattle.c_expr.specs.Build.{token_at, start_of, end_of, span_between, node, empty_at, absent, may_be_bare, settled, settled_all, nodes, tallest, padded, over, grafted, graft_all, is_spelling, spelled_more, gathered, spellings, pointing, pointer, joined, chained, widened, built, leaf, leaf_kind, leaf_text, source}
+use Rattle.c_expr.specs.Build.{token_at, start_of, end_of, span_between, node, empty_at, absent, may_be_bare, settled, settled_all, nodes, tallest, padded, over, grafted, graft_all, is_spelling, spelled_more, gathered, built, leaf, leaf_kind, leaf_text, source}
 use Rattle.c_expr.specs.Sets.{sets, ranks}
-use Rattle.c_expr.specs.Spells.{Spells, ArePlaced, PartsLieIn, SpansLie}
+use Rattle.c_expr.specs.Spells.{ArePlaced, PartsLieIn, SpansLie}
 use Rattle.c_expr.proofs.Passes.{pass}
 
 -- ---- tokens

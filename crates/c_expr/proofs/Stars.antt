@@ -1,5 +1,5 @@
 -- Looking past stars, one after the other.
-use Rattle.std.proofs.Common.{◌≡◌, ℕ, zero, suc, ◌-◌, ◌+◌, ◌<◌, refl, arith, cond, [], ◌∷◌}
+use Rattle.std.proofs.Common.{◌≡◌, ℕ, zero, suc, ◌-◌, ◌<◌, refl, arith, cond, [], ◌∷◌}
 use Rattle.grammar.specs.Rule.{has}
 use Rattle.c_expr.specs.declared.word.Word.TheVariants as w
 use Rattle.c_expr.specs.Words.{class}

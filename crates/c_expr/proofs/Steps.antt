@@ -19,9 +19,9 @@ use Rattle.c_expr.specs.declared.lists.Listed.TheVariants as listed
 use Rattle.c_expr.specs.declared.declarators.Naming.{Naming}
 use Rattle.c_expr.specs.declared.declarators.Naming.TheVariants as naming
 use Rattle.c_expr.specs.Words.{class}
-use Rattle.c_expr.specs.Settling.{names, spec_words, opens_cast, opens_declarator}
-use Rattle.c_expr.specs.Table.{Level, Comma, CommaTail, Assign, AssignMore, Cond, CondPart, Or, And, BitOr, BitXor, BitAnd, Equality, Relational, Shift, Additive, Multiplicative, Cast, Unary, Sizeof, Postfix, PostfixTail, Suffix, Prim, Strings, StringsTail, Deep, Args, ArgsTail, Arg, Tname, Spec, SpecStart, QualifiersTail, Typed, TypedFirst, TypedTail, Group, Body, Enumerators, EnumeratorsTail, Enumerator, Fields, Field, Members, MembersTail, Member, Width, Declr, NamedDirect, DeclrFirst, Nameless, NamelessDirect, Maybe, MaybeDirect, DeclrTail, DeclrPart, Stars, Words, Params, ParamsTail, Param, Var, Init, Inis, InisTail, Ini, Desigs, DesigsTail, Desig, Own, AsId, Spelling, Named, Row, comma_round, desigs_round, further, postfix_round, qualifiers_round, strings_round, trailing, typed_round, operation, tok, strings, joined, meta, name, tags, qualifiers, bare_words, later_words, spec_goes_on, table, grammar}
-use Rattle.c_expr.specs.Build.{token_at, start_of, span_between, leaf, absent, over, padded, built, grafted, cut, graft_cut, cut_chained, cut_joined, is_spelling, spelled_more, gathered, type_over, spellings, pointing, pointer, tallest, cut_source}
+use Rattle.c_expr.specs.Settling.{names, spec_words, opens_declarator}
+use Rattle.c_expr.specs.Table.{Level, CommaTail, Cond, Cast, Unary, Sizeof, Postfix, PostfixTail, Suffix, Prim, Strings, StringsTail, Deep, Args, ArgsTail, Arg, Tname, Spec, SpecStart, QualifiersTail, Typed, TypedFirst, TypedTail, Group, Body, Enumerators, EnumeratorsTail, Enumerator, Fields, Field, Members, MembersTail, Member, Width, Declr, NamedDirect, DeclrFirst, Nameless, NamelessDirect, Maybe, MaybeDirect, DeclrTail, DeclrPart, Stars, Words, Params, ParamsTail, Param, Var, Init, Inis, InisTail, Ini, Desigs, DesigsTail, Desig, Own, AsId, Spelling, Row, comma_round, desigs_round, further, postfix_round, qualifiers_round, strings_round, trailing, typed_round, tok, strings, joined, meta, name, tags, qualifiers, bare_words, later_words, spec_goes_on, table, grammar}
+use Rattle.c_expr.specs.Build.{token_at, start_of, span_between, leaf, absent, over, padded, grafted, cut, graft_cut, cut_chained, cut_joined, is_spelling, spelled_more, gathered, type_over, spellings, pointing, pointer, tallest, cut_source}
 use Rattle.c_expr.specs.Sets.{sets, ranks}
 use Rattle.c_expr.specs.Reading.{level, optional, behind_equals, grafting, regraft, gathering, word_or_group, list_level, list_tail, item_level, item_starts, trails, declr_level, direct_level, pointed_read, opens_nested, takes_name}
 use Rattle.c_expr.proofs.Passes.{pass}

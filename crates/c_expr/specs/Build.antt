@@ -1,6 +1,6 @@
 -- The nodes of the grammar, from the tokens of their pieces.
 use Rattle.std.specs.Prelude.{ℕ, zero, suc, ◌-◌, Bool, cond, ◌&&◌, ◌||◌, max, List, [], ◌∷◌, ◌++◌, length, get_or, map, codes, eqb, ltb, leb}
-use Rattle.node_tree.specs.declared.node.Node.{Node, out-Node, roll-Node}
+use Rattle.node_tree.specs.declared.node.Node.{Node, roll-Node}
 use Rattle.node_tree.specs.declared.kind.Kind.{Kind}
 use Rattle.node_tree.specs.declared.kind.Kind.TheVariants as k
 use Rattle.node_tree.specs.declared.span.Span.{Span}

@@ -1,7 +1,6 @@
 -- What the functions of the reader read.
-use Rattle.std.specs.Prelude.{◌<◌, ◌≤◌, ℕ, zero, suc, Bool, true, false, cond, List, [], ◌∷◌, map, length, get_or, Option, Some, None, Vec}
+use Rattle.std.specs.Prelude.{◌<◌, ◌≤◌, ℕ, zero, suc, Bool, true, false, cond, List, [], ◌∷◌, length, get_or, Option, Some, None, Vec}
 use Rattle.std.specs.declared.alloc.Global.{Global}
-use Rattle.node_tree.specs.declared.kind.Kind.{Kind}
 use Rattle.node_tree.specs.declared.kind.Kind.TheVariants as kinds
 use Rattle.grammar.specs.Rule.{has, brackets_round}
 use Rattle.grammar.specs.Reader.{read_level, ◌>>=◌}
@@ -20,7 +19,7 @@ use Rattle.c_expr.specs.Words.{class}
 use Rattle.c_expr.specs.Table as t
 use Rattle.c_expr.specs.Table.{Level, table, grammar}
 use Rattle.c_expr.specs.Settling.{names, opens_declarator}
-use Rattle.c_expr.specs.Build.{token_at, span_between, source, cut_source, leaf, over, built, cut, graft_cut, gathered}
+use Rattle.c_expr.specs.Build.{token_at, span_between, source, cut_source, leaf, over, cut, graft_cut, gathered}
 use Rattle.c_expr.specs.Sets.{sets, ranks}
 
 -- the reader of a level, by the table

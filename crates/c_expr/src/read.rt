@@ -57,30 +57,33 @@ const MAX_DEPTH: u32 = 500;
 /// How many steps deeper the reader may go: so that depth, brackets and what stands in them never reach it.
 const ROOM: u32 = 1002;
 
-/// The part of a level that begins there.
-fn read_part(
+/// Reads a level from a token on: its node, and the number of the token behind it. The reader may go so many steps deeper.
+///
+/// This is the reader by the table itself: it asks for no limits but that of the room, and not whether the run is closed.
+pub fn read_level(
     alloc: Global,
     tokens: &[Token<'_>],
     level: CLevel,
+    room: u32,
     at: usize,
 ) -> Result<(Part, usize), ReadFault>
     requires { at ≤ length tokens.now }
     ensures within { IfOk result (λ x. x.1 ≤ length tokens.now) }
-    ensures gives { Gives reading.one result (reading.level tokens.now 1002 (level_of level) at) }
+    ensures gives { Gives reading.one result (reading.level tokens.now room (level_of level) at) }
 {
     match level {
-        CLevel::Comma => comma(alloc, tokens, ROOM, at),
-        CLevel::Assign => assign(alloc, tokens, ROOM, at),
-        CLevel::Cond => conditional(alloc, tokens, ROOM, at),
-        CLevel::Lor => chain(alloc, tokens, Precedence::Or, ROOM, at),
-        CLevel::Cast => cast(alloc, tokens, ROOM, at),
-        CLevel::Unary => unary(alloc, tokens, ROOM, at),
-        CLevel::Postfix => postfix(alloc, tokens, ROOM, at),
-        CLevel::Prim => primary(alloc, tokens, ROOM, at),
-        CLevel::Tname => type_name(alloc, tokens, ROOM, at),
-        CLevel::Spec => spec(alloc, tokens, ROOM, at),
-        CLevel::Declr => declarator(alloc, tokens, Naming::Named, ROOM, at),
-        CLevel::Var => variable(alloc, tokens, ROOM, at),
+        CLevel::Comma => comma(alloc, tokens, room, at),
+        CLevel::Assign => assign(alloc, tokens, room, at),
+        CLevel::Cond => conditional(alloc, tokens, room, at),
+        CLevel::Lor => chain(alloc, tokens, Precedence::Or, room, at),
+        CLevel::Cast => cast(alloc, tokens, room, at),
+        CLevel::Unary => unary(alloc, tokens, room, at),
+        CLevel::Postfix => postfix(alloc, tokens, room, at),
+        CLevel::Prim => primary(alloc, tokens, room, at),
+        CLevel::Tname => type_name(alloc, tokens, room, at),
+        CLevel::Spec => spec(alloc, tokens, room, at),
+        CLevel::Declr => declarator(alloc, tokens, Naming::Named, room, at),
+        CLevel::Var => variable(alloc, tokens, room, at),
     }
 }
 
@@ -96,7 +99,7 @@ fn read_run(
     ensures only { (mode : mode_of) (n : node) (to : ℕ) → AreOf mode tokens.now → IsRunTree mode tokens.now level from n to → Gives (λ x. x) result (Some (n, to)) }
 {
     let shallow = &tokens[..shallow_end(tokens, from)];
-    let (part, end) = read_part(alloc, shallow, level, from)?;
+    let (part, end) = read_level(alloc, shallow, level, ROOM, from)?;
     if part.depth > MAX_DEPTH {
         return Err(ReadFault::NoTree);
     }

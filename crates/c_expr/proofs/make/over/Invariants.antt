@@ -1,4 +1,4 @@
-use Rattle.std.proofs.Common.{◌≡◌, ◌≤◌}
+use Rattle.std.proofs.Common.{◌≡◌}
 use Rattle.c_expr.specs.Build.{settled_all, nodes, tallest}
 use Rattle.c_expr.proofs.make.over.Given as goal
 
