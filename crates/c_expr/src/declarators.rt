@@ -293,15 +293,8 @@ fn bracket(
         let end = close + 1;
         let span = span_at(tokens, at, end);
         let size = or_absent(alloc, span.from, size);
-        let part = graft_one(
-            alloc,
-            from,
-            first,
-            Kind::ArrayOf,
-            Text::new(alloc),
-            span,
-            size,
-        )?;
+        let text = Text::new(alloc);
+        let part = graft_one(alloc, from, first, Kind::ArrayOf, text, span, size)?;
         return Ok((part, end));
     }
     if !is(tokens, at, Word::OpenRound) {
@@ -313,15 +306,8 @@ fn bracket(
     }
     let end = close + 1;
     let span = span_at(tokens, at, end);
-    let part = graft_one(
-        alloc,
-        from,
-        first,
-        Kind::FuncOf,
-        Text::new(alloc),
-        span,
-        params,
-    )?;
+    let text = Text::new(alloc);
+    let part = graft_one(alloc, from, first, Kind::FuncOf, text, span, params)?;
     Ok((part, end))
 }
 

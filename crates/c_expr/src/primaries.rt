@@ -93,20 +93,18 @@ fn suffix(
         if !is(tokens, close, Word::CloseSquare) {
             return Err(ReadFault::NoTree);
         }
-        let end = close + 1;
-        let span = span_at(tokens, at, end);
+        let span = span_at(tokens, at, close + 1);
         let part = graft_one(alloc, from, first, Kind::Sub, Text::new(alloc), span, index)?;
-        return Ok((part, end));
+        return Ok((part, close + 1));
     }
     if is(tokens, at, Word::OpenRound) {
         let (args, close) = list(alloc, tokens, Listed::Args, room - 1, at + 1)?;
         if !is(tokens, close, Word::CloseRound) {
             return Err(ReadFault::NoTree);
         }
-        let end = close + 1;
-        let span = span_at(tokens, at, end);
+        let span = span_at(tokens, at, close + 1);
         let part = graft_one(alloc, from, first, Kind::Call, Text::new(alloc), span, args)?;
-        return Ok((part, end));
+        return Ok((part, close + 1));
     }
     if is_among(tokens, at, &ACCESSES) {
         if !is_among(tokens, at + 1, &NAMES) {
