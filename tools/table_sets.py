@@ -76,6 +76,15 @@ def definitions(text):
     return names, rows
 
 
+def written(path):
+    """The file, and behind it the files beside it that it uses."""
+    text = path.read_text()
+    module = str(path.resolve()).split('/specs/')[1].removesuffix('Table.antt').replace('/', '.')
+    beside = re.findall(r'^use Rattle\.\w+\.specs\.' + re.escape(module) + r'(\w+)\.\{', text, re.M)
+    files = [path.with_name(name + '.antt') for name in beside]
+    return text + ''.join('\n' + f.read_text() for f in files if f.exists())
+
+
 def show(term):
     head, args = term
     return ' '.join([head] + ['(' + show(a) + ')' if a[1] else show(a) for a in args])
@@ -97,7 +106,7 @@ class Table:
         args = [self.opened(a, given) for a in args]
         if head in given:
             return (given[head][0], given[head][1] + args)
-        if head in self.names and head not in RULES and head != 'class':
+        if head in self.names and head not in self.begins and head not in RULES and head != 'class':
             parameters, body = self.names[head]
             if body.startswith('record') or len(args) < len(parameters):
                 return (head, args)
@@ -421,7 +430,7 @@ def plain_levels(table, tests):
 def main():
     path = Path(sys.argv[1])
     text = path.read_text()
-    table = Table(text)
+    table = Table(written(path))
     for loop in table.loops:
         if loop not in table.rows:
             sys.exit('the loop ' + loop + ' has no row of its own')

@@ -1,0 +1,17 @@
+pub mod Parts
+pub mod Cut
+pub mod Stars
+pub mod Counting
+pub mod Settled
+pub mod Passes
+pub mod Closes
+pub mod Steps
+pub mod Climbs
+pub mod Pieces
+pub mod Depths
+pub mod Alike
+pub mod Runs
+pub mod Prefix
+pub mod Only
+pub mod Spans
+pub mod Ends

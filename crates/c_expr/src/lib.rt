@@ -1,0 +1,32 @@
+//! The expressions, types and declarators of C: from tokens to trees.
+//!
+//! The grammar is a table for the crate `grammar` (`specs/Table.antt`), a row for each line of it. [`read_c`] gives exactly the
+//! tree of the closed run of a level from a token on. Patterns are read by the same table over some more words.
+#![tactic(auto)]
+
+mod classify;
+mod declarators;
+mod initializers;
+mod law;
+mod limits;
+mod lists;
+mod look;
+mod make;
+mod members;
+mod operators;
+mod part;
+mod primaries;
+mod read;
+mod settle;
+mod types;
+mod word;
+
+pub use classify::classified;
+pub use law::{at_most_one_tree, spans_lie};
+pub use limits::shallow_end;
+pub use part::Part;
+pub use read::{CLevel, read_c, read_level};
+pub use word::{Token, Word};
+
+#[cfg(test)]
+mod tests;
