@@ -28,6 +28,11 @@ impl<T> Boxed<T> {
     {
         &self.inner
     }
+
+    /// Where the place comes from.
+    pub fn alloc(&self) -> Global {
+        *Box::allocator(&self.inner)
+    }
 }
 
 impl<T: Drop> Boxed<T> {

@@ -5,8 +5,13 @@ mod boxed;
 mod comparison;
 mod formula;
 mod rule;
+mod same;
 
 pub use boxed::Boxed;
 pub use comparison::{Amount, ArithOp, CompareOp, Comparison};
 pub use formula::{Child, Formula};
 pub use rule::{Body, Part, Propagator, Rule, Severity, TaintRule};
+pub use same::{Same, same_all};
+
+#[cfg(test)]
+mod tests;
