@@ -1,10 +1,12 @@
--- Patterns that match a front of a list of kids, and leave a rest.
+-- Parts that match a front of a list of kids, and leave a rest.
 use Rattle.std.proofs.Common.{◌≡◌, ◌↔◌, ℕ, zero, suc, List, [], ◌∷◌, ◌++◌, length, take, drop, refl, sym, ap, ◌∙◌, subst, append_assoc}
 use Rattle.node_tree.specs.declared.node.Node.{Node}
 use Rattle.node_tree.specs.Tree.{text_of}
 use Rattle.meta_bind.specs.declared.bound.Bound.{Bound}
-use Rattle.tree_match.specs.Relation.{MatchesList, both_empty, head_and_rest, dots, named_dots, Binds}
-use Rattle.tree_match.specs.Fronts.{MatchesFront, no_pattern_front, head_front, dots_front, named_dots_front}
+use Rattle.std.specs.Prelude.{None, Some}
+use Rattle.tree_match.specs.Free.{Part}
+use Rattle.tree_match.specs.Relation.{MatchesList, both_empty, head_and_rest, free_and_rest, dots, named_dots, Binds}
+use Rattle.tree_match.specs.Fronts.{MatchesFront, no_part_front, head_front, free_front, dots_front, named_dots_front}
 
 record Cut (k : ℕ) (ms rest : List Node) : Type 0 where
   at : ℕ
@@ -30,31 +32,35 @@ parted (suc k) [] = refl
 parted (suc k) (n ∷ ns) = ap (λ (xs : List Node). n ∷ xs) (parted k ns)
 
 -- a match of a run is one of a front
-pub front : (h : Node) (ps ms : List Node) (b c : List Bound) → MatchesList h ps ms b c → (rest : List Node) → MatchesFront h ps (ms ++ rest) rest b c
-front h _ _ b _ both_empty rest = no_pattern_front
-front h (p ∷ ps) (m ∷ ms) b c (head_and_rest x y) rest = head_front x (front h ps ms _ c y rest)
-front h (p ∷ ps) ms b c (dots k r x) rest =
+pub front : (h : Node) (ps : List Part) (ms : List Node) (b c : List Bound) → MatchesList h ps ms b c → (rest : List Node) → MatchesFront h ps (ms ++ rest) rest b c
+front h _ _ b _ both_empty rest = no_part_front
+front h (Some p ∷ ps) (m ∷ ms) b c (head_and_rest x y) rest = head_front x (front h ps ms _ c y rest)
+front h (None ∷ ps) (m ∷ ms) b c (free_and_rest y) rest = free_front (front h ps ms b c y rest)
+front h (Some p ∷ ps) ms b c (dots k r x) rest =
     let k' = cut k ms rest in
     let P : List Node → Type 0 = λ ns. MatchesFront h ps ns rest b c in
     dots_front k'.at r (subst P (sym k'.dropped) (front h ps (drop k ms) b c x rest))
-front h (p ∷ ps) ms b c (named_dots {c = d} k r x y) rest =
+front h (Some p ∷ ps) ms b c (named_dots {c = d} k r x y) rest =
     let k' = cut k ms rest in
     let P : List Node → Type 0 = λ ns. MatchesFront h ps ns rest d c in
     let Q : List Node → Type 0 = λ ns. Binds h (text_of p) ns b d in
     named_dots_front k'.at r (subst Q (sym k'.taken) x) (subst P (sym k'.dropped) (front h ps (drop k ms) d c y rest))
 
-pub record Fronted (h : Node) (ps ns rest : List Node) (b c : List Bound) : Type 0 where
+pub record Fronted (h : Node) (ps : List Part) (ns rest : List Node) (b c : List Bound) : Type 0 where
   pub nodes : List Node
   pub is : ns ≡ nodes ++ rest
   pub matches : MatchesList h ps nodes b c
 
 -- a match of a front is one of a run
-pub fronted : (h : Node) (ps ns rest : List Node) (b c : List Bound) → MatchesFront h ps ns rest b c → Fronted h ps ns rest b c
-fronted h _ ns _ b _ no_pattern_front = record { nodes = []; is = refl; matches = both_empty }
-fronted h (p ∷ ps) (n ∷ ns) rest b c (head_front x y) =
+pub fronted : (h : Node) (ps : List Part) (ns rest : List Node) (b c : List Bound) → MatchesFront h ps ns rest b c → Fronted h ps ns rest b c
+fronted h _ ns _ b _ no_part_front = record { nodes = []; is = refl; matches = both_empty }
+fronted h (Some p ∷ ps) (n ∷ ns) rest b c (head_front x y) =
     let f = fronted h ps ns rest _ c y in
     record { nodes = n ∷ f.nodes; is = ap (λ (xs : List Node). n ∷ xs) f.is; matches = head_and_rest x f.matches }
-fronted h (p ∷ ps) ns rest b c (dots_front k r x) =
+fronted h (None ∷ ps) (n ∷ ns) rest b c (free_front y) =
+    let f = fronted h ps ns rest b c y in
+    record { nodes = n ∷ f.nodes; is = ap (λ (xs : List Node). n ∷ xs) f.is; matches = free_and_rest f.matches }
+fronted h (Some p ∷ ps) ns rest b c (dots_front k r x) =
     let f = fronted h ps (drop k ns) rest b c x in
     let P : List Node → Type 0 = λ ms. MatchesList h ps ms b c in
     record {
@@ -62,7 +68,7 @@ fronted h (p ∷ ps) ns rest b c (dots_front k r x) =
       is = parted k ns ∙ ap (λ (xs : List Node). take k ns ++ xs) f.is ∙ sym (append_assoc (take k ns) f.nodes rest);
       matches = dots (length (take k ns)) r (subst P (sym (drop_front (take k ns) f.nodes)) f.matches);
     }
-fronted h (p ∷ ps) ns rest b c (named_dots_front {c = d} k r x y) =
+fronted h (Some p ∷ ps) ns rest b c (named_dots_front {c = d} k r x y) =
     let f = fronted h ps (drop k ns) rest d c y in
     let P : List Node → Type 0 = λ ms. MatchesList h ps ms d c in
     let Q : List Node → Type 0 = λ ms. Binds h (text_of p) ms b d in
@@ -77,7 +83,7 @@ append-nil [] = refl
 append-nil (m ∷ ms) = ap (λ (xs : List Node). m ∷ xs) (append-nil ms)
 
 -- a match that leaves nothing is one of the whole list
-pub whole_front : (h : Node) (ps ns : List Node) (b c : List Bound) → MatchesFront h ps ns [] b c ↔ MatchesList h ps ns b c
+pub whole_front : (h : Node) (ps : List Part) (ns : List Node) (b c : List Bound) → MatchesFront h ps ns [] b c ↔ MatchesList h ps ns b c
 whole_front h ps ns b c = (
   λ x. let f = fronted h ps ns [] b c x in let P : List Node → Type 0 = λ ms. MatchesList h ps ms b c in subst P (sym (f.is ∙ append-nil f.nodes)) f.matches,
   λ y. let P : List Node → Type 0 = λ ms. MatchesFront h ps ms [] b c in subst P (append-nil ns) (front h ps ns b c y []),

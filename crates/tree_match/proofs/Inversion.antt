@@ -10,17 +10,19 @@ use Rattle.tree_match.specs.declared.class.Role.{Role}
 use Rattle.tree_match.specs.declared.class.Role.TheVariants as roles
 use Rattle.tree_match.specs.Sets.{Among}
 use Rattle.tree_match.specs.Kinds.{role_of, is_term, is_expression, IsOne}
+use Rattle.std.specs.Prelude.{None, Some}
+use Rattle.tree_match.specs.Free.{Part, parts_of, HasText}
 use Rattle.tree_match.specs.Relation.{Matches, MatchesKids, MatchesList, in_order, same_node, wildcard, metavariable, some_string, deep, Binds, IsString, wild}
-use Rattle.tree_match.specs.Fronts.{End, Leads, head_front, dots_front, named_dots_front}
+use Rattle.tree_match.specs.Fronts.{End, Leads, head_front, free_front, dots_front, named_dots_front}
 use Rattle.tree_match.specs.States.{Goes, Runs, Heads}
 
 -- ---- one node
 
 module _ (p n : Node) (b : List Bound) (role : role_of (kind_of p) ≡ roles.Plain) where
-  pub plain : kind_of p ≡ kind_of n → text_of p ≡ text_of n → (c : List Bound) → MatchesKids n (kids_of p) (kids_of n) b c ↔ Matches p n b c
+  pub plain : kind_of p ≡ kind_of n → HasText p n → (c : List Bound) → MatchesKids n (parts_of p) (kids_of n) b c ↔ Matches p n b c
   plain kinds texts c = (λ x. same_node role kinds texts x, λ x. to c x)
     where
-      to : (c : List Bound) → Matches p n b c → MatchesKids n (kids_of p) (kids_of n) b c
+      to : (c : List Bound) → Matches p n b c → MatchesKids n (parts_of p) (kids_of n) b c
       to c (same_node _ _ _ x) = x
       to _ (wildcard r _ _) = absurd (let e = sym role ∙ r in cc)
       to c (metavariable r _ _ _) = absurd (let e = sym role ∙ r in cc)
@@ -34,7 +36,7 @@ module _ (p n : Node) (b : List Bound) (role : role_of (kind_of p) ≡ roles.Pla
   plain_kinds _ (some_string r _) = absurd (let e = sym role ∙ r in cc)
   plain_kinds c (deep _ _ r _ _ _ _) = absurd (let e = sym role ∙ r in cc)
 
-  pub plain_texts : (c : List Bound) → Matches p n b c → text_of p ≡ text_of n
+  pub plain_texts : (c : List Bound) → Matches p n b c → HasText p n
   plain_texts c (same_node _ _ t x) = t
   plain_texts _ (wildcard r _ _) = absurd (let e = sym role ∙ r in cc)
   plain_texts c (metavariable r _ _ _) = absurd (let e = sym role ∙ r in cc)
@@ -118,7 +120,7 @@ no_meta_dots p n b c role x = let P : Role → Type 0 = IsOne in subst P role (n
 
 -- ---- how kids match
 
-pub ordered_kids : (h : Node) (ps ns : List Node) (b c : List Bound) → MatchesList h ps ns b c ↔ MatchesKids h ps ns b c
+pub ordered_kids : (h : Node) (ps : List Part) (ns : List Node) (b c : List Bound) → MatchesList h ps ns b c ↔ MatchesKids h ps ns b c
 ordered_kids h ps ns b c = (λ x. in_order x, λ x. to x)
   where
     to : MatchesKids h ps ns b c → MatchesList h ps ns b c
@@ -126,37 +128,37 @@ ordered_kids h ps ns b c = (λ x. in_order x, λ x. to x)
 
 -- ---- a list
 
-pub heads : (h p : Node) (ps ns : List Node) (b : List Bound) (c : End) → IsOne (role_of (kind_of p)) → Heads h p ps ns b c ↔ Leads h (p ∷ ps) ns b c
+pub heads : (h p : Node) (ps : List Part) (ns : List Node) (b : List Bound) (c : End) → IsOne (role_of (kind_of p)) → Heads h p ps ns b c ↔ Leads h (Some p ∷ ps) ns b c
 heads h p ps ns b c one = (λ x. from ns x, λ x. to ns c x)
   where
-    from : (ns : List Node) → Heads h p ps ns b c → Leads h (p ∷ ps) ns b c
+    from : (ns : List Node) → Heads h p ps ns b c → Leads h (Some p ∷ ps) ns b c
     from [] x = absurd x
     from (n ∷ ns) (d, x, y) = head_front x y
 
-    to : (ns : List Node) (c : End) → Leads h (p ∷ ps) ns b c → Heads h p ps ns b c
+    to : (ns : List Node) (c : End) → Leads h (Some p ∷ ps) ns b c → Heads h p ps ns b c
     to (n ∷ ns) c (head_front {c = d} x y) = (d, x, y)
     to ns c (dots_front k r x) = let P : Role → Type 0 = IsOne in absurd (subst P r one)
     to ns c (named_dots_front k r x y) = let P : Role → Type 0 = IsOne in absurd (subst P r one)
 
-pub after_dots : (h p : Node) (ps ns : List Node) (b : List Bound) (c : End) → role_of (kind_of p) ≡ roles.Dots → Goes true h ps ns b c ↔ Leads h (p ∷ ps) ns b c
+pub after_dots : (h p : Node) (ps : List Part) (ns : List Node) (b : List Bound) (c : End) → role_of (kind_of p) ≡ roles.Dots → Goes true h ps ns b c ↔ Leads h (Some p ∷ ps) ns b c
 after_dots h p ps ns b c role = (λ (k, x). dots_front k role x, λ x. to ns c x)
   where
-    to : (ns : List Node) (c : End) → Leads h (p ∷ ps) ns b c → Goes true h ps ns b c
+    to : (ns : List Node) (c : End) → Leads h (Some p ∷ ps) ns b c → Goes true h ps ns b c
     to (n ∷ ns) c (head_front x y) = absurd (no_dots p n b _ role x)
     to ns c (dots_front k _ x) = (k, x)
     to ns c (named_dots_front k r x y) = absurd (let e = sym role ∙ r in cc)
 
-pub after_run : (h p : Node) (ps ns : List Node) (b : List Bound) (c : End) → role_of (kind_of p) ≡ roles.MetaDots → Runs 0 h p ps ns b c ↔ Leads h (p ∷ ps) ns b c
+pub after_run : (h p : Node) (ps : List Part) (ns : List Node) (b : List Bound) (c : End) → role_of (kind_of p) ≡ roles.MetaDots → Runs 0 h p ps ns b c ↔ Leads h (Some p ∷ ps) ns b c
 after_run h p ps ns b c role = (λ (k, le, d, x, y). named_dots_front k role x y, λ x. to ns c x)
   where
-    to : (ns : List Node) (c : End) → Leads h (p ∷ ps) ns b c → Runs 0 h p ps ns b c
+    to : (ns : List Node) (c : End) → Leads h (Some p ∷ ps) ns b c → Runs 0 h p ps ns b c
     to (n ∷ ns) c (head_front x y) = absurd (no_meta_dots p n b _ role x)
     to ns c (dots_front k r x) = absurd (let e = sym role ∙ r in cc)
     to ns c (named_dots_front {c = d} k _ x y) = (k, omega arith, d, x, y)
 
 -- ---- a floating state
 
-module _ (h : Node) (ps ns : List Node) (b : List Bound) (c : End) (i : ℕ) where
+module _ (h : Node) (ps : List Part) (ns : List Node) (b : List Bound) (c : End) (i : ℕ) where
   pub goes_more : Goes true h ps (drop i ns) b c ↔ (Leads h ps (drop i ns) b c ⊎ Goes true h ps (drop (i + 1) ns) b c)
   goes_more = (λ (k, x). to k x, λ a. elim a [ inl x ↦ (0, x) | inr (k, x) ↦ let P : List Node → Type 0 = λ ms. Leads h ps ms b c in (suc k, subst P (shift k) x) ])
     where
@@ -175,7 +177,7 @@ module _ (h : Node) (ps ns : List Node) (b : List Bound) (c : End) (i : ℕ) whe
   )
 
 -- dots at a floating place float still
-pub dots_again : (h p : Node) (ps ns : List Node) (b : List Bound) (c : End) (f : Bool) → role_of (kind_of p) ≡ roles.Dots → Goes true h ps ns b c ↔ Goes f h (p ∷ ps) ns b c
+pub dots_again : (h p : Node) (ps : List Part) (ns : List Node) (b : List Bound) (c : End) (f : Bool) → role_of (kind_of p) ≡ roles.Dots → Goes true h ps ns b c ↔ Goes f h (Some p ∷ ps) ns b c
 dots_again h p ps ns b c false role = after_dots h p ps ns b c role
 dots_again h p ps ns b c true role = (
   λ x. (0, (after_dots h p ps ns b c role).0 x),
@@ -183,9 +185,9 @@ dots_again h p ps ns b c true role = (
       let P : List Node → Type 0 = λ ms. Leads h ps ms b c in (k + j, subst P (drop-drop j k ns) y),
 )
 
-pub no_goes : (h p : Node) (ps ns : List Node) (i : ℕ) (b : List Bound) (c : End) → IsOne (role_of (kind_of p)) → length ns ≤ i → Goes true h (p ∷ ps) (drop i ns) b c → ⊥
+pub no_goes : (h p : Node) (ps : List Part) (ns : List Node) (i : ℕ) (b : List Bound) (c : End) → IsOne (role_of (kind_of p)) → length ns ≤ i → Goes true h (Some p ∷ ps) (drop i ns) b c → ⊥
 no_goes h p ps ns i b c one le (k, x) =
-    let P : List Node → Type 0 = λ ms. Leads h (p ∷ ps) ms b c in
+    let P : List Node → Type 0 = λ ms. Leads h (Some p ∷ ps) ms b c in
     (heads h p ps [] b c one).1 (subst P (drop-drop k i ns ∙ drop_all (i + k) ns (omega arith)) x)
 
 pub somewhere_more : (q q' m : Node) (ns : List Node) (all : List Node) (b c : List Bound) → all ≡ m ∷ ns → q' ≡ q → Somewhere q all b c ↔ (Matches q' m b c ⊎ Somewhere q ns b c)
@@ -212,5 +214,5 @@ one_kid [] e = absurd (omega (arith, e))
 one_kid (n ∷ []) e = (n, refl)
 one_kid (n ∷ m ∷ ns) e = absurd (omega (arith, e))
 
-pub no_item : (h p : Node) (ps ns : List Node) (i : ℕ) (b : List Bound) (c : End) → IsOne (role_of (kind_of p)) → length ns ≤ i → Leads h (p ∷ ps) (drop i ns) b c → ⊥
-no_item h p ps ns i b c one le x = let P : List Node → Type 0 = λ ms. Leads h (p ∷ ps) ms b c in (heads h p ps [] b c one).1 (subst P (drop_all i ns le) x)
+pub no_item : (h p : Node) (ps : List Part) (ns : List Node) (i : ℕ) (b : List Bound) (c : End) → IsOne (role_of (kind_of p)) → length ns ≤ i → Leads h (Some p ∷ ps) (drop i ns) b c → ⊥
+no_item h p ps ns i b c one le x = let P : List Node → Type 0 = λ ms. Leads h (Some p ∷ ps) ms b c in (heads h p ps [] b c one).1 (subst P (drop_all i ns le) x)

@@ -1,6 +1,6 @@
 use crate::answer::leaf_of;
 use crate::leaf::Leaf;
-use node_tree::{Kind, List, Memory, Node, Span, Text};
+use node_tree::{Kind, List, Memory, Node, Shape, Span, Text};
 use std::alloc::Global;
 use std::test::Fail;
 
@@ -40,9 +40,9 @@ fn object(alloc: Global, key: &str, value: Node) -> Result<Node, Memory> {
 }
 
 // The members as lines: the range, then each name with its span.
-fn lines(alloc: Global, pattern: &Node, tree: &Node) -> Result<String, Memory> {
+fn lines(alloc: Global, shape: Shape, pattern: &Node, tree: &Node) -> Result<String, Memory> {
     let mut lines = String::new(alloc);
-    match leaf_of(alloc, pattern, tree)? {
+    match leaf_of(alloc, shape, pattern, tree)? {
         Leaf::Crowded => lines.push_str("crowded")?,
         Leaf::Full(set) => {
             for i in 0..set.len() {
@@ -73,7 +73,7 @@ fn dots_take_any_number(rt: HostRuntime) -> Result<(), Fail> {
     tree.kids.push(inner)?;
     tree.kids.push(leaf(alloc, Kind::Number, "1", 7, 8)?)?;
     assert!(rt;
-        lines(alloc, &pattern, &tree)?.as_str()
+        lines(alloc, Shape::Expr, &pattern, &tree)?.as_str()
             == "0..9 $X=1..2\n0..9 $X=3..6\n0..9 $X=7..8\n3..6 $X=4..5\n"
     );
     Ok(())
@@ -96,8 +96,8 @@ fn a_name_stands_for_one_content(rt: HostRuntime) -> Result<(), Fail> {
         5,
         &[(Kind::Number, "1", 1, 2), (Kind::Number, "2", 3, 4)],
     )?;
-    assert!(rt; lines(alloc, &pattern, &same)?.as_str() == "0..5 $X=1..2\n");
-    assert!(rt; lines(alloc, &pattern, &other)?.as_str() == "");
+    assert!(rt; lines(alloc, Shape::Expr, &pattern, &same)?.as_str() == "0..5 $X=1..2\n");
+    assert!(rt; lines(alloc, Shape::Expr, &pattern, &other)?.as_str() == "");
     Ok(())
 }
 
@@ -115,7 +115,7 @@ fn a_deep_pattern_matches_once(rt: HostRuntime) -> Result<(), Fail> {
     )?;
     let mut tree = object(alloc, "\"k", value)?;
     tree.span.to = 11;
-    assert!(rt; lines(alloc, &pattern, &tree)?.as_str() == "0..11\n");
+    assert!(rt; lines(alloc, Shape::Expr, &pattern, &tree)?.as_str() == "0..11\n");
     Ok(())
 }
 
@@ -129,7 +129,7 @@ fn an_empty_run_stands_at_the_start(rt: HostRuntime) -> Result<(), Fail> {
         &[(Kind::MetaDots, "$...A", 0, 0), (Kind::Number, "2", 0, 0)],
     )?;
     let tree = array(alloc, 0, 3, &[(Kind::Number, "2", 1, 2)])?;
-    assert!(rt; lines(alloc, &pattern, &tree)?.as_str() == "0..3 $...A=0..0\n");
+    assert!(rt; lines(alloc, Shape::Expr, &pattern, &tree)?.as_str() == "0..3 $...A=0..0\n");
     Ok(())
 }
 
@@ -141,7 +141,7 @@ fn a_lone_name_matches_expressions(rt: HostRuntime) -> Result<(), Fail> {
     let mut tree = object(alloc, "\"a", one)?;
     tree.span.to = 7;
     assert!(rt;
-        lines(alloc, &pattern, &tree)?.as_str() == "0..7 $X=0..7\n1..4 $X=1..4\n5..6 $X=5..6\n"
+        lines(alloc, Shape::Expr, &pattern, &tree)?.as_str() == "0..7 $X=0..7\n1..4 $X=1..4\n5..6 $X=5..6\n"
     );
     Ok(())
 }
@@ -160,8 +160,8 @@ fn more_than_ten_thousand_are_crowded(rt: HostRuntime) -> Result<(), Fail> {
     let alloc = rt.alloc();
     let pattern = leaf(alloc, Kind::Number, "0", 0, 0)?;
     let full = zeros(alloc, 10000)?;
-    assert!(rt; matches!(leaf_of(alloc, &pattern, &full)?, Leaf::Full(_)));
+    assert!(rt; matches!(leaf_of(alloc, Shape::Expr, &pattern, &full)?, Leaf::Full(_)));
     let crowded = zeros(alloc, 10001)?;
-    assert!(rt; matches!(leaf_of(alloc, &pattern, &crowded)?, Leaf::Crowded));
+    assert!(rt; matches!(leaf_of(alloc, Shape::Expr, &pattern, &crowded)?, Leaf::Crowded));
     Ok(())
 }
