@@ -1,6 +1,5 @@
 -- The members of the states in which a search for runs ends.
-use Rattle.std.proofs.Common.{◌≡◌, ◌⊎◌, inl, inr, ◌↔◌, ℕ, ◌+◌, ◌<◌, ◌≤◌, List, [], ◌∷◌, length, drop, get_or, refl, sym, ap, ◌∙◌, subst, arith, length-drop, Bool, false}
-
+use Rattle.std.proofs.Common.{◌≡◌, ◌⊎◌, inl, inr, ◌↔◌, ℕ, ◌+◌, ◌<◌, ◌≤◌, List, [], length, drop, get_or, refl, sym, ap, ◌∙◌, subst, arith, length-drop, Bool, false}
 use Rattle.node_tree.specs.declared.node.Node.{Node}
 use Rattle.node_tree.specs.Tree.{kids_of}
 use Rattle.meta_bind.specs.declared.bound.Bound.{Bound}
@@ -8,7 +7,7 @@ use Rattle.tree_match.specs.declared.aim.Aim.{Aim}
 use Rattle.tree_match.specs.declared.aim.Aim.TheVariants.{Run}
 use Rattle.tree_match.specs.declared.state.State.{State}
 use Rattle.tree_match.specs.Relation.{run_span}
-use Rattle.tree_match.specs.Fronts.{End, MatchesFront, no_part_front}
+use Rattle.tree_match.specs.Fronts.{End, no_part_front}
 use Rattle.tree_match.specs.Aims.{RunTo}
 use Rattle.tree_match.specs.Members.{Member, kids_between}
 use Rattle.tree_match.specs.States.{Goes, MemberAfter, MemberFrom}

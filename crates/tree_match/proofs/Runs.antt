@@ -45,17 +45,19 @@ module _ (p h : Node) (from : ℕ) (m : Member) (begins : BeginsWithDots (kids_o
         let here : f.nodes ≡ kids_between h from gives.end =
         sym (take_front f.nodes end.0) ∙ ap (take (length f.nodes)) (sym f.is) ∙ ap (λ (k : ℕ). take k (drop from (kids_of h))) many in
         let P : List Node → Type 0 = λ ns. MatchesList h (parts_of p) ns [] end.1 in
-        let Q : List Bound → Type 0 = λ b. MatchesList h (parts_of p) (kids_between h from gives.end) [] b in
-        (record {
-          from = from;
-          end = gives.end;
-          some = some;
-          within = within;
-          range = gives.range;
-          matches = subst Q (sym gives.binding) (subst P here f.matches);
-          begins = begins;
-          ends = λ dots. absurd (undotted dots);
-        }, refl),
+        let Q : List Bound → Type 0 = λ b. MatchesList h (parts_of p) (kids_between h from gives.end) [] b in (
+          record {
+            from = from;
+            end = gives.end;
+            some = some;
+            within = within;
+            range = gives.range;
+            matches = subst Q (sym gives.binding) (subst P here f.matches);
+            begins = begins;
+            ends = λ dots. absurd (undotted dots);
+          },
+          refl,
+        ),
     λ (r, is).
         let P : ℕ → Type 0 = λ i. MemberAfter (Run i) false h (parts_of p) i [] m in
         subst P is ((drop r.end (kids_of h), m.1), record { end = r.end; some = r.some; within = r.within; left = refl; range = r.range; binding = refl }, front_of p h m r),
@@ -69,17 +71,19 @@ module _ (p h : Node) (from : ℕ) (m : Member) (begins : BeginsWithDots (kids_o
         let Q : List Bound → Type 0 = λ b. MatchesList h (parts_of p) (drop from (kids_of h)) [] b in
         let here = subst Q (sym binding) ((whole_front h (parts_of p) (drop from (kids_of h)) [] end.1).0 (subst P all x)) in
         let same = to_the_last h from (length (kids_of h)) refl in
-        let R : List Node → Type 0 = λ ns. MatchesList h (parts_of p) ns [] m.1 in
-        (record {
-          from = from;
-          end = length (kids_of h);
-          some = lt;
-          within = omega arith;
-          range = range ∙ ap (run_span h) (sym same);
-          matches = subst R (sym same) here;
-          begins = begins;
-          ends = λ _. refl;
-        }, refl),
+        let R : List Node → Type 0 = λ ns. MatchesList h (parts_of p) ns [] m.1 in (
+          record {
+            from = from;
+            end = length (kids_of h);
+            some = lt;
+            within = omega arith;
+            range = range ∙ ap (run_span h) (sym same);
+            matches = subst R (sym same) here;
+            begins = begins;
+            ends = λ _. refl;
+          },
+          refl,
+        ),
     λ (r, is).
         let same = to_the_last h r.from r.end (r.ends dots) in
         let R : List Node → Type 0 = λ ns. MatchesList h (parts_of p) ns [] m.1 in
