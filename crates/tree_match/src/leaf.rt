@@ -1,14 +1,16 @@
 //! The set of members of a pattern in a file.
 
-ghost use Rattle.std.specs.Prelude.{◌≡◌, ◌≤◌, [], length, slice_get, IfOk, MatchOption};
+ghost use Rattle.std.specs.Prelude.{◌≡◌, [], length, slice_get, IfOk};
 ghost use Rattle.std.specs.Option.{option_copied};
 ghost use Rattle.node_tree.specs.Tree.{pre_of};
-ghost use Rattle.tree_match.specs.Members.{MemberIn};
-ghost use Rattle.tree_match.specs.Leaf.{IsWhole, HasMore};
+ghost use Rattle.node_tree.specs.Blocks.{blocks_of};
+ghost use Rattle.tree_match.specs.Members.{MemberAt, MemberRun, MemberIn, MemberOf};
+ghost use Rattle.tree_match.specs.Leaf.{IsFound};
 
-use crate::spread::add_node;
+use crate::expression::add_node;
+use crate::run::add_block;
 use meta_bind::{Binding, Trail};
-use node_tree::{List, Memory, Node, Span, Twin};
+use node_tree::{List, Memory, Node, Shape, Span, Twin};
 use std::alloc::Global;
 use std::marker::Model;
 
@@ -91,14 +93,47 @@ impl Twin for Leaf {
 /// The members with borrowed bindings, or none where there are more than 10,000.
 pub fn members_of<'t>(
     alloc: Global,
+    shape: Shape,
     pattern: &'t Node,
     tree: &'t Node,
 ) -> Result<Option<List<(Span, Trail<'t>)>>, Memory>
-    ensures { IfOk result (λ o. MatchOption o (HasMore (λ m. MemberIn pattern.now (pre_of tree.now) m) 10000) (λ l. IsWhole (λ m. MemberIn pattern.now (pre_of tree.now) m) l × (length l ≤ 10000))) }
+    ensures { IfOk result (λ found. IsFound (MemberOf shape pattern.now tree.now) found) }
+{
+    match shape {
+        Shape::Expr => members_at_nodes(alloc, pattern, tree),
+        Shape::Run => members_in_blocks(alloc, pattern, tree),
+    }
+}
+
+// The same for an expression's pattern.
+fn members_at_nodes<'t>(
+    alloc: Global,
+    pattern: &'t Node,
+    tree: &'t Node,
+) -> Result<Option<List<(Span, Trail<'t>)>>, Memory>
+    ensures { IfOk result (λ found. IsFound (MemberIn (MemberAt pattern.now) (pre_of tree.now)) found) }
 {
     let mut members = List::new(alloc);
     for node in tree.walk()? {
         add_node(alloc, pattern, node, &mut members, MOST)?;
+        if members.len() > MOST {
+            return Ok(None);
+        }
+    }
+    Ok(Some(members))
+}
+
+// The same for a run's pattern.
+fn members_in_blocks<'t>(
+    alloc: Global,
+    pattern: &'t Node,
+    tree: &'t Node,
+) -> Result<Option<List<(Span, Trail<'t>)>>, Memory>
+    ensures { IfOk result (λ found. IsFound (MemberIn (MemberRun pattern.now) (blocks_of tree.now)) found) }
+{
+    let mut members = List::new(alloc);
+    for block in tree.blocks()? {
+        add_block(alloc, pattern, block, &mut members, MOST)?;
         if members.len() > MOST {
             return Ok(None);
         }
