@@ -5,4 +5,6 @@ pub mod Numerals
 pub mod Parts
 pub mod Table
 pub mod Build
+pub mod Sets
+pub mod Reading
 pub mod Comparisons

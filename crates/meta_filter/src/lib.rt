@@ -2,8 +2,13 @@
 #![tactic(auto)]
 
 mod fault;
+mod layer;
+mod lex;
+mod numeral;
 mod part;
 mod read;
+mod reader;
+mod table;
 mod token;
 
 pub use fault::CompareFault;

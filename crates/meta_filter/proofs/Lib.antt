@@ -1,0 +1,4 @@
+pub mod Certificate
+pub mod Numbers
+pub mod Passes
+pub mod Steps
