@@ -1,6 +1,6 @@
 //! The numbers that digits write.
 
-ghost use Rattle.std.specs.Prelude.{◌≡◌, ◌<◌, ◌≤◌, ◌^◌};
+ghost use Rattle.std.specs.Prelude.{◌≡◌, ◌+◌, ◌*◌, ◌<◌, ◌≤◌, ◌^◌};
 ghost use Rattle.std.specs.Char.{digit_value};
 ghost use Rattle.std.specs.Option.{SomeIff};
 ghost use Rattle.meta_filter.specs.Numerals as spec;
@@ -18,6 +18,14 @@ fn digit_of(byte: u8) -> u128
     u128::from(value)
 }
 
+/// The number with a further digit, if it fits.
+fn followed(value: u128, radix: u128, byte: u8) -> Option<u128>
+    ensures { SomeIff result (value * radix + digit_value byte < 2 ^ 128) (value * radix + digit_value byte) }
+{
+    let shifted = value.checked_mul(radix)?;
+    shifted.checked_add(digit_of(byte))
+}
+
 /// The number that digits write in a radix, where a `_` counts for nothing, if it fits.
 pub fn magnitude(radix: u128, text: &[u8]) -> Option<u128>
     requires { 1 ≤ radix }
@@ -26,7 +34,10 @@ pub fn magnitude(radix: u128, text: &[u8]) -> Option<u128>
     let mut value: u128 = 0;
     for byte in text {
         if *byte != b'_' {
-            value = value.checked_mul(radix)?.checked_add(digit_of(*byte))?;
+            let Some(next) = followed(value, radix, *byte) else {
+                return None;
+            };
+            value = next;
         }
     }
     Some(value)

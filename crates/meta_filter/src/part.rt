@@ -11,7 +11,7 @@ use rule_form::{Amount, ArithOp, Boxed, CompareOp, Comparison};
 use std::alloc::Global;
 
 /// How deep a comparison may be, parentheses counted.
-const MAX_DEPTH: usize = 100;
+pub const MAX_DEPTH: usize = 100;
 
 /// What a part stands for.
 #[derive(Drop)]

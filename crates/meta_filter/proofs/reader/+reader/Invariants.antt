@@ -1,9 +1,11 @@
-use Rattle.std.proofs.Common.{◌≡◌, ℕ, suc, length, ◌≤◌, ◌-◌, ◌+◌, ◌*◌, Some}
+use Rattle.std.proofs.Common.{◌≡◌, ℕ, suc, true, length, ◌<◌, ◌≤◌, ◌-◌, ◌+◌, ◌*◌, Some}
 use Rattle.grammar.specs.Reader.{◌>>=◌}
 use Rattle.meta_filter.specs.declared.layer.Layer.{Layer}
 use Rattle.meta_filter.specs.declared.layer.Layer.TheVariants as layers
-use Rattle.meta_filter.specs.Table.{Chain}
-use Rattle.meta_filter.specs.Build.{from_left, linked}
+use Rattle.grammar.specs.Rule.{has}
+use Rattle.meta_filter.specs.Words.{class}
+use Rattle.meta_filter.specs.Table.{Chain, compares}
+use Rattle.meta_filter.specs.Build.{token_at, from_left, linked}
 use Rattle.meta_filter.specs.Reading.{level, level_of}
 use Rattle.meta_filter.proofs.Steps.{left_rest, chain_rest}
 use Rattle.meta_filter.proofs.reader.+reader.Given as goal
@@ -45,6 +47,8 @@ abbrev pub invariant-chain-loop-turn : goal.invariant-chain-loop-turn
 invariant-chain-loop-turn l = record {
   within : l.end ≤ length l.tokens;
   shallow : l.fn.at + l.depth ≤ l.end;
+  begun : l.turn ≡ 0 → has compares (class (token_at l.fn.tokens l.end).word) ≡ true;
+  deeper : 0 < l.turn → l.fn.at + l.depth < l.end;
   turns : l.turn ≤ suc (length l.tokens);
   rest : level l.fn.tokens l.fn.room Chain l.fn.at ≡ (chain_rest l.fn.tokens l.fn.room (suc (length l.fn.tokens) - l.turn) l.end >>= λ y. Some (linked l.depth l.links y.0, y.1));
 }
