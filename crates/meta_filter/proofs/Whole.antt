@@ -2,7 +2,8 @@
 use Rattle.std.proofs.Common.{◌≡◌, ℕ, zero, suc, ◌<◌, ◌≤◌, List, [], ◌∷◌, length, refl, arith, sym, subst, ap, ◌∙◌, Some, Err}
 use Rattle.std.specs.Prelude.{None, Bool, true, false, cond, ltb}
 use Rattle.rule_form.specs.declared.comparison.Comparison.{Comparison}
-use Rattle.grammar.specs.Rule.{open_at, smaller, brackets_round}
+use Rattle.std.proofs.lemmas.List.{get_or_past}
+use Rattle.grammar.specs.Rule.{has, open_at, brackets_round}
 use Rattle.grammar.proofs.Facts.{none_some, some_pair}
 use Rattle.grammar.proofs.Theorem.{read_piece, piece_read}
 use Rattle.meta_filter.specs.declared.fault.CompareFault.{CompareFault}
@@ -12,7 +13,8 @@ use Rattle.meta_filter.specs.declared.part.Part.{Part}
 use Rattle.meta_filter.specs.declared.part.Meaning.TheVariants.{Truth}
 use Rattle.meta_filter.specs.Lexing.{IsTokensOf}
 use Rattle.meta_filter.specs.Table.{Either, grammar}
-use Rattle.meta_filter.specs.Build.{Piece, part, source, depth_all}
+use Rattle.meta_filter.specs.Words.{class}
+use Rattle.meta_filter.specs.Build.{Piece, part, end_token, source, depth_all}
 use Rattle.meta_filter.specs.Sets.{sets, ranks}
 use Rattle.meta_filter.specs.Reading.{Gives, level, one}
 use Rattle.meta_filter.specs.Comparisons.{IsPartOf, IsComparisonOf, IsFault, GivesComparison}
@@ -40,10 +42,15 @@ all_is_part ts p h shallow = read_piece grammar sets ranks pass depth_all (sourc
 pub read_is_part : (ts : List Token) (p : Part) (j : ℕ) → level ts 102 Either 0 ≡ Some (part p ∷ [], j) → j ≡ length ts → p.depth ≤ 100 → IsPartOf ts p
 read_is_part ts p j h all shallow = all_is_part ts p (subst (λ (k : ℕ). level ts 102 Either 0 ≡ Some (part p ∷ [], k)) all h) shallow
 
+-- no operator stands behind the last token
+stops : (ts : List Token) → has (sets.more Either) ((source ts).cls (length ts)) ≡ false
+unfolding class
+stops ts = rw (get_or_past ts (length ts) end_token (omega arith)) refl
+
 -- the part that the tokens spell is read
 part_is_read : (ts : List Token) (p : Part) → IsPartOf ts p → level ts 102 Either 0 ≡ Some (part p ∷ [], length ts)
 unfolding level
-part_is_read ts p is = piece_read grammar sets ranks pass depth_all (source ts) (deepens ts) (suc (length ts)) Either (part p ∷ []) 0 (length ts) is refl (omega arith)
+part_is_read ts p is = piece_read grammar sets ranks pass depth_all (source ts) (deepens ts) (suc (length ts)) Either (part p ∷ []) 0 (length ts) is (stops ts) (omega arith)
 
 -- two answers of the reader are one
 pub one_part : (ts : List Token) (p q : Part) (j : ℕ) → IsPartOf ts p → level ts 102 Either 0 ≡ Some (part q ∷ [], j) → (p ≡ q) × (length ts ≡ j)
@@ -83,7 +90,7 @@ module _ (text : List ℕ) where
 
     pub no_part : (e : CompareFault) → ((p : Part) → IsPartOf us p → Gives (λ (q : Part). q) (Err e) (Some p)) → (c : Comparison) → IsComparisonOf text c → GivesComparison c (Err e)
     no_part faults.Memory none c is = tt
-    no_part faults.NoComparison none c is = let h : Some (record { depth = is.depth; meaning = Truth c }) ≡ None = none (record { depth = is.depth; meaning = Truth c }) (here c is) in absurd cc
+    no_part faults.NoComparison none c is = none_some _ (sym (none (record { depth = is.depth; meaning = Truth c }) (here c is)))
 
     module _ (p : Part) (one : (q : Part) → IsPartOf us q → Some q ≡ Some p) where
       -- the comparison is what the part that was read stands for

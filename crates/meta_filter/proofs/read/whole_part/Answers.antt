@@ -14,3 +14,8 @@ returns-then-end-tokens-clause-only c = λ p is. absurd (c.if-end-tokens.true (s
 
 pub returns-clause-only : goal.returns-clause-only
 returns-clause-only c = λ p is. ap (λ (q : Part). Some q) (one_part c.args.tokens.now p c.in_ok-part.part c.in_ok-part.end is c.in_ok-part.ensures.gives).0
+
+pub returns-then-part-gt-MAX_DEPTH-clause-only : goal.returns-then-part-gt-MAX_DEPTH-clause-only
+returns-then-part-gt-MAX_DEPTH-clause-only c = λ p is.
+    let d : c.in_ok-part.part.depth ≤ 100 = rw (one_part c.args.tokens.now p c.in_ok-part.part c.in_ok-part.end is c.in_ok-part.ensures.gives).0 at (part_is_shallow c.args.tokens.now p is) in
+    absurd (omega (arith, d, c.if-part-gt-MAX_DEPTH.true))
