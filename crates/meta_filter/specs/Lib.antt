@@ -1,6 +1,7 @@
 pub mod Words
 pub mod Tokens
 pub mod Lexing
+pub mod Arithmetic
 pub mod Numerals
 pub mod Parts
 pub mod Table
@@ -8,3 +9,4 @@ pub mod Build
 pub mod Sets
 pub mod Reading
 pub mod Comparisons
+pub mod Values

@@ -1,6 +1,7 @@
 //! Conditions on what the metavariables of a pattern stand for.
 #![tactic(auto)]
 
+mod arithmetic;
 mod fault;
 mod layer;
 mod lex;

@@ -1,0 +1,79 @@
+-- What comparisons mean, where metavariables are bound.
+use Rattle.std.specs.Prelude.{ℕ, suc, ◌-◌, ◌==◌, nat_le, nat_lt, if◌then◌else◌, Bool, true, false, not, ◌&&◌, ◌||◌, List, [], ◌∷◌, map, length, take, drop, slice_index, Option, Some, None, ℤ, neg_ℤ}
+use Rattle.grammar.specs.Reader.{◌>>=◌}
+use Rattle.node_tree.specs.declared.node.Node.{Node}
+use Rattle.node_tree.specs.declared.kind.Kind.{Kind}
+use Rattle.node_tree.specs.declared.kind.Kind.TheVariants.{Str}
+use Rattle.node_tree.specs.declared.span.Span.{Span}
+use Rattle.node_tree.specs.Tree.{kind_of, text_of}
+use Rattle.meta_bind.specs.declared.bound.Bound.{Bound}
+use Rattle.meta_bind.specs.Bounds.{bound_at}
+use Rattle.rule_form.specs.declared.comparison.Comparison.{Comparison, Comparison-F, fold-Comparison}
+use Rattle.rule_form.specs.declared.comparison.Comparison.TheOpen as truths
+use Rattle.rule_form.specs.declared.comparison.Amount.{Amount, Amount-F, fold-Amount}
+use Rattle.rule_form.specs.declared.comparison.Amount.TheOpen as amounts
+use Rattle.rule_form.specs.declared.comparison.CompareOp.{CompareOp}
+use Rattle.meta_filter.specs.Arithmetic.{within, computed, compared}
+use Rattle.meta_filter.specs.Numerals.{written}
+
+-- ---- what metavariables write
+
+-- the bytes of a span, if it lies in them
+abbrev pub text_in : List ℕ → Span → Option (List ℕ)
+text_in bytes span = if nat_le span.from span.to && nat_le span.to (length bytes) then Some (take (span.to - span.from) (drop span.from bytes)) else None
+
+-- the content of a Str without prefix, whose text is a quote and the content
+abbrev pub plain_content : Kind → List ℕ → Option (List ℕ)
+plain_content Str text = if slice_index text 0 == 34 then Some (drop 1 text) else None
+plain_content _ text = None
+
+-- the content of a bound that is such a Str
+abbrev pub content_in : List Node → Option (List ℕ)
+content_in (n ∷ []) = plain_content (kind_of n) (text_of n)
+content_in _ = None
+
+abbrev pub bound_number : List ℕ → Option Bound → Option ℤ
+bound_number bytes bound = bound >>= λ b. text_in bytes b.span >>= written
+
+abbrev pub content_number : Option Bound → Option ℤ
+content_number bound = bound >>= λ b. content_in b.nodes >>= written
+
+-- ---- amounts and truths: what has a part without a value has none itself
+
+-- whether each two neighbours compare as the operator between them says
+abbrev pub pairs_hold : List ℤ → List CompareOp → Bool
+pairs_hold (x ∷ y ∷ ns) (op ∷ ops) = compared op x y && pairs_hold (y ∷ ns) ops
+pairs_hold _ _ = true
+
+-- a chain has at least one operator, and one number more than operators; one of another shape doesn't hold
+abbrev pub chain_holds : List ℤ → List CompareOp → Bool
+chain_holds ns ops = (not (length ops == 0) && length ns == suc (length ops)) && pairs_hold ns ops
+
+module _ (binding : List Bound) (bytes : List ℕ) where
+  abbrev pub amount_step : Amount-F (Option ℤ) → Option ℤ
+  amount_step (amounts.Number n) = Some n
+  amount_step (amounts.Value name) = bound_number bytes (bound_at name binding)
+  amount_step (amounts.Content name) = content_number (bound_at name binding)
+  amount_step (amounts.Negated x) = x >>= λ n. within (neg_ℤ n)
+  amount_step (amounts.Arith op x y) = x >>= λ m. y >>= λ n. computed op m n
+
+  unfoldable pub value_of : Amount → Option ℤ
+  value_of = fold-Amount (Option ℤ) amount_step
+
+  -- the values of all of them
+  abbrev pub values_of : List Amount → Option (List ℤ)
+  values_of [] = Some []
+  values_of (x ∷ xs) = value_of x >>= λ n. values_of xs >>= λ ns. Some (n ∷ ns)
+
+  abbrev pub truth_step : Comparison-F (Option Bool) → Option Bool
+  truth_step (truths.Or x y) = x >>= λ a. y >>= λ b. Some (a || b)
+  truth_step (truths.And x y) = x >>= λ a. y >>= λ b. Some (a && b)
+  truth_step (truths.Not x) = x >>= λ a. Some (not a)
+  truth_step (truths.Chain xs ops) = values_of xs >>= λ ns. Some (chain_holds ns ops)
+
+  unfoldable pub truth_of : Comparison → Option Bool
+  truth_of = fold-Comparison (Option Bool) truth_step
+
+  -- a comparison without a value doesn't hold
+  abbrev pub holds : Comparison → Bool
+  holds c = elim (truth_of c) [ Some a ↦ a | None ↦ false ]
