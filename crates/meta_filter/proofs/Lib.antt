@@ -5,3 +5,4 @@ pub mod Steps
 pub mod Turns
 pub mod Depths
 pub mod Whole
+pub mod Remainders

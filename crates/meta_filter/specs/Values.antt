@@ -32,11 +32,13 @@ abbrev pub content_in : List Node → Option (List ℕ)
 content_in (n ∷ []) = plain_content (kind_of n) (text_of n)
 content_in _ = None
 
-abbrev pub bound_number : List ℕ → Option Bound → Option ℤ
-bound_number bytes bound = bound >>= λ b. text_in bytes b.span >>= written
+-- the number that the bytes of a span write
+abbrev pub number_in : List ℕ → Span → Option ℤ
+number_in bytes span = text_in bytes span >>= written
 
-abbrev pub content_number : Option Bound → Option ℤ
-content_number bound = bound >>= λ b. content_in b.nodes >>= written
+-- the number that the content of such a Str writes
+abbrev pub number_inside : List Node → Option ℤ
+number_inside nodes = content_in nodes >>= written
 
 -- ---- amounts and truths: what has a part without a value has none itself
 
@@ -52,8 +54,8 @@ chain_holds ns ops = (not (length ops == 0) && length ns == suc (length ops)) &&
 module _ (binding : List Bound) (bytes : List ℕ) where
   abbrev pub amount_step : Amount-F (Option ℤ) → Option ℤ
   amount_step (amounts.Number n) = Some n
-  amount_step (amounts.Value name) = bound_number bytes (bound_at name binding)
-  amount_step (amounts.Content name) = content_number (bound_at name binding)
+  amount_step (amounts.Value name) = bound_at name binding >>= λ b. number_in bytes b.span
+  amount_step (amounts.Content name) = bound_at name binding >>= λ b. number_inside b.nodes
   amount_step (amounts.Negated x) = x >>= λ n. within (neg_ℤ n)
   amount_step (amounts.Arith op x y) = x >>= λ m. y >>= λ n. computed op m n
 
@@ -65,11 +67,15 @@ module _ (binding : List Bound) (bytes : List ℕ) where
   values_of [] = Some []
   values_of (x ∷ xs) = value_of x >>= λ n. values_of xs >>= λ ns. Some (n ∷ ns)
 
+  -- all the numbers are computed, whatever the chain's shape
+  abbrev pub chain_truth : List Amount → List CompareOp → Option Bool
+  chain_truth xs ops = values_of xs >>= λ ns. Some (chain_holds ns ops)
+
   abbrev pub truth_step : Comparison-F (Option Bool) → Option Bool
   truth_step (truths.Or x y) = x >>= λ a. y >>= λ b. Some (a || b)
   truth_step (truths.And x y) = x >>= λ a. y >>= λ b. Some (a && b)
   truth_step (truths.Not x) = x >>= λ a. Some (not a)
-  truth_step (truths.Chain xs ops) = values_of xs >>= λ ns. Some (chain_holds ns ops)
+  truth_step (truths.Chain xs ops) = chain_truth xs ops
 
   unfoldable pub truth_of : Comparison → Option Bool
   truth_of = fold-Comparison (Option Bool) truth_step

@@ -40,6 +40,7 @@ fn quotient(x: i128, y: i128) -> Option<i128>
 }
 
 /// What the quotient that is rounded down leaves.
+#[tactic(auto, using(crate::proofs::Remainders::apart))]
 fn remainder(x: i128, y: i128) -> Option<i128>
     requires { 0 < unsigned_abs y }
     ensures { result ≡ spec.within (spec.floor_remainder x y) }
@@ -63,20 +64,8 @@ pub fn computed(op: ArithOp, x: i128, y: i128) -> Option<i128>
         ArithOp::Plus => x.checked_add(y),
         ArithOp::Minus => x.checked_sub(y),
         ArithOp::Times => x.checked_mul(y),
-        ArithOp::Divide => {
-            if y == 0 {
-                None
-            } else {
-                quotient(x, y)
-            }
-        }
-        ArithOp::Remainder => {
-            if y == 0 {
-                None
-            } else {
-                remainder(x, y)
-            }
-        }
+        ArithOp::Divide => { if y == 0 { None } else { quotient(x, y) } }
+        ArithOp::Remainder => { if y == 0 { None } else { remainder(x, y) } }
     }
 }
 

@@ -3,6 +3,7 @@
 
 mod arithmetic;
 mod fault;
+mod holds;
 mod layer;
 mod lex;
 mod numeral;
@@ -13,4 +14,5 @@ mod table;
 mod token;
 
 pub use fault::CompareFault;
+pub use holds::holds_comparison;
 pub use read::read_comparison;
