@@ -6,3 +6,4 @@ pub mod Turns
 pub mod Depths
 pub mod Whole
 pub mod Remainders
+pub mod Layers

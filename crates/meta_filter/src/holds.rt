@@ -39,6 +39,7 @@ fn number_inside(nodes: &[Node]) -> Option<i128>
 }
 
 /// The value of an amount, if it has one.
+#[tactic(auto, using(crate::proofs::Layers::value_number, crate::proofs::Layers::value_bound, crate::proofs::Layers::value_content, crate::proofs::Layers::value_negated, crate::proofs::Layers::value_arith))]
 fn value_of(amount: &Amount, binding: &Binding, bytes: &[u8]) -> Option<i128>
     ensures { result ≡ spec.value_of binding.now bytes.now amount.now }
 {
@@ -99,6 +100,7 @@ fn chain_truth(
 }
 
 /// Whether a comparison is true, if all its parts have values.
+#[tactic(auto, using(crate::proofs::Layers::truth_or, crate::proofs::Layers::truth_and, crate::proofs::Layers::truth_not, crate::proofs::Layers::truth_chain))]
 fn truth_of(comparison: &Comparison, binding: &Binding, bytes: &[u8]) -> Option<bool>
     ensures { result ≡ spec.truth_of binding.now bytes.now comparison.now }
 {
