@@ -1,5 +1,5 @@
 -- What an amount or a comparison of each kind means, by its parts.
-use Rattle.std.proofs.Common.{◌≡◌, ℕ, List, ap, sym, ◌∙◌}
+use Rattle.std.proofs.Common.{◌≡◌, ℕ, List, ap, sym, refl, ◌∙◌}
 use Rattle.std.specs.Prelude.{Option, Some, Bool, not, ◌&&◌, ◌||◌, ℤ, neg_ℤ}
 use Rattle.grammar.specs.Reader.{◌>>=◌}
 use Rattle.meta_bind.specs.declared.bound.Bound.{Bound}
@@ -53,3 +53,6 @@ module _ (binding : List Bound) (bytes : List ℕ) where
   pub truth_chain : (xs : List Amount) (ops : List CompareOp) → truth_of binding bytes (truths.Chain xs ops) ≡ chain_truth binding bytes xs ops
   unfolding truth_of
   truth_chain xs ops = ap (truth_of binding bytes) (sym (rolls-Chain xs ops)) ∙ fold-roll-Comparison (Option Bool) (truth_step binding bytes) (truth_layers.Chain xs ops)
+
+  pub arith_here : (x a b : Amount) (op : ArithOp) (m n : ℤ) → x ≡ amounts.Arith op a b → value_of binding bytes a ≡ Some m → value_of binding bytes b ≡ Some n → computed op m n ≡ value_of binding bytes x
+  arith_here x a b op m n is left right = rw (is, value_arith op a b, left, right) refl

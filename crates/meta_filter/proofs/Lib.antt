@@ -7,3 +7,4 @@ pub mod Depths
 pub mod Whole
 pub mod Remainders
 pub mod Layers
+pub mod Contents

@@ -22,23 +22,19 @@ use Rattle.meta_filter.specs.Numerals.{written}
 abbrev pub text_in : List ℕ → Span → Option (List ℕ)
 text_in bytes span = if nat_le span.from span.to && nat_le span.to (length bytes) then Some (take (span.to - span.from) (drop span.from bytes)) else None
 
--- the content of a Str without prefix, whose text is a quote and the content
-abbrev pub plain_content : Kind → List ℕ → Option (List ℕ)
-plain_content Str text = if slice_index text 0 == 34 then Some (drop 1 text) else None
-plain_content _ text = None
-
--- the content of a bound that is such a Str
-abbrev pub content_in : List Node → Option (List ℕ)
-content_in (n ∷ []) = plain_content (kind_of n) (text_of n)
-content_in _ = None
-
 -- the number that the bytes of a span write
 abbrev pub number_in : List ℕ → Span → Option ℤ
 number_in bytes span = text_in bytes span >>= written
 
--- the number that the content of such a Str writes
+-- the number that the content of a Str without prefix writes, whose text is a quote and the content
+abbrev pub string_number : Kind → List ℕ → Option ℤ
+string_number Str text = if slice_index text 0 == 34 then written (drop 1 text) else None
+string_number _ text = None
+
+-- the same of nodes, where they are one Str
 abbrev pub number_inside : List Node → Option ℤ
-number_inside nodes = content_in nodes >>= written
+number_inside (n ∷ []) = string_number (kind_of n) (text_of n)
+number_inside _ = None
 
 -- ---- amounts and truths: what has a part without a value has none itself
 

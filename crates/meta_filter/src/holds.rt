@@ -1,7 +1,7 @@
 //! Whether a comparison holds.
 
 ghost use Rattle.std.specs.Prelude.{◌≡◌, [], ◌∷◌, map, drop};
-ghost use Rattle.node_tree.specs.Tree.{content_of};
+ghost use Rattle.node_tree.specs.Tree.{content_of, kind_of, text_of};
 ghost use Rattle.meta_filter.specs.Values as spec;
 
 use crate::arithmetic::{compared, computed};
@@ -20,14 +20,10 @@ fn number_in(bytes: &[u8], span: Span) -> Option<i128>
     }
 }
 
-/// The number that the content of a string writes, if the nodes are one string without prefix that does.
-fn number_inside(nodes: &[Node]) -> Option<i128>
-    ensures { result ≡ spec.number_inside (map content_of nodes.now) }
+/// The number that the content of a string without prefix writes, if the node is one.
+fn string_number(node: &Node) -> Option<i128>
+    ensures { result ≡ spec.string_number (kind_of node.now) (text_of node.now) }
 {
-    if nodes.len() != 1 {
-        return None;
-    }
-    let node = &nodes[0];
     if node.kind != Kind::Str {
         return None;
     }
@@ -36,6 +32,20 @@ fn number_inside(nodes: &[Node]) -> Option<i128>
         return None;
     }
     written(behind(text, 1))
+}
+
+/// The number that the content of a string writes, if the nodes are one string without prefix that does.
+#[tactic(auto, using(crate::proofs::Contents::one_node, crate::proofs::Contents::more_nodes))]
+fn number_inside(nodes: &[Node]) -> Option<i128>
+    ensures { result ≡ spec.number_inside (map content_of nodes.now) }
+{
+    let Some((node, others)) = nodes.split_first() else {
+        return None;
+    };
+    if !others.is_empty() {
+        return None;
+    }
+    string_number(node)
 }
 
 /// The value of an amount, if it has one.
