@@ -1,10 +1,11 @@
 -- Contents of nodes keep what strings write.
 use Rattle.std.proofs.Common.{◌≡◌, ◌<◌, ℕ, List, [], ◌∷◌, map, length, refl, ap, ◌∙◌, arith}
-use Rattle.std.specs.Prelude.{None}
+use Rattle.std.specs.Prelude.{None, drop, slice_index}
 use Rattle.node_tree.specs.declared.node.Node.{Node, out-Node, out-roll-Node}
 use Rattle.node_tree.specs.declared.kind.Kind.{Kind}
-use Rattle.node_tree.specs.declared.kind.Kind.TheVariants.{Id}
+use Rattle.node_tree.specs.declared.kind.Kind.TheVariants.{Id, Str}
 use Rattle.node_tree.specs.Tree.{kind_of, text_of, kids_of, no_span, content_kind, content_of, content_is}
+use Rattle.meta_filter.specs.Numerals.{written}
 use Rattle.meta_filter.specs.Values.{string_number, number_inside}
 
 kept : (k : Kind) (text : List ℕ) → string_number (content_kind k) text ≡ string_number k text
@@ -24,3 +25,6 @@ one_node n (m ∷ ns) h = absurd (omega (arith, h))
 pub more_nodes : (n : Node) (ns : List Node) → 0 < length ns → number_inside (map content_of (n ∷ ns)) ≡ None
 more_nodes n [] h = absurd (omega (arith, h))
 more_nodes n (m ∷ ns) h = refl
+
+pub quoted : (k : Kind) (text content : List ℕ) → k ≡ Str → slice_index text 0 ≡ 34 → content ≡ drop 1 text → written content ≡ string_number k text
+quoted k text content is quote behind = rw (is, quote, behind) refl

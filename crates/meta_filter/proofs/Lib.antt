@@ -8,3 +8,4 @@ pub mod Whole
 pub mod Remainders
 pub mod Layers
 pub mod Contents
+pub mod Links

@@ -43,9 +43,9 @@ abbrev pub pairs_hold : List ℤ → List CompareOp → Bool
 pairs_hold (x ∷ y ∷ ns) (op ∷ ops) = compared op x y && pairs_hold (y ∷ ns) ops
 pairs_hold _ _ = true
 
--- a chain has at least one operator, and one number more than operators; one of another shape doesn't hold
-abbrev pub chain_holds : List ℤ → List CompareOp → Bool
-chain_holds ns ops = (not (length ops == 0) && length ns == suc (length ops)) && pairs_hold ns ops
+-- a chain that is read has at least one operator, and one number more than operators
+abbrev pub is_chain : List Amount → List CompareOp → Bool
+is_chain xs ops = not (length ops == 0) && length xs == suc (length ops)
 
 module _ (binding : List Bound) (bytes : List ℕ) where
   abbrev pub amount_step : Amount-F (Option ℤ) → Option ℤ
@@ -63,9 +63,13 @@ module _ (binding : List Bound) (bytes : List ℕ) where
   values_of [] = Some []
   values_of (x ∷ xs) = value_of x >>= λ n. values_of xs >>= λ ns. Some (n ∷ ns)
 
-  -- all the numbers are computed, whatever the chain's shape
+  -- whether a number and those that follow compare as the operators between them say
+  abbrev pub links_truth : ℤ → List Amount → List CompareOp → Option Bool
+  links_truth n xs ops = values_of xs >>= λ ns. Some (pairs_hold (n ∷ ns) ops)
+
+  -- all the numbers are computed, whatever the chain's shape; one of another shape is false
   abbrev pub chain_truth : List Amount → List CompareOp → Option Bool
-  chain_truth xs ops = values_of xs >>= λ ns. Some (chain_holds ns ops)
+  chain_truth xs ops = values_of xs >>= λ ns. Some (is_chain xs ops && pairs_hold ns ops)
 
   abbrev pub truth_step : Comparison-F (Option Bool) → Option Bool
   truth_step (truths.Or x y) = x >>= λ a. y >>= λ b. Some (a || b)

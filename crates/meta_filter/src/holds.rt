@@ -85,6 +85,27 @@ fn pair_holds(ops: &[CompareOp], at: usize, x: i128, y: i128) -> bool
     }
 }
 
+/// Whether a number and those that follow compare as the operators between them say, if all have values.
+fn links_truth(
+    first: i128,
+    others: &[Amount],
+    ops: &[CompareOp],
+    binding: &Binding,
+    bytes: &[u8],
+) -> Option<bool>
+    ensures { result ≡ spec.links_truth binding.now bytes.now first others.now ops.now }
+{
+    let mut before = first;
+    let mut holds = true;
+    for (i, amount) in others.iter().enumerate() {
+        let value = value_of(amount, binding, bytes)?;
+        let pair = pair_holds(ops, i, before, value);
+        holds &= pair;
+        before = value;
+    }
+    Some(holds)
+}
+
 /// Whether a chain holds, if all its amounts have values.
 fn chain_truth(
     amounts: &[Amount],
@@ -97,16 +118,10 @@ fn chain_truth(
     let Some((first, others)) = amounts.split_first() else {
         return Some(false);
     };
-    let mut before = value_of(first, binding, bytes)?;
-    let mut holds = !ops.is_empty() && others.len() == ops.len();
-    for (i, amount) in others.iter().enumerate() {
-        let value = value_of(amount, binding, bytes)?;
-        if !pair_holds(ops, i, before, value) {
-            holds = false;
-        }
-        before = value;
-    }
-    Some(holds)
+    let number = value_of(first, binding, bytes)?;
+    let links = links_truth(number, others, ops, binding, bytes)?;
+    let is_chain = !ops.is_empty() && others.len() == ops.len();
+    Some(is_chain && links)
 }
 
 /// Whether a comparison is true, if all its parts have values.
