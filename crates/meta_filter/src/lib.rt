@@ -16,3 +16,6 @@ mod token;
 pub use fault::CompareFault;
 pub use holds::holds_comparison;
 pub use read::read_comparison;
+
+#[cfg(test)]
+mod tests;
