@@ -9,3 +9,4 @@ pub mod Remainders
 pub mod Layers
 pub mod Contents
 pub mod Links
+pub mod Floors

@@ -1,5 +1,5 @@
 -- Arithmetic on whole numbers, as far as they fit in 128 bits with a sign.
-use Rattle.std.specs.Prelude.{◌≡◌, ℕ, suc, ◌+◌, ◌-◌, ◌/◌, ◌%◌, ◌<◌, ◌==◌, nat_lt, Bool, true, false, not, ◌&&◌, ◌||◌, if◌then◌else◌, Option, Some, None, ℤ, pos, negsuc, neg_ℤ, ◌+ℤ◌, ◌-ℤ◌, ◌*ℤ◌, unsigned_abs, int_lt, int_le}
+use Rattle.std.specs.Prelude.{◌≡◌, ℕ, suc, ◌+◌, ◌-◌, ◌/◌, ◌%◌, ◌<◌, ◌==◌, nat_lt, Bool, true, false, not, ◌&&◌, ◌||◌, if◌then◌else◌, Option, Some, None, ℤ, pos, negsuc, neg_ℤ, ◌+ℤ◌, ◌-ℤ◌, ◌*ℤ◌, ◌≤ℤ◌, ◌<ℤ◌, unsigned_abs, int_lt, int_le}
 use Rattle.std.specs.Int.{is_negative}
 use Rattle.rule_form.specs.declared.comparison.ArithOp.{ArithOp}
 use Rattle.rule_form.specs.declared.comparison.ArithOp.TheVariants as ariths
@@ -31,6 +31,11 @@ quotient_up n d = if n % d == 0 then n / d else suc (n / d)
 -- the quotient rounded down, by a number that isn't 0
 abbrev pub floor_quotient : ℤ → ℤ → ℤ
 floor_quotient x y = if differ (is_negative x) (is_negative y) then neg_ℤ (pos (quotient_up (unsigned_abs x) (unsigned_abs y))) else pos (unsigned_abs x / unsigned_abs y)
+
+-- the greatest number that is at most the quotient of x by y
+pub record IsFloor (x y q : ℤ) : Type 0 where
+  pub above : pos 0 <ℤ y → ((q *ℤ y) ≤ℤ x) × (x <ℤ ((q *ℤ y) +ℤ y))
+  pub below : y <ℤ pos 0 → (x ≤ℤ (q *ℤ y)) × (((q *ℤ y) +ℤ y) <ℤ x)
 
 -- what that leaves
 abbrev pub floor_remainder : ℤ → ℤ → ℤ

@@ -28,9 +28,11 @@ fn quotient_up(n: u128, d: u128) -> u128
 }
 
 /// The quotient, rounded down.
+#[tactic(auto, using(crate::proofs::Floors::floor_is))]
 fn quotient(x: i128, y: i128) -> Option<i128>
     requires { 0 < unsigned_abs y }
-    ensures { result ≡ spec.within (spec.floor_quotient x y) }
+    ensures value { result ≡ spec.within (spec.floor_quotient x y) }
+    ensures floor { spec.IsFloor x y (spec.floor_quotient x y) }
 {
     if (x < 0) != (y < 0) {
         signed(true, quotient_up(x.unsigned_abs(), y.unsigned_abs()))
