@@ -2,7 +2,7 @@
 -- What is left to read in each state of the automaton; so it accepts what the rules spell.
 use Rattle.std.proofs.Common.{◌≡◌, ℕ, true, List, [], ◌∷◌, refl, leb-true}
 use Rattle.lexing.specs.Automaton.{Table, IsWhole, IsSound, Accepts}
-use Rattle.lexing.proofs.Certificate.{Entry, rows_right, row_right, rows_append, certified}
+use Rattle.lexing.proofs.Certificate.{Entry, rows_right, row_right, certified}
 use Rattle.lexing.proofs.Whole.{is_whole, whole as whole_by}
 use Rattle.meta_filter.specs.declared.table.TheConstants.{COLUMNS, ROWS, WIDTH}
 use Rattle.meta_filter.specs.Tokens.{rules}

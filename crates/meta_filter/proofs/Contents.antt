@@ -1,7 +1,7 @@
 -- Contents of nodes keep what strings write.
 use Rattle.std.proofs.Common.{◌≡◌, ◌<◌, ℕ, List, [], ◌∷◌, map, length, refl, ap, ◌∙◌, arith}
 use Rattle.std.specs.Prelude.{None, drop, slice_index}
-use Rattle.node_tree.specs.declared.node.Node.{Node, out-Node, out-roll-Node}
+use Rattle.node_tree.specs.declared.node.Node.{Node, out-roll-Node}
 use Rattle.node_tree.specs.declared.kind.Kind.{Kind}
 use Rattle.node_tree.specs.declared.kind.Kind.TheVariants.{Id, Str}
 use Rattle.node_tree.specs.Tree.{kind_of, text_of, kids_of, no_span, content_kind, content_of, content_is}

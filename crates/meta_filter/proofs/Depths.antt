@@ -1,5 +1,5 @@
 -- How deep pieces are.
-use Rattle.std.proofs.Common.{◌≡◌, ℕ, suc, ◌<◌, ◌≤◌, List, [], ◌∷◌, ◌++◌, refl, arith}
+use Rattle.std.proofs.Common.{◌≡◌, ℕ, ◌<◌, ◌≤◌, List, [], ◌∷◌, ◌++◌, refl, arith}
 use Rattle.std.specs.Prelude.{true, false, max, Option}
 use Rattle.grammar.specs.Rule.{Deepens}
 use Rattle.grammar.proofs.Facts.{true_false}

@@ -1,5 +1,5 @@
 -- The links of a chain, one after the other.
-use Rattle.std.proofs.Common.{◌≡◌, ℕ, suc, ◌+◌, List, [], ◌∷◌, drop, refl, sym, ap, ◌∙◌, Option, Some, None}
+use Rattle.std.proofs.Common.{◌≡◌, ℕ, ◌+◌, List, [], ◌∷◌, drop, refl, ap, ◌∙◌, Option, Some, None}
 use Rattle.std.specs.Prelude.{Bool, true, false, ◌&&◌, ℤ}
 use Rattle.std.proofs.lemmas.List.{drop-drop}
 use Rattle.grammar.specs.Reader.{◌>>=◌}

@@ -1,10 +1,10 @@
 -- The remainder of numbers with different signs.
-use Rattle.std.proofs.Common.{◌≡◌, ℕ, suc, ◌+◌, ◌-◌, ◌*◌, ◌/◌, ◌%◌, ◌<◌, arith, refl, sym}
+use Rattle.std.proofs.Common.{◌≡◌, ℕ, suc, ◌+◌, ◌-◌, ◌*◌, ◌/◌, ◌%◌, ◌<◌, arith}
 use Rattle.std.specs.Prelude.{ℤ, pos, negsuc, neg_ℤ, ◌+ℤ◌, unsigned_abs, true, false, ltb}
 use Rattle.std.specs.Int.{is_negative}
 use Rattle.std.proofs.lemmas.Int.{ints}
 use Rattle.std.proofs.lemmas.Nat.{div-add-mod', mod_below}
-use Rattle.meta_filter.specs.Arithmetic.{signed, differ, quotient_up, floor_quotient, floor_remainder}
+use Rattle.meta_filter.specs.Arithmetic.{signed, differ, quotient_up, floor_remainder}
 
 up_is : (n d : ℕ) → (n % d ≡ 0 → ⊥) → quotient_up n d ≡ suc (n / d)
 up_is n d h = grind (arith, h)

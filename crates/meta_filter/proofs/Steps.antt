@@ -1,5 +1,5 @@
 -- The reader of a level, one step.
-use Rattle.std.proofs.Common.{◌≡◌, ℕ, zero, suc, ◌-◌, ◌<◌, List, [], ◌∷◌, ◌++◌, length, refl, ap, ◌∙◌, add-one, eqb, true, Option, Some, None, cond}
+use Rattle.std.proofs.Common.{◌≡◌, ℕ, zero, suc, ◌-◌, ◌<◌, List, [], ◌∷◌, ◌++◌, length, refl, ap, ◌∙◌, true, Option, Some, None, cond}
 use Rattle.std.specs.Prelude.{Bool, false}
 use Rattle.grammar.specs.Rule.{has}
 use Rattle.grammar.specs.Reader.{read, choice, turns, ◌>>=◌}

@@ -1,5 +1,5 @@
 -- What is read of all the tokens is the part that they spell, and the part that they spell is what is read.
-use Rattle.std.proofs.Common.{◌≡◌, ℕ, zero, suc, ◌<◌, ◌≤◌, List, [], ◌∷◌, length, refl, arith, sym, subst, ap, ◌∙◌, Some, Err}
+use Rattle.std.proofs.Common.{◌≡◌, ℕ, zero, suc, ◌≤◌, List, [], ◌∷◌, length, refl, arith, sym, subst, ap, ◌∙◌, Some, Err}
 use Rattle.std.specs.Prelude.{None, Bool, true, false, cond, ltb}
 use Rattle.rule_form.specs.declared.comparison.Comparison.{Comparison}
 use Rattle.std.proofs.lemmas.List.{get_or_past}
@@ -14,7 +14,7 @@ use Rattle.meta_filter.specs.declared.part.Meaning.TheVariants.{Truth}
 use Rattle.meta_filter.specs.Lexing.{IsTokensOf}
 use Rattle.meta_filter.specs.Table.{Either, grammar}
 use Rattle.meta_filter.specs.Words.{class}
-use Rattle.meta_filter.specs.Build.{Piece, part, end_token, source, depth_all}
+use Rattle.meta_filter.specs.Build.{part, end_token, source, depth_all}
 use Rattle.meta_filter.specs.Sets.{sets, ranks}
 use Rattle.meta_filter.specs.Reading.{Gives, level, one}
 use Rattle.meta_filter.specs.Comparisons.{IsPartOf, IsComparisonOf, IsFault, GivesComparison}

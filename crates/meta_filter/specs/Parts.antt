@@ -1,5 +1,5 @@
 -- The parts of a comparison: what they stand for, and how deep they are.
-use Rattle.std.specs.Prelude.{ℕ, suc, ◌+◌, max, nat_le, nat_lt, if◌then◌else◌, pos, List, [], ◌∷◌, Option, Some, None}
+use Rattle.std.specs.Prelude.{ℕ, suc, max, nat_le, nat_lt, if◌then◌else◌, pos, List, Option, Some, None}
 use Rattle.rule_form.specs.declared.comparison.Comparison.{Comparison, roll-Comparison}
 use Rattle.rule_form.specs.declared.comparison.Comparison.TheOpen as truths
 use Rattle.rule_form.specs.declared.comparison.Amount.{Amount, roll-Amount}

@@ -1,6 +1,6 @@
 -- The tokens of comparisons and the blanks between them, as regular expressions.
 use Rattle.std.specs.Prelude.{List, [], ◌∷◌, codes}
-use Rattle.lexing.specs.Rules.{To, digits, capitals, small_letters, underscore, Expression, OneOf, Then, Or, Many, the, exactly, some, any_of, Rule}
+use Rattle.lexing.specs.Rules.{To, digits, capitals, small_letters, underscore, Expression, OneOf, Then, Many, the, exactly, some, Rule}
 use Rattle.meta_filter.specs.declared.token.Word.{Word}
 use Rattle.meta_filter.specs.declared.token.Word.TheVariants as words
 use Rattle.meta_filter.specs.Words.{number_of}

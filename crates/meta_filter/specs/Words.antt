@@ -1,5 +1,5 @@
 -- The words that tokens are classed by.
-use Rattle.std.specs.Prelude.{ℕ, ◌==◌, if◌then◌else◌, List, [], Option, Some, None, codes}
+use Rattle.std.specs.Prelude.{ℕ, ◌==◌, if◌then◌else◌, List, Option, Some, None, codes}
 use Rattle.std.specs.Str.{bytes_eq}
 use Rattle.meta_filter.specs.declared.token.Word.{Word}
 use Rattle.meta_filter.specs.declared.token.Word.TheVariants.{End, Digits, Meta, Or, And, Not, Int, Stray, Less, LessEqual, Greater, GreaterEqual, Equal, NotEqual, Plus, Minus, Times, Divide, Remainder, LeftRound, RightRound}

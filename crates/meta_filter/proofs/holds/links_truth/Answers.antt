@@ -1,4 +1,4 @@
-use Rattle.std.proofs.Common.{◌≡◌, ◌+◌, ◌∷◌, List, drop, rules, sym, ap, ◌∙◌, refl, Some}
+use Rattle.std.proofs.Common.{◌≡◌, ◌+◌, ◌∷◌, drop, rules, sym, ap, ◌∙◌, refl, Some}
 use Rattle.std.specs.Prelude.{FitsSigned}
 use Rattle.std.proofs.lemmas.Int.{to_z-of_z}
 use Rattle.std.proofs.lemmas.List.{drop_more}

@@ -1,4 +1,4 @@
-use Rattle.std.proofs.Common.{◌≡◌, sym, subst}
+use Rattle.std.proofs.Common.{sym, subst}
 use Rattle.lexing.specs.Automaton.{Started, Accepts}
 use Rattle.meta_filter.specs.Tokens.{rules}
 use Rattle.meta_filter.proofs.Certificate.{accepts_0, sound_0}

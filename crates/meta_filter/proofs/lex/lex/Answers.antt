@@ -1,4 +1,4 @@
-use Rattle.std.proofs.Common.{◌≡◌, ap, sym, refl, List, Some}
+use Rattle.std.proofs.Common.{ap, sym, refl, List, Some}
 use Rattle.std.proofs.lemmas.List.{append-nil}
 use Rattle.std.specs.Str.{chars}
 use Rattle.lexing.proofs.Languages.{begins, turned, none_left, given, only}

@@ -1,6 +1,6 @@
-use Rattle.std.proofs.Common.{◌≡◌, ℕ, suc, ◌-◌, ◌∙◌, ap, arith, sym, length}
+use Rattle.std.proofs.Common.{suc, ◌-◌, ◌∙◌, ap, arith, sym, length}
 use Rattle.meta_filter.specs.declared.part.Part.{Part}
-use Rattle.meta_filter.proofs.Turns.{left_more, left_over, chain_more, chain_over, chain_begun, chain_depth}
+use Rattle.meta_filter.proofs.Turns.{left_more, left_over, chain_more, chain_begun, chain_depth}
 use Rattle.meta_filter.proofs.reader.+reader.Goals as goal
 use Rattle.meta_filter.proofs.reader.+reader.Goals.{from_left-else-loop-turn-test, from_left-then-loop-turn-test+else-not-is_operator+in_ok-right+in_ok-left-2+else-turn-turn-end}
 
