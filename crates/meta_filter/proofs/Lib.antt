@@ -1,0 +1,12 @@
+pub mod Certificate
+pub mod Numbers
+pub mod Passes
+pub mod Steps
+pub mod Turns
+pub mod Depths
+pub mod Whole
+pub mod Remainders
+pub mod Layers
+pub mod Contents
+pub mod Links
+pub mod Floors

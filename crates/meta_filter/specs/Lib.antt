@@ -1,0 +1,12 @@
+pub mod Words
+pub mod Tokens
+pub mod Lexing
+pub mod Arithmetic
+pub mod Numerals
+pub mod Parts
+pub mod Table
+pub mod Build
+pub mod Sets
+pub mod Reading
+pub mod Comparisons
+pub mod Values
