@@ -1,12 +1,17 @@
 //! What a rule looks for, in each of its languages.
 
-use crate::fault::RuleFaultKind;
-use crate::formula::{items_of, mapped, one_formula, propagator};
+ghost use Rattle.std.specs.Prelude.{◌≡◌, Some};
+ghost use Rattle.rule_read.specs.Misfits.{Fits};
+ghost use Rattle.rule_read.specs.Readings.{Reads, Each, AtPlace};
+ghost use Rattle.rule_read.specs.Formulas.{IsFormula, IsMapped, IsPropagator};
+ghost use Rattle.rule_read.specs.Bodies as spec;
+
+use crate::formula::{mapped, one_formula, propagator};
 use crate::found::{Found, Setting};
 use crate::key::{Role, one_of};
 use crate::stop::{Stop, within, within_item};
-use crate::value::{Entry, is, required};
-use node_tree::{Lang, List, Memory};
+use crate::value::{Entry, is, items_of, required};
+use node_tree::{Lang, List};
 use rule_form::{Body, Formula, Part, Propagator, TaintRule};
 use std::alloc::Global;
 use std::mem::replace;
@@ -24,6 +29,7 @@ pub enum RuleMode {
 
 /// Whether the keys of the mode are there: exactly one formula, or sources and sinks.
 pub fn check_body(alloc: Global, mode: RuleMode, entries: &[Entry]) -> Result<(), Stop>
+    ensures { Fits (λ u. u) (spec.check_body mode entries.now) result }
 {
     match mode {
         RuleMode::Search => {
@@ -45,12 +51,25 @@ fn taint_items(
     value: &YValue,
     found: &mut Found,
 ) -> Result<List<Formula>, Stop>
+    ensures { Reads (spec.IsFormulas (IsFormula spec.room setting) value.now) found.old result found.new }
 {
     let items = items_of(alloc, value)?;
+    each_formula(alloc, setting, items, found)
+}
+
+fn each_formula(
+    alloc: Global,
+    setting: Setting,
+    items: &[YValue],
+    found: &mut Found,
+) -> Result<List<Formula>, Stop>
+    ensures { Reads (Each (AtPlace (IsMapped (IsFormula spec.room setting))) 0 items.now) found.old result found.new }
+{
     let mut formulas = List::new(alloc);
     for (place, item) in items.iter().enumerate() {
         let formula = mapped(alloc, setting, ROOM, item, found);
-        formulas.push(within_item(alloc, place, formula)?)?;
+        let formula = within_item(alloc, place, formula)?;
+        formulas.push(formula)?;
     }
     Ok(formulas)
 }
@@ -62,14 +81,89 @@ fn propagators(
     value: &YValue,
     found: &mut Found,
 ) -> Result<List<Propagator>, Stop>
+    ensures { Reads (spec.IsPropagators (IsFormula spec.room setting) value.now) found.old result found.new }
 {
     let items = items_of(alloc, value)?;
+    each_propagator(alloc, setting, items, found)
+}
+
+fn each_propagator(
+    alloc: Global,
+    setting: Setting,
+    items: &[YValue],
+    found: &mut Found,
+) -> Result<List<Propagator>, Stop>
+    ensures { Reads (Each (AtPlace (IsPropagator (IsFormula spec.room setting))) 0 items.now) found.old result found.new }
+{
     let mut all = List::new(alloc);
     for (place, item) in items.iter().enumerate() {
         let one = propagator(alloc, setting, ROOM, item, found);
-        all.push(within_item(alloc, place, one)?)?;
+        let one = within_item(alloc, place, one)?;
+        all.push(one)?;
     }
     Ok(all)
+}
+
+/// A key of taint.
+#[derive(Clone, Copy, Debug, PartialEq, Eq)]
+pub enum TaintKey {
+    Sources,
+    Sinks,
+    Sanitizers,
+    Propagators,
+}
+
+fn taint_key(key: &str) -> Option<TaintKey>
+    ensures { result ≡ spec.taint_key key.now }
+{
+    if is(key, "pattern-sources") {
+        Some(TaintKey::Sources)
+    } else if is(key, "pattern-sinks") {
+        Some(TaintKey::Sinks)
+    } else if is(key, "pattern-sanitizers") {
+        Some(TaintKey::Sanitizers)
+    } else if is(key, "pattern-propagators") {
+        Some(TaintKey::Propagators)
+    } else {
+        None
+    }
+}
+
+/// A list with the list that an entry holds.
+fn added(
+    alloc: Global,
+    setting: Setting,
+    rule: TaintRule,
+    key: TaintKey,
+    entry: &Entry,
+    found: &mut Found,
+) -> Result<TaintRule, Stop>
+    ensures { Reads (spec.IsAdded (IsFormula spec.room setting) rule entry.now (Some key)) found.old result found.new }
+{
+    if key == TaintKey::Propagators {
+        let all = propagators(alloc, setting, &entry.1, found);
+        let propagators = within(alloc, entry.0.as_str(), all)?;
+        return Ok(TaintRule {
+            propagators,
+            ..rule
+        });
+    }
+    let all = taint_items(alloc, setting, &entry.1, found);
+    let formulas = within(alloc, entry.0.as_str(), all)?;
+    match key {
+        TaintKey::Sources => Ok(TaintRule {
+            sources: formulas,
+            ..rule
+        }),
+        TaintKey::Sinks => Ok(TaintRule {
+            sinks: formulas,
+            ..rule
+        }),
+        _ => Ok(TaintRule {
+            sanitizers: formulas,
+            ..rule
+        }),
+    }
 }
 
 /// Reads the lists of taint, in written order.
@@ -79,6 +173,7 @@ fn taint(
     entries: &[Entry],
     found: &mut Found,
 ) -> Result<TaintRule, Stop>
+    ensures { Reads (spec.IsTaint (IsFormula spec.room setting) spec.no_taint entries.now) found.old result found.new }
 {
     let mut rule = TaintRule {
         sources: List::new(alloc),
@@ -87,19 +182,8 @@ fn taint(
         propagators: List::new(alloc),
     };
     for entry in entries {
-        let key = entry.0.as_str();
-        if is(key, "pattern-sources") {
-            let all = taint_items(alloc, setting, &entry.1, found);
-            rule.sources = within(alloc, key, all)?;
-        } else if is(key, "pattern-sinks") {
-            let all = taint_items(alloc, setting, &entry.1, found);
-            rule.sinks = within(alloc, key, all)?;
-        } else if is(key, "pattern-sanitizers") {
-            let all = taint_items(alloc, setting, &entry.1, found);
-            rule.sanitizers = within(alloc, key, all)?;
-        } else if is(key, "pattern-propagators") {
-            let all = propagators(alloc, setting, &entry.1, found);
-            rule.propagators = within(alloc, key, all)?;
+        if let Some(key) = taint_key(entry.0.as_str()) {
+            rule = added(alloc, setting, rule, key, entry, found)?;
         }
     }
     Ok(rule)
@@ -112,13 +196,17 @@ fn body(
     entries: &[Entry],
     found: &mut Found,
 ) -> Result<Body, Stop>
+    ensures { Reads (spec.IsBody (IsFormula spec.room setting) mode entries.now) found.old result found.new }
 {
     match mode {
         RuleMode::Search => {
             let formula = one_formula(alloc, setting, ROOM, Role::Formula, false, entries, found)?;
             Ok(Body::Search(formula))
         }
-        RuleMode::Taint => Ok(Body::Taint(taint(alloc, setting, entries, found)?)),
+        RuleMode::Taint => {
+            let rule = taint(alloc, setting, entries, found)?;
+            Ok(Body::Taint(rule))
+        }
     }
 }
 
@@ -130,6 +218,7 @@ fn part(
     entries: &[Entry],
     found: &mut Found,
 ) -> Result<Part, Stop>
+    ensures { Reads (spec.IsPart setting mode entries.now) found.old result found.new }
 {
     let body = body(alloc, setting, mode, entries, found)?;
     let patterns = replace(&mut found.patterns, List::new(alloc));
@@ -149,6 +238,7 @@ pub fn parts(
     entries: &[Entry],
     found: &mut Found,
 ) -> Result<List<Part>, Stop>
+    ensures { Reads (spec.IsParts constants mode entries.now langs.now) found.old result found.new }
 {
     let mut all = List::new(alloc);
     for lang in langs {
@@ -156,7 +246,8 @@ pub fn parts(
             lang: *lang,
             constants,
         };
-        all.push(part(alloc, setting, mode, entries, found)?)?;
+        let part = part(alloc, setting, mode, entries, found)?;
+        all.push(part)?;
     }
     Ok(all)
 }

@@ -1,13 +1,19 @@
 //! What a rule may say besides: its fix, its paths and its options.
 
+ghost use Rattle.std.specs.Prelude.{◌≡◌, IfOk};
+ghost use Rattle.rule_read.specs.Misfits.{Fits};
+ghost use Rattle.rule_read.specs.Values.{whole_text};
+ghost use Rattle.rule_read.specs.Extras as spec;
+
 use crate::fault::RuleFaultKind;
 use crate::stop::{Stop, at, here, within};
-use crate::value::{Entry, is, look, text_of};
+use crate::value::{Entry, entries_of, is, list_of, look, text_of, whole_text};
 use node_tree::{List, Memory, Text};
 use std::alloc::Global;
 use yaml_read::YValue;
 
 pub fn fix(alloc: Global, entries: &[Entry]) -> Result<Option<Text>, Stop>
+    ensures { Fits (λ x. x) (spec.fix_of entries.now) result }
 {
     let Some(value) = look(entries, "fix") else {
         return Ok(None);
@@ -20,35 +26,56 @@ pub fn fix(alloc: Global, entries: &[Entry]) -> Result<Option<Text>, Stop>
 
 /// The entries of the map that a key holds, none where the key isn't there.
 fn inner<'v>(alloc: Global, entries: &'v [Entry], key: &str) -> Result<&'v [Entry], Stop>
+    ensures { Fits (λ l. l.now) (spec.inner_of key.now entries.now) result }
 {
-    match look(entries, key) {
-        Some(YValue::Map(inner)) => Ok(inner.as_slice()),
-        Some(_) => Err(at(alloc, RuleFaultKind::WrongShape, key)),
-        None => Ok(&[]),
+    let Some(value) = look(entries, key) else {
+        return Ok(&[]);
+    };
+    match entries_of(value) {
+        Some(inner) => Ok(inner),
+        None => Err(at(alloc, RuleFaultKind::WrongShape, key)),
     }
 }
 
-/// The texts that the items of a list must be.
+/// The text that an item of a list of texts must be.
+fn text(alloc: Global, item: &YValue) -> Result<Text, Stop>
+    ensures { Fits (λ x. x) (whole_text item.now) result }
+{
+    let text = whole_text(alloc, item)?;
+    let text = Text::from_str(alloc, text)?;
+    Ok(text)
+}
+
+/// The texts that the items of a list must be. What is wrong is the list.
 fn texts(alloc: Global, items: &[YValue]) -> Result<List<Text>, Stop>
+    ensures { Fits (λ x. x) (spec.texts_of items.now) result }
 {
     let mut all = List::new(alloc);
     for item in items {
-        match text_of(item) {
-            Some(text) => all.push(Text::from_str(alloc, text)?)?,
-            None => return Err(here(alloc, RuleFaultKind::WrongShape)),
-        }
+        let text = text(alloc, item)?;
+        all.push(text)?;
     }
     Ok(all)
 }
 
+/// The list of texts that a value must be.
+fn listed(alloc: Global, value: &YValue) -> Result<List<Text>, Stop>
+    ensures { Fits (λ x. x) (spec.listed value.now) result }
+{
+    match list_of(value) {
+        Some(items) => texts(alloc, items),
+        None => Err(here(alloc, RuleFaultKind::WrongShape)),
+    }
+}
+
 /// The globs that a key of `paths` lists, none where it isn't there.
 fn globs(alloc: Global, paths: &[Entry], key: &str) -> Result<List<Text>, Stop>
+    ensures { Fits (λ x. x) (spec.globs_of key.now paths.now) result }
 {
-    match look(paths, key) {
-        Some(YValue::Seq(items)) => within(alloc, key, texts(alloc, items.as_slice())),
-        Some(_) => Err(at(alloc, RuleFaultKind::WrongShape, key)),
-        None => Ok(List::new(alloc)),
-    }
+    let Some(value) = look(paths, key) else {
+        return Ok(List::new(alloc));
+    };
+    within(alloc, key, listed(alloc, value))
 }
 
 /// The globs of a rule: those of which one must match, and those of which none may.
@@ -59,13 +86,15 @@ pub struct Paths {
 }
 
 fn globs_of(alloc: Global, paths: &[Entry]) -> Result<Paths, Stop>
+    ensures { Fits (λ x. x) (spec.paths_in paths.now) result }
 {
     let include = globs(alloc, paths, "include")?;
     let exclude = globs(alloc, paths, "exclude")?;
     Ok(Paths { include, exclude })
 }
 
-pub fn paths(alloc: Global, entries: &[Entry]) -> Result<Paths, Stop>
+pub fn paths_of(alloc: Global, entries: &[Entry]) -> Result<Paths, Stop>
+    ensures { Fits (λ x. x) (spec.paths_of entries.now) result }
 {
     let paths = inner(alloc, entries, "paths")?;
     within(alloc, "paths", globs_of(alloc, paths))
@@ -73,6 +102,7 @@ pub fn paths(alloc: Global, entries: &[Entry]) -> Result<Paths, Stop>
 
 /// Whether a value is `false`.
 fn is_false(value: &YValue) -> bool
+    ensures { result ≡ spec.is_false value.now }
 {
     match text_of(value) {
         Some(text) => is(text, "false"),
@@ -80,21 +110,33 @@ fn is_false(value: &YValue) -> bool
     }
 }
 
-/// Whether the entry leaves it to the scan that literals match names known to hold them. Whether the option has the right form
-/// is another matter.
-pub fn constants(entries: &[Entry]) -> bool
+/// What the options say of literals.
+fn constants_in(options: &[Entry]) -> bool
+    ensures { result ≡ spec.constants_in options.now }
 {
-    match look(entries, "options") {
-        Some(YValue::Map(options)) => match look(options.as_slice(), "constant_propagation") {
-            Some(value) => !is_false(value),
-            None => true,
-        },
-        _ => true,
+    match look(options, "constant_propagation") {
+        Some(value) => !is_false(value),
+        None => true,
+    }
+}
+
+/// Whether literals match names that are known to hold them: unless the option says `false`. Whether the option has the right
+/// form is another matter.
+pub fn constants(entries: &[Entry]) -> bool
+    ensures { result ≡ spec.constants_of entries.now }
+{
+    let Some(value) = look(entries, "options") else {
+        return true;
+    };
+    match entries_of(value) {
+        Some(options) => constants_in(options),
+        None => true,
     }
 }
 
 /// Whether a value is `true` or `false`.
 fn is_truth(value: &YValue) -> bool
+    ensures { result ≡ spec.is_truth value.now }
 {
     match text_of(value) {
         Some(text) => is(text, "true") || is(text, "false"),
@@ -104,6 +146,7 @@ fn is_truth(value: &YValue) -> bool
 
 /// The names of the options that have no meaning here.
 fn unread(alloc: Global, options: &[Entry]) -> Result<List<Text>, Memory>
+    ensures { IfOk result (λ names. names ≡ spec.unread options.now) }
 {
     let mut all = List::new(alloc);
     for option in options {
@@ -116,6 +159,7 @@ fn unread(alloc: Global, options: &[Entry]) -> Result<List<Text>, Memory>
 }
 
 fn unread_of(alloc: Global, options: &[Entry]) -> Result<List<Text>, Stop>
+    ensures { Fits (λ x. x) (spec.unread_in options.now) result }
 {
     if let Some(value) = look(options, "constant_propagation") {
         if !is_truth(value) {
@@ -127,6 +171,7 @@ fn unread_of(alloc: Global, options: &[Entry]) -> Result<List<Text>, Stop>
 }
 
 pub fn options(alloc: Global, entries: &[Entry]) -> Result<List<Text>, Stop>
+    ensures { Fits (λ x. x) (spec.unread_of entries.now) result }
 {
     let options = inner(alloc, entries, "options")?;
     within(alloc, "options", unread_of(alloc, options))

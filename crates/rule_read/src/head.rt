@@ -1,10 +1,13 @@
 //! What each rule must say of itself: id, message, severity and languages. And its mode.
 
+ghost use Rattle.std.specs.Prelude.{◌≡◌, map, IfOk};
+ghost use Rattle.rule_read.specs.Misfits.{Fits};
+ghost use Rattle.rule_read.specs.Heads as spec;
+
 use crate::body::RuleMode;
 use crate::fault::RuleFaultKind;
-use crate::formula::items_of;
 use crate::stop::{Stop, at, here, within, within_item};
-use crate::value::{Entry, is, look, required, required_text, text_of};
+use crate::value::{Entry, is, items_of, look, required, required_text, text_of};
 use node_tree::{Lang, List, Memory};
 use rule_form::Severity;
 use std::alloc::Global;
@@ -13,6 +16,7 @@ use yaml_read::YValue;
 
 /// The id of an entry, which isn't empty.
 pub fn id(alloc: Global, entries: &[Entry]) -> Result<&str, Stop>
+    ensures { Fits (λ t. t.now) (spec.id_of entries.now) result }
 {
     let text = required_text(alloc, entries, "id")?;
     if text.is_empty() {
@@ -23,6 +27,7 @@ pub fn id(alloc: Global, entries: &[Entry]) -> Result<&str, Stop>
 }
 
 fn severity_of(text: &str) -> Option<Severity>
+    ensures { result ≡ spec.severity_named text.now }
 {
     if is(text, "INFO") {
         Some(Severity::Info)
@@ -37,6 +42,7 @@ fn severity_of(text: &str) -> Option<Severity>
 
 /// The severities that Semgrep came to have later.
 fn level_of(text: &str) -> Option<Severity>
+    ensures { result ≡ spec.level_of text.now }
 {
     if is(text, "LOW") {
         Some(Severity::Low)
@@ -52,6 +58,7 @@ fn level_of(text: &str) -> Option<Severity>
 }
 
 pub fn severity(alloc: Global, entries: &[Entry]) -> Result<Severity, Stop>
+    ensures { Fits (λ x. x) (spec.severity_of entries.now) result }
 {
     let text = required_text(alloc, entries, "severity")?;
     match severity_of(text) {
@@ -62,11 +69,13 @@ pub fn severity(alloc: Global, entries: &[Entry]) -> Result<Severity, Stop>
 
 /// The name of a language by which it is told from others: `py` is `python`.
 fn full_name(text: &str) -> &str
+    ensures { result.now ≡ spec.full_name text.now }
 {
     if is(text, "py") { "python" } else { text }
 }
 
 fn lang_of(text: &str) -> Option<Lang>
+    ensures { result ≡ spec.lang_named text.now }
 {
     if is(text, "python") {
         Some(Lang::Python)
@@ -83,6 +92,7 @@ fn lang_of(text: &str) -> Option<Lang>
 
 /// The full name of the language that a value names, empty where it is no text.
 fn named(value: &YValue) -> &str
+    ensures { result.now ≡ spec.named value.now }
 {
     match text_of(value) {
         Some(text) => full_name(text),
@@ -92,6 +102,7 @@ fn named(value: &YValue) -> &str
 
 /// Whether each item is a text.
 fn are_texts(items: &[YValue]) -> bool
+    ensures { result ≡ spec.are_texts items.now }
 {
     for item in items {
         if text_of(item).is_none() {
@@ -103,6 +114,7 @@ fn are_texts(items: &[YValue]) -> bool
 
 /// Whether each language is named once.
 fn are_distinct(alloc: Global, items: &[YValue]) -> Result<bool, Memory>
+    ensures { IfOk result (λ distinct. distinct ≡ spec.are_distinct (map spec.named items.now)) }
 {
     let mut seen: BTreeSet<&str> = BTreeSet::new(alloc);
     let mut at = items.len();
@@ -116,6 +128,7 @@ fn are_distinct(alloc: Global, items: &[YValue]) -> Result<bool, Memory>
 }
 
 fn lang(alloc: Global, item: &YValue) -> Result<Lang, Stop>
+    ensures { Fits (λ x. x) (spec.lang_of item.now) result }
 {
     match lang_of(named(item)) {
         Some(lang) => Ok(lang),
@@ -123,44 +136,67 @@ fn lang(alloc: Global, item: &YValue) -> Result<Lang, Stop>
     }
 }
 
-/// The languages that a value lists.
-fn langs(alloc: Global, value: &YValue) -> Result<List<Lang>, Stop>
+/// The languages of items, each of which is a text.
+fn each_lang(alloc: Global, items: &[YValue]) -> Result<List<Lang>, Stop>
+    ensures { Fits (λ x. x) (spec.langs_from 0 items.now) result }
 {
-    let items = items_of(alloc, value)?;
+    let mut all = List::new(alloc);
+    for (place, item) in items.iter().enumerate() {
+        let lang = within_item(alloc, place, lang(alloc, item))?;
+        all.push(lang)?;
+    }
+    Ok(all)
+}
+
+/// The languages that some items list: texts, each language once.
+fn listed_langs(alloc: Global, items: &[YValue]) -> Result<List<Lang>, Stop>
+    ensures { Fits (λ x. x) (spec.listed_langs items.now) result }
+{
     if !are_texts(items) {
         return Err(here(alloc, RuleFaultKind::WrongShape));
     }
     if !are_distinct(alloc, items)? {
         return Err(here(alloc, RuleFaultKind::WrongShape));
     }
-    let mut all = List::new(alloc);
-    for (place, item) in items.iter().enumerate() {
-        let lang = lang(alloc, item);
-        all.push(within_item(alloc, place, lang)?)?;
-    }
-    Ok(all)
+    each_lang(alloc, items)
+}
+
+/// The languages that a value lists.
+fn langs(alloc: Global, value: &YValue) -> Result<List<Lang>, Stop>
+    ensures { Fits (λ x. x) (spec.langs_of value.now) result }
+{
+    let items = items_of(alloc, value)?;
+    listed_langs(alloc, items)
 }
 
 pub fn languages(alloc: Global, entries: &[Entry]) -> Result<List<Lang>, Stop>
+    ensures { Fits (λ x. x) (spec.languages entries.now) result }
 {
     let value = required(alloc, entries, "languages")?;
     within(alloc, "languages", langs(alloc, value))
 }
 
-/// The mode of a rule. Where it says none it searches.
-pub fn mode(alloc: Global, entries: &[Entry]) -> Result<RuleMode, Stop>
+fn mode_named(alloc: Global, text: &str) -> Result<RuleMode, Stop>
+    ensures { Fits (λ x. x) (spec.mode_named text.now) result }
 {
-    let Some(value) = look(entries, "mode") else {
-        return Ok(RuleMode::Search);
-    };
-    let Some(text) = text_of(value) else {
-        return Err(at(alloc, RuleFaultKind::WrongShape, "mode"));
-    };
     if is(text, "search") {
         Ok(RuleMode::Search)
     } else if is(text, "taint") {
         Ok(RuleMode::Taint)
     } else {
         Err(at(alloc, RuleFaultKind::OutsideProfile, "mode"))
+    }
+}
+
+/// The mode of a rule. Where it says none it searches.
+pub fn mode(alloc: Global, entries: &[Entry]) -> Result<RuleMode, Stop>
+    ensures { Fits (λ x. x) (spec.mode_of entries.now) result }
+{
+    let Some(value) = look(entries, "mode") else {
+        return Ok(RuleMode::Search);
+    };
+    match text_of(value) {
+        Some(text) => mode_named(alloc, text),
+        None => Err(at(alloc, RuleFaultKind::WrongShape, "mode")),
     }
 }

@@ -1,10 +1,16 @@
 //! The keys of formulas, and which maps take them.
 
+ghost use Rattle.std.specs.Prelude.{◌≡◌};
+ghost use Rattle.lexing.specs.WordList as lists;
+ghost use Rattle.rule_read.specs.Misfits.{Fits, IsStop};
+ghost use Rattle.rule_read.specs.Keys as spec;
+
 use crate::fault::RuleFaultKind;
 use crate::stop::{Stop, at, here};
-use crate::value::{Entry, is};
+use crate::value::{Entry, entries_of, is};
 use lexing::is_among;
 use std::alloc::Global;
+use yaml_read::YValue;
 
 /// A key whose value is a formula.
 #[derive(Clone, Copy, Debug, PartialEq, Eq)]
@@ -62,6 +68,7 @@ const OUTSIDE: [&[u8]; 9] = [
 ];
 
 fn formula_key(key: &str) -> Option<FormulaKey>
+    ensures { result ≡ spec.formula_key key.now }
 {
     if is(key, "pattern") {
         Some(FormulaKey::Pattern)
@@ -77,6 +84,7 @@ fn formula_key(key: &str) -> Option<FormulaKey>
 }
 
 fn operand_key(key: &str) -> Option<ChildKey>
+    ensures { result ≡ spec.operand_key key.now }
 {
     if is(key, "pattern-inside") {
         Some(ChildKey::Inside)
@@ -92,6 +100,7 @@ fn operand_key(key: &str) -> Option<ChildKey>
 }
 
 fn condition_key(key: &str) -> Option<ChildKey>
+    ensures { result ≡ spec.condition_key key.now }
 {
     if is(key, "metavariable-regex") {
         Some(ChildKey::MetaRegex)
@@ -107,6 +116,7 @@ fn condition_key(key: &str) -> Option<ChildKey>
 }
 
 fn child_key(key: &str) -> Option<ChildKey>
+    ensures { result ≡ spec.child_key key.now }
 {
     if let Some(key) = formula_key(key) {
         return Some(ChildKey::Formula(key));
@@ -118,17 +128,20 @@ fn child_key(key: &str) -> Option<ChildKey>
 }
 
 fn is_alternative(key: ChildKey) -> bool
+    ensures { result ≡ spec.is_alternative key }
 {
     matches!(key, ChildKey::Formula(_) | ChildKey::Inside)
 }
 
 fn is_formula(key: ChildKey) -> bool
+    ensures { result ≡ spec.is_formula key }
 {
     matches!(key, ChildKey::Formula(_))
 }
 
 /// Whether a map of the role has just one key among which this one is.
 fn counts(role: Role, key: ChildKey) -> bool
+    ensures { result ≡ spec.counts role key }
 {
     match role {
         Role::Formula => is_formula(key),
@@ -143,17 +156,15 @@ fn counts(role: Role, key: ChildKey) -> bool
 
 /// The key, if a map of the role has just one of its kind.
 fn counted(role: Role, key: &str) -> Option<ChildKey>
+    ensures { result ≡ spec.counted role key.now }
 {
     let key = child_key(key)?;
-    if counts(role, key) {
-        Some(key)
-    } else {
-        None
-    }
+    if counts(role, key) { Some(key) } else { None }
 }
 
 /// Whether a map of the role may have the key besides.
 fn is_companion(role: Role, key: &str) -> bool
+    ensures { result ≡ lists.is_among (spec.companions role) key.now }
 {
     match role {
         Role::Formula => false,
@@ -168,6 +179,7 @@ fn is_companion(role: Role, key: &str) -> bool
 
 /// What a key is that a map doesn't take.
 fn stray(alloc: Global, key: &str) -> Stop
+    ensures { IsStop (spec.stray key.now) result }
 {
     if is_among(&OUTSIDE, key.as_bytes()) {
         at(alloc, RuleFaultKind::OutsideProfile, key)
@@ -178,6 +190,7 @@ fn stray(alloc: Global, key: &str) -> Stop
 
 /// Whether a map of the role takes each key; else the first one that it doesn't take is wrong.
 pub fn check_keys(alloc: Global, role: Role, entries: &[Entry]) -> Result<(), Stop>
+    ensures { Fits (λ u. u) (spec.check_keys role entries.now) result }
 {
     for entry in entries {
         let key = entry.0.as_str();
@@ -190,6 +203,7 @@ pub fn check_keys(alloc: Global, role: Role, entries: &[Entry]) -> Result<(), St
 
 /// The first entry whose key counts, with the entries behind it.
 fn first_counted<'v>(role: Role, entries: &'v [Entry]) -> Option<(ChildKey, &'v Entry, &'v [Entry])>
+    ensures { spec.IsFirst role entries.now result }
 {
     let mut left = entries;
     while let Some((entry, rest)) = left.split_first() {
@@ -207,6 +221,7 @@ pub fn one_of<'v>(
     role: Role,
     entries: &'v [Entry],
 ) -> Result<(ChildKey, &'v Entry), Stop>
+    ensures { Fits (λ c. (c.0, c.1.now)) (spec.one_of role entries.now) result }
 {
     let Some((key, entry, rest)) = first_counted(role, entries) else {
         return Err(here(alloc, RuleFaultKind::MissingKey));
@@ -215,4 +230,15 @@ pub fn one_of<'v>(
         return Err(here(alloc, RuleFaultKind::WrongShape));
     }
     Ok((key, entry))
+}
+
+/// The entries of the map that a value must be, of which each is one that a map of the role takes.
+pub fn map_of(alloc: Global, role: Role, value: &YValue) -> Result<&[Entry], Stop>
+    ensures { Fits (λ l. l.now) (spec.map_of role value.now) result }
+{
+    let Some(entries) = entries_of(value) else {
+        return Err(here(alloc, RuleFaultKind::WrongShape));
+    };
+    check_keys(alloc, role, entries)?;
+    Ok(entries)
 }

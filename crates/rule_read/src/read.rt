@@ -1,12 +1,20 @@
 //! Rules.
 
+ghost use Rattle.std.specs.Prelude.{◌≡◌, ℕ, [], List as list, Ok, Err, None, IfOk};
+ghost use Rattle.std.specs.Option.{option_copied};
+ghost use Rattle.rule_read.specs.declared.found.Found.{Found as a_found};
+ghost use Rattle.rule_read.specs.declared.fault.RuleOutcome.{RuleOutcome as an_outcome};
+ghost use Rattle.rule_read.specs.declared.fault.RulesFault.TheVariants.{NoRules};
+ghost use Rattle.rule_read.specs.Readings.{Reads};
+ghost use Rattle.rule_read.specs.Rules as spec;
+
 use crate::body::{check_body, parts};
-use crate::extra::{constants, fix, options, paths};
+use crate::extra::{constants, fix, options, paths_of};
 use crate::fault::{RuleFault, RuleFaultKind, RuleOutcome, RulesFault};
 use crate::found::Found;
 use crate::head::{id, languages, mode, severity};
 use crate::stop::{Misfit, Stop, at, here};
-use crate::value::{Entry, is, look, required_text};
+use crate::value::{Entry, entries_of, list_of, look, required_text};
 use node_tree::{List, Memory, Text};
 use rule_form::Rule;
 use std::alloc::Global;
@@ -15,6 +23,7 @@ use yaml_read::YValue;
 
 /// The rule of an entry that has an id.
 fn rule(alloc: Global, id: &str, entries: &[Entry]) -> Result<Rule, Stop>
+    ensures { (t : a_found) × Reads (spec.IsRule id.now entries.now) spec.nothing result t }
 {
     let message = required_text(alloc, entries, "message")?;
     let severity = severity(alloc, entries)?;
@@ -26,13 +35,22 @@ fn rule(alloc: Global, id: &str, entries: &[Entry]) -> Result<Rule, Stop>
         texts: List::new(alloc),
     };
     let constants = constants(entries);
-    let parts = parts(alloc, langs.as_slice(), constants, mode, entries, &mut found)?;
+    let parts = parts(
+        alloc,
+        langs.as_slice(),
+        constants,
+        mode,
+        entries,
+        &mut found,
+    )?;
     let fix = fix(alloc, entries)?;
-    let paths = paths(alloc, entries)?;
+    let paths = paths_of(alloc, entries)?;
     let unread = options(alloc, entries)?;
+    let id = Text::from_str(alloc, id)?;
+    let message = Text::from_str(alloc, message)?;
     Ok(Rule {
-        id: Text::from_str(alloc, id)?,
-        message: Text::from_str(alloc, message)?,
+        id,
+        message,
         severity,
         fix,
         include: paths.include,
@@ -45,11 +63,12 @@ fn rule(alloc: Global, id: &str, entries: &[Entry]) -> Result<Rule, Stop>
 
 /// The keys and places down to what is wrong, with dots between them.
 fn key_text(alloc: Global, place: usize, path: &[Text]) -> Result<Text, Memory>
+    ensures { IfOk result (λ key. key ≡ spec.key_of place path.now) }
 {
     let start = format!(in alloc; "rules.{place}")?;
     let mut key = Text::from_str(alloc, start.as_str())?;
     let mut at = path.len();
-    while at > 0 {
+    'parts: while at > 0 {
         at -= 1;
         key.push(".")?;
         key.push(path[at].as_str())?;
@@ -59,35 +78,65 @@ fn key_text(alloc: Global, place: usize, path: &[Text]) -> Result<Text, Memory>
 
 /// The fault of an entry that isn't as it should be.
 fn fault(alloc: Global, place: usize, id: &str, misfit: Misfit) -> Result<RuleFault, Memory>
+    ensures { IfOk result (λ f. f ≡ spec.fault place id.now misfit) }
 {
+    let id = Text::from_str(alloc, id)?;
+    let key = key_text(alloc, place, misfit.path.as_slice())?;
     Ok(RuleFault {
         kind: misfit.kind,
-        id: Text::from_str(alloc, id)?,
-        key: key_text(alloc, place, misfit.path.as_slice())?,
+        id,
+        key,
     })
 }
 
+/// An entry that isn't as it should be.
 fn bad(alloc: Global, place: usize, id: &str, stop: Stop) -> Result<RuleOutcome, Memory>
+    ensures { spec.IsBad place id.now stop result }
 {
     match stop {
         Stop::Memory => Err(Memory),
-        Stop::Bad(misfit) => Ok(RuleOutcome::Bad(fault(alloc, place, id, misfit)?)),
+        Stop::Bad(misfit) => {
+            let fault = fault(alloc, place, id, misfit)?;
+            Ok(RuleOutcome::Bad(fault))
+        }
     }
 }
 
-/// The rule of an entry, or what is wrong with it.
-fn read_entry<'v>(
+/// What becomes of an entry that is a rule with an id.
+fn unless_taken<'v>(
     alloc: Global,
+    place: usize,
+    id: &'v str,
+    rule: Rule,
+    taken: &mut BTreeSet<&'v str>,
+) -> Result<RuleOutcome, Memory>
+    ensures { (ids : list (list ℕ)) → spec.Tells taken.old ids → spec.Decides ids place id.now rule result taken.new }
+{
+    if taken.insert(id)? {
+        Ok(RuleOutcome::Good(rule))
+    } else {
+        bad(
+            alloc,
+            place,
+            id,
+            at(alloc, RuleFaultKind::DuplicateId, "id"),
+        )
+    }
+}
+
+/// What becomes of an entry with an id.
+fn with_id<'v>(
+    alloc: Global,
+    place: usize,
     id: &'v str,
     entries: &'v [Entry],
     taken: &mut BTreeSet<&'v str>,
-) -> Result<Rule, Stop>
+) -> Result<RuleOutcome, Memory>
+    ensures { (ids : list (list ℕ)) → spec.Tells taken.old ids → spec.Comes ids (spec.IsOutcomeOf ids place entries.now (Ok id.now)) result taken.new }
 {
-    let rule = rule(alloc, id, entries)?;
-    if taken.insert(id)? {
-        Ok(rule)
-    } else {
-        Err(at(alloc, RuleFaultKind::DuplicateId, "id"))
+    match rule(alloc, id, entries) {
+        Ok(rule) => unless_taken(alloc, place, id, rule, taken),
+        Err(stop) => bad(alloc, place, id, stop),
     }
 }
 
@@ -98,46 +147,47 @@ fn outcome<'v>(
     entry: &'v YValue,
     taken: &mut BTreeSet<&'v str>,
 ) -> Result<RuleOutcome, Memory>
+    ensures { (ids : list (list ℕ)) → spec.Tells taken.old ids → spec.Comes ids (spec.IsOutcome ids place entry.now) result taken.new }
 {
-    let YValue::Map(entries) = entry else {
+    let Some(entries) = entries_of(entry) else {
         return bad(alloc, place, "", here(alloc, RuleFaultKind::WrongShape));
     };
-    let id = match id(alloc, entries.as_slice()) {
-        Ok(id) => id,
-        Err(stop) => return bad(alloc, place, "", stop),
-    };
-    match read_entry(alloc, id, entries.as_slice(), taken) {
-        Ok(rule) => Ok(RuleOutcome::Good(rule)),
-        Err(stop) => bad(alloc, place, id, stop),
+    match id(alloc, entries) {
+        Ok(id) => with_id(alloc, place, id, entries, taken),
+        Err(stop) => bad(alloc, place, "", stop),
     }
 }
 
 /// The items of the list that the key `rules` of a map holds.
-fn entries_of(value: &YValue) -> Option<&[YValue]>
+fn entries_in(value: &YValue) -> Option<&[YValue]>
+    ensures { option_copied result ≡ spec.entries_in value.now }
 {
-    let YValue::Map(entries) = value else {
-        return None;
-    };
-    match look(entries.as_slice(), "rules") {
-        Some(YValue::Seq(items)) => Some(items.as_slice()),
-        _ => None,
-    }
+    let entries = entries_of(value)?;
+    let rules = look(entries, "rules")?;
+    list_of(rules)
 }
 
 fn outcomes(alloc: Global, items: &[YValue]) -> Result<List<RuleOutcome>, Memory>
+    ensures found { IfOk result (spec.AreOutcomes [] 0 items.now) }
+    ensures only { (os : list an_outcome) → spec.AreOutcomes [] 0 items.now os → IfOk result (λ found. found ≡ os) }
 {
     let mut taken: BTreeSet<&str> = BTreeSet::new(alloc);
     let mut all = List::new(alloc);
     for (place, item) in items.iter().enumerate() {
-        all.push(outcome(alloc, place, item, &mut taken)?)?;
+        let outcome = outcome(alloc, place, item, &mut taken)?;
+        all.push(outcome)?;
     }
     Ok(all)
 }
 
 /// Reads the rules of a value: one outcome for each entry of the list that its key `rules` holds.
 pub fn read_rules(alloc: Global, value: &YValue) -> Result<List<RuleOutcome>, RulesFault>
+    ensures found { IfOk result (spec.IsRulesOf value.now) }
+    ensures only { (os : list an_outcome) → spec.IsRulesOf value.now os → spec.GivesRules os result }
+    ensures no_rules { result ≡ Err NoRules → spec.entries_in value.now ≡ None }
+    ensures refused { spec.entries_in value.now ≡ None → spec.Refuses result }
 {
-    match entries_of(value) {
+    match entries_in(value) {
         Some(items) => Ok(outcomes(alloc, items)?),
         None => Err(RulesFault::NoRules),
     }

@@ -1,7 +1,8 @@
 //! Why a value was not read.
 
 ghost use Rattle.std.specs.Prelude.{◌≡◌};
-ghost use Rattle.rule_read.specs.declared.stop.Stop.TheVariants.{Memory as out_of_memory};
+ghost use Rattle.std.specs.Fmt.{decimal};
+ghost use Rattle.rule_read.specs.declared.stop.Stop.TheVariants.{Memory as out_of_memory, Bad as a_bad};
 ghost use Rattle.rule_read.specs.Misfits as spec;
 
 use crate::fault::RuleFaultKind;
@@ -40,7 +41,7 @@ impl From<AllocError> for Stop {
 
 /// The value itself is wrong.
 pub fn here(alloc: Global, kind: RuleFaultKind) -> Stop
-    ensures { result ≡ spec.stops (spec.here kind) }
+    ensures { result ≡ a_bad (spec.here kind) }
 {
     Stop::Bad(Misfit {
         kind,
@@ -50,7 +51,7 @@ pub fn here(alloc: Global, kind: RuleFaultKind) -> Stop
 
 /// Puts a key, or the number of a place, on top of the path to what is wrong.
 fn below(alloc: Global, part: &str, stop: Stop) -> Stop
-    ensures { spec.Stops (spec.below part.now) stop result }
+    ensures { spec.IsBelow part.now stop result }
 {
     match stop {
         Stop::Memory => Stop::Memory,
@@ -75,22 +76,20 @@ pub fn at(alloc: Global, kind: RuleFaultKind, key: &str) -> Stop
 }
 
 /// What was read below a key.
-pub fn within<X: Drop>(alloc: Global, key: &str, result: Result<X, Stop>) -> Result<X, Stop>
+pub fn within<X: Drop>(alloc: Global, key: &str, read: Result<X, Stop>) -> Result<X, Stop>
+    ensures { spec.IsUnder key.now read result }
 {
-    match result {
+    match read {
         Ok(found) => Ok(found),
         Err(stop) => Err(below(alloc, key, stop)),
     }
 }
 
 /// What was read at a place in a list, counted from 0.
-pub fn within_item<X: Drop>(
-    alloc: Global,
-    place: usize,
-    result: Result<X, Stop>,
-) -> Result<X, Stop>
+pub fn within_item<X: Drop>(alloc: Global, place: usize, read: Result<X, Stop>) -> Result<X, Stop>
+    ensures { spec.IsUnder (decimal place) read result }
 {
-    match result {
+    match read {
         Ok(found) => Ok(found),
         Err(stop) => {
             let part = format!(in alloc; "{place}")?;

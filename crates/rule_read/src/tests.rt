@@ -190,10 +190,7 @@ fn outcome_with(rt: &HostRuntime, more: &str) -> Result<String, AllocError> {
 #[test]
 fn reads_rules(rt: HostRuntime) -> Result<(), Fail> {
     let rows = [
-        (
-            "  pattern: f($X)\n",
-            "p m Info Python 1 l0 ;",
-        ),
+        ("  pattern: f($X)\n", "p m Info Python 1 l0 ;"),
         (
             "  pattern: f($X)\n  fix: g($X)\n  paths:\n    include: [a, b]\n    exclude: [c]\n    else: d\n  options:\n    x: 1\n    constant_propagation: false\n    y: 2\n  metadata: z\n  requires: v\n",
             "p m Info fix g($X) +a +b -c ?x ?y Python 1 plain l0 ;",
@@ -232,26 +229,14 @@ fn reads_rules(rt: HostRuntime) -> Result<(), Fail> {
 #[test]
 fn names_the_first_fault(rt: HostRuntime) -> Result<(), Fail> {
     let rows = [
-        (
-            "  x: 1\n",
-            "MissingKey p rules.0;",
-        ),
+        ("  x: 1\n", "MissingKey p rules.0;"),
         (
             "  pattern: a\n  patterns:\n  - pattern: b\n",
             "WrongShape p rules.0;",
         ),
-        (
-            "  mode: 7\n",
-            "OutsideProfile p rules.0.mode;",
-        ),
-        (
-            "  mode: [taint]\n",
-            "WrongShape p rules.0.mode;",
-        ),
-        (
-            "  mode: join\n",
-            "OutsideProfile p rules.0.mode;",
-        ),
+        ("  mode: 7\n", "OutsideProfile p rules.0.mode;"),
+        ("  mode: [taint]\n", "WrongShape p rules.0.mode;"),
+        ("  mode: join\n", "OutsideProfile p rules.0.mode;"),
         (
             "  mode: taint\n  pattern: a\n",
             "MissingKey p rules.0.pattern-sources;",
@@ -288,26 +273,11 @@ fn names_the_first_fault(rt: HostRuntime) -> Result<(), Fail> {
             "  pattern: 'f('\n  fix: []\n",
             "BadPattern p rules.0.pattern;",
         ),
-        (
-            "  pattern: '...'\n",
-            "BadPattern p rules.0.pattern;",
-        ),
-        (
-            "  pattern: [a]\n",
-            "WrongShape p rules.0.pattern;",
-        ),
-        (
-            "  pattern:\n",
-            "WrongShape p rules.0.pattern;",
-        ),
-        (
-            "  patterns: a\n",
-            "WrongShape p rules.0.patterns;",
-        ),
-        (
-            "  patterns: []\n",
-            "WrongShape p rules.0.patterns;",
-        ),
+        ("  pattern: '...'\n", "BadPattern p rules.0.pattern;"),
+        ("  pattern: [a]\n", "WrongShape p rules.0.pattern;"),
+        ("  pattern:\n", "WrongShape p rules.0.pattern;"),
+        ("  patterns: a\n", "WrongShape p rules.0.patterns;"),
+        ("  patterns: []\n", "WrongShape p rules.0.patterns;"),
         (
             "  patterns:\n  - pattern-not: a\n",
             "WrongShape p rules.0.patterns;",
@@ -316,10 +286,7 @@ fn names_the_first_fault(rt: HostRuntime) -> Result<(), Fail> {
             "  patterns:\n  - pattern-not: (\n",
             "BadPattern p rules.0.patterns.0.pattern-not;",
         ),
-        (
-            "  patterns:\n  - a\n",
-            "WrongShape p rules.0.patterns.0;",
-        ),
+        ("  patterns:\n  - a\n", "WrongShape p rules.0.patterns.0;"),
         (
             "  patterns:\n  - pattern: a\n  - pattern-foo: b\n",
             "UnknownKey p rules.0.patterns.1.pattern-foo;",
@@ -404,14 +371,8 @@ fn names_the_first_fault(rt: HostRuntime) -> Result<(), Fail> {
             "  pattern-either: []\n",
             "WrongShape p rules.0.pattern-either;",
         ),
-        (
-            "  pattern-either:\n  - {}\n",
-            "no value",
-        ),
-        (
-            "  pattern: a\n  fix:\n",
-            "WrongShape p rules.0.fix;",
-        ),
+        ("  pattern-either:\n  - {}\n", "no value"),
+        ("  pattern: a\n  fix:\n", "WrongShape p rules.0.fix;"),
         (
             "  pattern: a\n  paths: []\n  fix: b\n",
             "WrongShape p rules.0.paths;",
@@ -442,42 +403,18 @@ fn names_the_first_fault(rt: HostRuntime) -> Result<(), Fail> {
 #[test]
 fn reads_entries_apart(rt: HostRuntime) -> Result<(), Fail> {
     let rows = [
-        (
-            "",
-            "NoRules",
-        ),
-        (
-            "rules:",
-            "NoRules",
-        ),
-        (
-            "- rules: []",
-            "NoRules",
-        ),
-        (
-            "rules: []",
-            "",
-        ),
+        ("", "NoRules"),
+        ("rules:", "NoRules"),
+        ("- rules: []", "NoRules"),
+        ("rules: []", ""),
         (
             "rules:\n- a\n- []\n",
             "WrongShape  rules.0;WrongShape  rules.1;",
         ),
-        (
-            "rules:\n- message: m\n",
-            "MissingKey  rules.0.id;",
-        ),
-        (
-            "rules:\n- id:\n",
-            "WrongShape  rules.0.id;",
-        ),
-        (
-            "rules:\n- id: ''\n",
-            "WrongShape  rules.0.id;",
-        ),
-        (
-            "rules:\n- id: p\n",
-            "MissingKey p rules.0.message;",
-        ),
+        ("rules:\n- message: m\n", "MissingKey  rules.0.id;"),
+        ("rules:\n- id:\n", "WrongShape  rules.0.id;"),
+        ("rules:\n- id: ''\n", "WrongShape  rules.0.id;"),
+        ("rules:\n- id: p\n", "MissingKey p rules.0.message;"),
         (
             "rules:\n- id: p\n  message: m\n",
             "MissingKey p rules.0.severity;",
