@@ -1,5 +1,5 @@
 -- What a rule looks for, in each of its languages.
-use Rattle.std.specs.Prelude.{◌≡◌, ℕ, Bool, List, [], ◌∷◌, codes, if◌then◌else◌, Option, Some, None, Result, Ok, Err}
+use Rattle.std.specs.Prelude.{◌≡◌, ℕ, Bool, false, List, [], ◌∷◌, codes, if◌then◌else◌, Option, Some, None, Result, Ok, Err}
 use Rattle.std.specs.Str.{bytes_eq}
 use Rattle.node_tree.specs.declared.view.Lang.{Lang}
 use Rattle.yaml_read.specs.declared.value.YValue.{YValue}

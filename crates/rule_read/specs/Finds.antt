@@ -1,8 +1,10 @@
 -- Patterns, comparisons and regular expressions, as they are found.
-use Rattle.std.specs.Prelude.{◌≡◌, ◌⊎◌, ℕ, suc, List, [], ◌∷◌, ◌++◌, length, if◌then◌else◌, Bool, Result, Ok, Err, ⊥}
+use Rattle.std.specs.Prelude.{◌≡◌, ◌⊎◌, ℕ, suc, List, [], ◌∷◌, ◌++◌, length, if◌then◌else◌, Bool, Result, Ok, Err}
 use Rattle.std.specs.Str.{bytes_eq}
 use Rattle.node_tree.specs.declared.view.Pattern.{Pattern}
 use Rattle.pattern_read.specs.Patterns.{IsPatternOf}
+use Rattle.pattern_read.specs.declared.fault.PatternFault.{PatternFault}
+use Rattle.pattern_read.specs.declared.fault.PatternFault.TheVariants as faults
 use Rattle.rule_form.specs.declared.comparison.Comparison.{Comparison}
 use Rattle.rule_form.specs.declared.formula.Formula.{Formula}
 use Rattle.rule_form.specs.declared.formula.Formula.TheVariants as formulas
@@ -11,7 +13,7 @@ use Rattle.rule_read.specs.declared.fault.RuleFaultKind.TheVariants.{BadPattern,
 use Rattle.rule_read.specs.declared.found.Found.{Found}
 use Rattle.rule_read.specs.declared.found.Setting.{Setting}
 use Rattle.rule_read.specs.declared.stop.Stop.{Stop}
-use Rattle.rule_read.specs.declared.stop.Stop.TheVariants.{Memory}
+use Rattle.rule_read.specs.declared.stop.Stop.TheVariants.{Memory, Bad}
 use Rattle.rule_read.specs.Misfits.{here}
 use Rattle.rule_read.specs.Readings.{Reading, Outcome}
 
@@ -61,3 +63,8 @@ IsNumber text s o = o ≡ Ok (place_of text s.texts, noting text s)
 abbrev pub IsAdded : List ℕ → Found → Result (Unit {0}) Stop → Found → Type 0
 IsAdded text old (Ok u) new = new ≡ record { patterns = old.patterns; texts = old.texts ++ text ∷ [] }
 IsAdded text old (Err e) new = e ≡ Memory
+
+-- a text that writes no pattern is a bad one, unless memory ran out
+abbrev pub IsUnwritten : PatternFault → Stop → Type 0
+IsUnwritten faults.Memory stop = stop ≡ Memory
+IsUnwritten _ stop = stop ≡ Bad (here BadPattern)

@@ -1,5 +1,5 @@
 -- Formulas.
-use Rattle.std.specs.Prelude.{◌≡◌, ℕ, zero, suc, ◌+◌, Bool, true, false, ◌||◌, List, [], ◌∷◌, codes, Option, Some, None, Result, Ok, Err, if◌then◌else◌, ⊥}
+use Rattle.std.specs.Prelude.{◌≡◌, ℕ, zero, suc, ◌+◌, Bool, true, false, ◌||◌, List, [], ◌∷◌, codes, Option, Some, None, Result, Ok, Err, if◌then◌else◌}
 use Rattle.yaml_read.specs.declared.value.YValue.{YValue}
 use Rattle.rule_form.specs.declared.formula.Formula.{Formula}
 use Rattle.rule_form.specs.declared.formula.Formula.TheVariants as formulas
@@ -126,7 +126,7 @@ abbrev pub IsChild : Setting → Inner → YValue → Reading Child
 IsChild setting inner v =
     After (map_of roles.Child v) (λ es. After (one_of roles.Child es) (λ c. Below c.1.0 (IsChildAt setting inner c.0 c.1.1)))
 
-abbrev layer_operand : layers.Child-F Child → Bool
+abbrev layer_operand : layers.Child-F Child Formula → Bool
 layer_operand (layers.Positive f) = true
 layer_operand (layers.Inside f) = true
 layer_operand _ = false

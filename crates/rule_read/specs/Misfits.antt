@@ -1,5 +1,5 @@
 -- What is wrong with a value.
-use Rattle.std.specs.Prelude.{◌≡◌, ℕ, List, [], ◌∷◌, ◌++◌, Result, Ok, Err, ⊤, ⊥}
+use Rattle.std.specs.Prelude.{◌≡◌, ℕ, List, [], ◌∷◌, ◌++◌, Result, Ok, Err, ⊤}
 use Rattle.rule_read.specs.declared.fault.RuleFaultKind.{RuleFaultKind}
 use Rattle.rule_read.specs.declared.stop.Misfit.{Misfit}
 use Rattle.rule_read.specs.declared.stop.Stop.{Stop}

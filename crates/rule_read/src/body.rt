@@ -2,7 +2,7 @@
 
 ghost use Rattle.std.specs.Prelude.{◌≡◌, Some};
 ghost use Rattle.rule_read.specs.Misfits.{Fits};
-ghost use Rattle.rule_read.specs.Readings.{Reads, Each, AtPlace};
+ghost use Rattle.rule_read.specs.Readings.{Reads, Below, Each, AtPlace};
 ghost use Rattle.rule_read.specs.Formulas.{IsFormula, IsMapped, IsPropagator};
 ghost use Rattle.rule_read.specs.Bodies as spec;
 
@@ -129,7 +129,40 @@ fn taint_key(key: &str) -> Option<TaintKey>
     }
 }
 
-/// A list with the list that an entry holds.
+/// The key of taint that an entry has.
+fn key_of(entry: &Entry) -> Option<TaintKey>
+    ensures { result ≡ spec.taint_key entry.now.0 }
+{
+    taint_key(entry.0.as_str())
+}
+
+/// The formulas that an entry lists.
+fn formulas_at(
+    alloc: Global,
+    setting: Setting,
+    entry: &Entry,
+    found: &mut Found,
+) -> Result<List<Formula>, Stop>
+    ensures { Reads (Below entry.now.0 (spec.IsFormulas (IsFormula spec.room setting) entry.now.1)) found.old result found.new }
+{
+    let all = taint_items(alloc, setting, &entry.1, found);
+    within(alloc, entry.0.as_str(), all)
+}
+
+/// The propagators that an entry lists.
+fn propagators_at(
+    alloc: Global,
+    setting: Setting,
+    entry: &Entry,
+    found: &mut Found,
+) -> Result<List<Propagator>, Stop>
+    ensures { Reads (Below entry.now.0 (spec.IsPropagators (IsFormula spec.room setting) entry.now.1)) found.old result found.new }
+{
+    let all = propagators(alloc, setting, &entry.1, found);
+    within(alloc, entry.0.as_str(), all)
+}
+
+/// The lists of taint, with the one that an entry holds.
 fn added(
     alloc: Global,
     setting: Setting,
@@ -140,29 +173,26 @@ fn added(
 ) -> Result<TaintRule, Stop>
     ensures { Reads (spec.IsAdded (IsFormula spec.room setting) rule entry.now (Some key)) found.old result found.new }
 {
-    if key == TaintKey::Propagators {
-        let all = propagators(alloc, setting, &entry.1, found);
-        let propagators = within(alloc, entry.0.as_str(), all)?;
-        return Ok(TaintRule {
-            propagators,
-            ..rule
-        });
-    }
-    let all = taint_items(alloc, setting, &entry.1, found);
-    let formulas = within(alloc, entry.0.as_str(), all)?;
     match key {
-        TaintKey::Sources => Ok(TaintRule {
-            sources: formulas,
-            ..rule
-        }),
-        TaintKey::Sinks => Ok(TaintRule {
-            sinks: formulas,
-            ..rule
-        }),
-        _ => Ok(TaintRule {
-            sanitizers: formulas,
-            ..rule
-        }),
+        TaintKey::Sources => {
+            let sources = formulas_at(alloc, setting, entry, found)?;
+            Ok(TaintRule { sources, ..rule })
+        }
+        TaintKey::Sinks => {
+            let sinks = formulas_at(alloc, setting, entry, found)?;
+            Ok(TaintRule { sinks, ..rule })
+        }
+        TaintKey::Sanitizers => {
+            let sanitizers = formulas_at(alloc, setting, entry, found)?;
+            Ok(TaintRule { sanitizers, ..rule })
+        }
+        TaintKey::Propagators => {
+            let propagators = propagators_at(alloc, setting, entry, found)?;
+            Ok(TaintRule {
+                propagators,
+                ..rule
+            })
+        }
     }
 }
 
@@ -182,11 +212,23 @@ fn taint(
         propagators: List::new(alloc),
     };
     for entry in entries {
-        if let Some(key) = taint_key(entry.0.as_str()) {
+        if let Some(key) = key_of(entry) {
             rule = added(alloc, setting, rule, key, entry, found)?;
         }
     }
     Ok(rule)
+}
+
+fn search(
+    alloc: Global,
+    setting: Setting,
+    entries: &[Entry],
+    found: &mut Found,
+) -> Result<Body, Stop>
+    ensures { Reads (spec.IsBody (IsFormula spec.room setting) RuleMode.Search entries.now) found.old result found.new }
+{
+    let formula = one_formula(alloc, setting, ROOM, Role::Formula, false, entries, found)?;
+    Ok(Body::Search(formula))
 }
 
 fn body(
@@ -199,10 +241,7 @@ fn body(
     ensures { Reads (spec.IsBody (IsFormula spec.room setting) mode entries.now) found.old result found.new }
 {
     match mode {
-        RuleMode::Search => {
-            let formula = one_formula(alloc, setting, ROOM, Role::Formula, false, entries, found)?;
-            Ok(Body::Search(formula))
-        }
+        RuleMode::Search => search(alloc, setting, entries, found),
         RuleMode::Taint => {
             let rule = taint(alloc, setting, entries, found)?;
             Ok(Body::Taint(rule))

@@ -77,13 +77,24 @@ fn next_leaf(setting: Setting, pattern: Pattern, found: &mut Found) -> Result<Fo
     Ok(Formula::Leaf(number))
 }
 
+/// Why a text that writes no pattern is not read.
+fn no_pattern(alloc: Global, fault: PatternFault) -> Stop
+    ensures { spec.IsUnwritten fault result }
+{
+    match fault {
+        PatternFault::Memory => Stop::Memory,
+        PatternFault::NoPattern => here(alloc, RuleFaultKind::BadPattern),
+        PatternFault::OnlyDots => here(alloc, RuleFaultKind::BadPattern),
+        PatternFault::DotsPlace => here(alloc, RuleFaultKind::BadPattern),
+    }
+}
+
 /// Reads a text as a pattern, which comes last among those found.
 pub fn leaf(alloc: Global, setting: Setting, text: &str, found: &mut Found) -> Result<Formula, Stop>
     ensures { Reads (spec.IsLeaf setting text.now) found.old result found.new }
 {
     match read_pattern(alloc, setting.lang, text) {
         Ok(pattern) => next_leaf(setting, pattern, found),
-        Err(PatternFault::Memory) => Err(Stop::Memory),
-        Err(_) => Err(here(alloc, RuleFaultKind::BadPattern)),
+        Err(fault) => Err(no_pattern(alloc, fault)),
     }
 }

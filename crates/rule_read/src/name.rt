@@ -1,6 +1,7 @@
 //! Names of metavariables.
 
 ghost use Rattle.std.specs.Prelude.{◌≡◌};
+ghost use Rattle.std.specs.Option.{option_copied};
 ghost use Rattle.rule_read.specs.Names as spec;
 
 fn begins_name(byte: u8) -> bool
@@ -36,21 +37,32 @@ fn is_plain_name(bytes: &[u8]) -> bool
     begins_name(*first) && all_go_on(rest)
 }
 
-fn is_name_from(bytes: &[u8]) -> bool
-    ensures { result ≡ spec.is_name_from bytes.now }
+/// What is behind a byte, if that one is first.
+fn past(byte: u8, bytes: &[u8]) -> Option<&[u8]>
+    ensures { option_copied result ≡ spec.past byte bytes.now }
 {
-    match bytes {
-        [b'.', b'.', b'.', rest @ ..] => is_plain_name(rest),
-        _ => is_plain_name(bytes),
-    }
+    let (first, rest) = bytes.split_first()?;
+    if *first == byte { Some(rest) } else { None }
+}
+
+/// What is behind three dots, if they are first.
+fn past_dots(bytes: &[u8]) -> Option<&[u8]>
+    ensures { option_copied result ≡ spec.past_dots bytes.now }
+{
+    let one = past(b'.', bytes)?;
+    let two = past(b'.', one)?;
+    past(b'.', two)
 }
 
 /// Whether the text is `$NAME` or `$...NAME`.
 pub fn is_name(text: &str) -> bool
     ensures { result ≡ spec.is_name text.now }
 {
-    match text.as_bytes() {
-        [b'$', rest @ ..] => is_name_from(rest),
-        _ => false,
+    let Some(rest) = past(b'$', text.as_bytes()) else {
+        return false;
+    };
+    match past_dots(rest) {
+        Some(rest) => is_plain_name(rest),
+        None => is_plain_name(rest),
     }
 }

@@ -1,0 +1,6 @@
+pub mod Folds
+pub mod Laws
+pub mod Finding
+pub mod Levels
+pub mod Shapes
+pub mod Lists
