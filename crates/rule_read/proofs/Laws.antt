@@ -1,5 +1,5 @@
 -- One reading after another: what each step of the code shows of the whole.
-use Rattle.std.proofs.Common.{◌≡◌, ℕ, suc, ◌+◌, ◌<◌, ◌≤◌, List, [], ◌∷◌, ◌++◌, length, get_or, drop, refl, sym, ap, ◌∙◌, subst, Ok, Err, append_assoc, append-nil, add-one}
+use Rattle.std.proofs.Common.{◌≡◌, ℕ, zero, suc, arith, ◌+◌, ◌<◌, ◌≤◌, List, [], ◌∷◌, ◌++◌, length, get_or, drop, refl, sym, ap, ◌∙◌, subst, Ok, Err, append_assoc, append-nil, add-one}
 use Rattle.std.proofs.lemmas.List.{drop_all}
 use Rattle.std.proofs.Math.Seq.{drop-cons}
 use Rattle.std.specs.Prelude.{Result}
@@ -106,3 +106,12 @@ module _ {X Y : Type 0} (R : ℕ → X → Reading Y) (all : List X) (begin : Fo
 
       pub turn_stops : (e : Stop) (t u : Found) → Reads (R k x) s (Err e) t → Reads (Each R 0 all) begin (Err e) u
       turn_stops e t u h = rest_stops ys k x (drop (k + 1) all) s opened e t u h
+
+-- an item that is there stays the same, whatever would stand in for it
+pub item_is : {X : Type 0} (xs : List X) (i : ℕ) (d : X) → i < length xs → get_or xs i d ≡ get_or xs i (get_or xs i d)
+item_is xs i d lt = same xs i d (get_or xs i d) lt
+  where
+    same : {X : Type 0} (xs : List X) (i : ℕ) (d e : X) → i < length xs → get_or xs i d ≡ get_or xs i e
+    same [] i d e lt = absurd (omega (arith, lt))
+    same (x ∷ xs) zero d e lt = refl
+    same (x ∷ xs) (suc i) d e lt = same xs i d e (omega (arith, lt))

@@ -1,4 +1,5 @@
 pub mod Folds
+pub mod Distinct
 pub mod Laws
 pub mod Finding
 pub mod Levels

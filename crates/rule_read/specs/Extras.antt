@@ -33,7 +33,7 @@ texts_of (v ∷ vs) = and_then (whole_text v) (λ text. and_then (texts_of vs) (
 abbrev pub listed : YValue → Result (List (List ℕ)) Misfit
 listed v = and_then (or_misfit (here WrongShape) (list_of v)) texts_of
 
-abbrev globs_by : List ℕ → Option YValue → Result (List (List ℕ)) Misfit
+abbrev pub globs_by : List ℕ → Option YValue → Result (List (List ℕ)) Misfit
 globs_by key None = Ok []
 globs_by key (Some v) = under key (listed v)
 

@@ -212,8 +212,9 @@ fn taint(
         propagators: List::new(alloc),
     };
     for entry in entries {
-        if let Some(key) = key_of(entry) {
-            rule = added(alloc, setting, rule, key, entry, found)?;
+        match key_of(entry) {
+            Some(key) => rule = added(alloc, setting, rule, key, entry, found)?,
+            None => {}
         }
     }
     Ok(rule)
