@@ -5,3 +5,5 @@ pub mod Finding
 pub mod Levels
 pub mod Shapes
 pub mod Lists
+pub mod Entries
+pub mod Outcomes

@@ -21,6 +21,16 @@ use std::alloc::Global;
 use std::collections::BTreeSet;
 use yaml_read::YValue;
 
+/// Nothing is found yet.
+fn nothing(alloc: Global) -> Found
+    ensures { result ≡ spec.nothing }
+{
+    Found {
+        patterns: List::new(alloc),
+        texts: List::new(alloc),
+    }
+}
+
 /// The rule of an entry that has an id.
 fn rule(alloc: Global, id: &str, entries: &[Entry]) -> Result<Rule, Stop>
     ensures { (t : a_found) × Reads (spec.IsRule id.now entries.now) spec.nothing result t }
@@ -30,10 +40,7 @@ fn rule(alloc: Global, id: &str, entries: &[Entry]) -> Result<Rule, Stop>
     let langs = languages(alloc, entries)?;
     let mode = mode(alloc, entries)?;
     check_body(alloc, mode, entries)?;
-    let mut found = Found {
-        patterns: List::new(alloc),
-        texts: List::new(alloc),
-    };
+    let mut found = nothing(alloc);
     let constants = constants(entries);
     let parts = parts(
         alloc,
