@@ -1,5 +1,5 @@
 -- Formulas in so many levels, of which there is one at least.
-use Rattle.std.proofs.Common.{◌≡◌, ℕ, zero, suc, ◌-◌, ◌<◌, Bool, sym, subst, arith}
+use Rattle.std.proofs.Common.{◌≡◌, ℕ, zero, suc, ◌-◌, Bool, sym, subst, arith}
 use Rattle.std.specs.Prelude.{Result}
 use Rattle.yaml_read.specs.declared.value.YValue.{YValue}
 use Rattle.rule_form.specs.declared.formula.Formula.{Formula}

@@ -1,5 +1,5 @@
 -- The lists of taint, entry by entry.
-use Rattle.std.proofs.Common.{◌≡◌, ℕ, suc, ◌+◌, ◌<◌, ◌≤◌, List, [], ◌∷◌, false, length, get_or, drop, refl, sym, ap, ◌∙◌, subst, Ok, Err, add-one}
+use Rattle.std.proofs.Common.{◌≡◌, ℕ, suc, ◌+◌, ◌<◌, ◌≤◌, List, ◌∷◌, false, length, get_or, drop, sym, ap, ◌∙◌, subst, Ok, Err, add-one}
 use Rattle.std.specs.Prelude.{Result, Option, Some, None}
 use Rattle.std.proofs.lemmas.List.{drop_all}
 use Rattle.std.proofs.Math.Seq.{drop-cons}

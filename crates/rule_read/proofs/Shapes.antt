@@ -1,5 +1,5 @@
 -- The readings of formulas and their parts, step by step.
-use Rattle.std.proofs.Common.{◌≡◌, ℕ, Bool, true, false, List, [], ◌∷◌, sym, subst, Ok, Err, codes}
+use Rattle.std.proofs.Common.{◌≡◌, ℕ, Bool, true, false, List, sym, subst, Ok, Err, codes}
 use Rattle.std.specs.Prelude.{Result}
 use Rattle.yaml_read.specs.declared.value.YValue.{YValue}
 use Rattle.rule_form.specs.declared.comparison.Comparison.{Comparison}
@@ -13,7 +13,6 @@ use Rattle.rule_read.specs.declared.found.Setting.{Setting}
 use Rattle.rule_read.specs.declared.key.ChildKey.{ChildKey}
 use Rattle.rule_read.specs.declared.key.ChildKey.TheVariants as keys
 use Rattle.rule_read.specs.declared.key.Role.TheVariants as roles
-use Rattle.rule_read.specs.declared.stop.Misfit.{Misfit}
 use Rattle.rule_read.specs.declared.stop.Stop.{Stop}
 use Rattle.rule_read.specs.Misfits.{Fits, IsUnder}
 use Rattle.rule_read.specs.Values.{Entry, items_of, required_text, required_name}

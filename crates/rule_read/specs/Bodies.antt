@@ -1,5 +1,5 @@
 -- What a rule looks for, in each of its languages.
-use Rattle.std.specs.Prelude.{◌≡◌, ℕ, Bool, false, List, [], ◌∷◌, codes, if◌then◌else◌, Option, Some, None, Result, Ok, Err}
+use Rattle.std.specs.Prelude.{◌≡◌, ℕ, Bool, false, List, [], ◌∷◌, codes, if◌then◌else◌, Option, Some, None, Result, Ok}
 use Rattle.std.specs.Str.{bytes_eq}
 use Rattle.node_tree.specs.declared.view.Lang.{Lang}
 use Rattle.yaml_read.specs.declared.value.YValue.{YValue}
@@ -13,7 +13,6 @@ use Rattle.rule_read.specs.declared.body.RuleMode.{RuleMode}
 use Rattle.rule_read.specs.declared.body.RuleMode.TheVariants as modes
 use Rattle.rule_read.specs.declared.body.TaintKey.{TaintKey}
 use Rattle.rule_read.specs.declared.body.TaintKey.TheVariants as keys
-use Rattle.rule_read.specs.declared.found.Found.{Found}
 use Rattle.rule_read.specs.declared.found.Setting.{Setting}
 use Rattle.rule_read.specs.declared.key.Role.TheVariants as roles
 use Rattle.rule_read.specs.declared.stop.Misfit.{Misfit}

@@ -1,5 +1,5 @@
 -- Patterns, comparisons and regular expressions, as they are found.
-use Rattle.std.specs.Prelude.{◌≡◌, ◌⊎◌, ℕ, suc, List, [], ◌∷◌, ◌++◌, length, if◌then◌else◌, Bool, Result, Ok, Err}
+use Rattle.std.specs.Prelude.{◌≡◌, ◌⊎◌, ℕ, suc, List, [], ◌∷◌, ◌++◌, length, if◌then◌else◌, Result, Ok, Err}
 use Rattle.std.specs.Str.{bytes_eq}
 use Rattle.node_tree.specs.declared.view.Pattern.{Pattern}
 use Rattle.pattern_read.specs.Patterns.{IsPatternOf}
@@ -15,7 +15,7 @@ use Rattle.rule_read.specs.declared.found.Setting.{Setting}
 use Rattle.rule_read.specs.declared.stop.Stop.{Stop}
 use Rattle.rule_read.specs.declared.stop.Stop.TheVariants.{Memory, Bad}
 use Rattle.rule_read.specs.Misfits.{here}
-use Rattle.rule_read.specs.Readings.{Reading, Outcome}
+use Rattle.rule_read.specs.Readings.{Reading}
 
 -- a pattern with the setting's word on names that are known to hold a literal
 abbrev pub as_set : Setting → Pattern → Pattern

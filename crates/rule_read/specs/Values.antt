@@ -3,7 +3,6 @@ use Rattle.std.specs.Prelude.{ℕ, List, [], ◌∷◌, if◌then◌else◌, Opt
 use Rattle.std.specs.Str.{bytes_eq}
 use Rattle.yaml_read.specs.declared.value.YValue.{YValue, out-YValue}
 use Rattle.yaml_read.specs.declared.value.YValue.TheOpen as layers
-use Rattle.rule_read.specs.declared.fault.RuleFaultKind.{RuleFaultKind}
 use Rattle.rule_read.specs.declared.fault.RuleFaultKind.TheVariants.{MissingKey, WrongShape}
 use Rattle.rule_read.specs.declared.stop.Misfit.{Misfit}
 use Rattle.rule_read.specs.Misfits.{here, at}

@@ -1,4 +1,4 @@
-use Rattle.std.proofs.Common.{◌+◌, List, drop, get_or, sym, subst, arith}
+use Rattle.std.proofs.Common.{◌+◌, List, drop, get_or, sym, subst}
 use Rattle.std.proofs.lemmas.Result.{err_from_is_err_and}
 use Rattle.node_tree.specs.declared.view.Lang.TheVariants.{Json}
 use Rattle.rule_form.specs.declared.rule.Part.{Part}

@@ -1,7 +1,6 @@
 use Rattle.std.proofs.Common.{drop}
-use Rattle.rule_read.specs.Bodies.{IsTaint, room}
+use Rattle.rule_read.specs.Bodies.{room}
 use Rattle.rule_read.specs.Formulas.{IsFormula}
-use Rattle.rule_read.specs.Readings.{Reads}
 use Rattle.rule_read.proofs.Lists.{Left}
 use Rattle.rule_read.proofs.body.taint.Given as goal
 

@@ -1,4 +1,4 @@
-use Rattle.std.proofs.Common.{List, ℕ, subst, Some}
+use Rattle.std.proofs.Common.{List, ℕ, subst}
 use Rattle.std.specs.Prelude.{Option}
 use Rattle.yaml_read.specs.declared.value.YValue.{YValue}
 use Rattle.rule_read.specs.Misfits.{Fits}

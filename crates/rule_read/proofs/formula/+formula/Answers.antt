@@ -7,7 +7,7 @@ use Rattle.rule_form.specs.declared.formula.Child.TheVariants as children
 use Rattle.rule_read.specs.Misfits.{IsUnder}
 use Rattle.rule_read.specs.Readings.{AtPlace, Reads}
 use Rattle.rule_read.specs.Formulas.{IsFormula, IsAlternative, IsChild, IsMetaPattern}
-use Rattle.rule_read.proofs.Laws.{Rest, gives_reads, tells_reads, after_goes, after_stops, then_goes, then_stops, below_reads, turn_goes, turn_stops, turns_end}
+use Rattle.rule_read.proofs.Laws.{Rest, below_reads, turn_goes, turn_stops, turns_end}
 use Rattle.rule_read.proofs.Shapes.{either_stops, either_goes, patterns_stops, patterns_goes, mapped_goes, meta_pattern_stops, meta_pattern_goes, compare_at, child_goes}
 use Rattle.rule_read.proofs.Levels.{at_pattern, at_patterns, at_either, at_regex}
 use Rattle.rule_read.proofs.formula.+formula.Goals as goal

@@ -1,4 +1,4 @@
-use Rattle.std.proofs.Common.{◌≡◌, ◌+◌, ◌*◌, drop}
+use Rattle.std.proofs.Common.{◌+◌, ◌*◌, drop}
 use Rattle.rule_read.specs.Readings.{AtPlace}
 use Rattle.rule_read.specs.Formulas.{IsFormula, IsAlternative, IsChild}
 use Rattle.rule_read.proofs.Laws.{Rest}

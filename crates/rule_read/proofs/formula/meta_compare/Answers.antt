@@ -1,4 +1,3 @@
-use Rattle.std.proofs.Common.{Err, Ok}
 use Rattle.std.proofs.lemmas.Result.{err_from_is_err_and}
 use Rattle.rule_read.proofs.Shapes.{compare_stops, compare_goes}
 use Rattle.rule_read.proofs.formula.meta_compare.Goals as goal

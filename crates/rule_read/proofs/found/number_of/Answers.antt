@@ -1,5 +1,4 @@
-use Rattle.std.proofs.Common.{arith, ap, sym, ◌∙◌, refl, List, ℕ}
-use Rattle.node_tree.specs.declared.view.Pattern.{Pattern}
+use Rattle.std.proofs.Common.{arith, ap, sym, ◌∙◌, refl}
 use Rattle.rule_read.specs.declared.found.Found.{Found}
 use Rattle.rule_read.specs.Finds.{place_of}
 use Rattle.rule_read.proofs.Finding.{numbered, with_known, with_new}

@@ -1,4 +1,4 @@
-use Rattle.std.proofs.Common.{◌≡◌, ◌≤◌, ◌++◌, length, drop}
+use Rattle.std.proofs.Common.{◌≡◌, ◌≤◌, length, drop}
 use Rattle.rule_read.specs.Rules.{key_of}
 use Rattle.rule_read.proofs.read.key_text.Given as goal
 

@@ -1,4 +1,4 @@
-use Rattle.std.proofs.Common.{◌+◌, List, drop, sym, subst, arith}
+use Rattle.std.proofs.Common.{◌+◌, List, drop, sym, subst}
 use Rattle.rule_read.specs.declared.fault.RuleOutcome.{RuleOutcome}
 use Rattle.rule_read.proofs.Outcomes.{SoFar, goes, found, only_found}
 use Rattle.rule_read.proofs.read.outcomes.Goals as goal
