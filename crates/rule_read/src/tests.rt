@@ -473,3 +473,21 @@ fn reads_entries_apart(rt: HostRuntime) -> Result<(), Fail> {
     }
     Ok(())
 }
+
+#[test]
+fn reads_comparisons(rt: HostRuntime) -> Result<(), Fail> {
+    let rows = [
+        (
+            "  patterns:\n  - pattern: f($X)\n  - metavariable-comparison:\n      metavariable:\n      comparison: $X > 5\n",
+            "p m Info Python 1 all( +l0 compare ) ;",
+        ),
+        (
+            "  patterns:\n  - pattern: f($X)\n  - metavariable-comparison:\n      comparison: 1 <\n",
+            "BadComparison p rules.0.patterns.1.metavariable-comparison.comparison;",
+        ),
+    ];
+    for (text, wanted) in rows {
+        assert_eq!(rt; outcome_with(&rt, text)?.as_str(), wanted);
+    }
+    Ok(())
+}
