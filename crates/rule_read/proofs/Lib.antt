@@ -1,0 +1,9 @@
+pub mod Folds
+pub mod Distinct
+pub mod Laws
+pub mod Finding
+pub mod Levels
+pub mod Shapes
+pub mod Lists
+pub mod Entries
+pub mod Outcomes

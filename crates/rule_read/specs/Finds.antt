@@ -1,0 +1,70 @@
+-- Patterns, comparisons and regular expressions, as they are found.
+use Rattle.std.specs.Prelude.{◌≡◌, ◌⊎◌, ℕ, suc, List, [], ◌∷◌, ◌++◌, length, if◌then◌else◌, Result, Ok, Err}
+use Rattle.std.specs.Str.{bytes_eq}
+use Rattle.node_tree.specs.declared.view.Pattern.{Pattern}
+use Rattle.pattern_read.specs.Patterns.{IsPatternOf}
+use Rattle.pattern_read.specs.declared.fault.PatternFault.{PatternFault}
+use Rattle.pattern_read.specs.declared.fault.PatternFault.TheVariants as faults
+use Rattle.rule_form.specs.declared.comparison.Comparison.{Comparison}
+use Rattle.rule_form.specs.declared.formula.Formula.{Formula}
+use Rattle.rule_form.specs.declared.formula.Formula.TheVariants as formulas
+use Rattle.meta_filter.specs.Comparisons.{IsComparisonOf}
+use Rattle.rule_read.specs.declared.fault.RuleFaultKind.TheVariants.{BadPattern, BadComparison}
+use Rattle.rule_read.specs.declared.found.Found.{Found}
+use Rattle.rule_read.specs.declared.found.Setting.{Setting}
+use Rattle.rule_read.specs.declared.stop.Stop.{Stop}
+use Rattle.rule_read.specs.declared.stop.Stop.TheVariants.{Memory, Bad}
+use Rattle.rule_read.specs.Misfits.{here}
+use Rattle.rule_read.specs.Readings.{Reading}
+
+-- a pattern with the setting's word on names that are known to hold a literal
+abbrev pub as_set : Setting → Pattern → Pattern
+as_set setting p = record { lang = p.lang; shape = p.shape; tree = p.tree; constants = setting.constants }
+
+-- one pattern more
+abbrev pub with_pattern : Pattern → Found → Found
+with_pattern p s = record { patterns = s.patterns ++ p ∷ []; texts = s.texts }
+
+-- the pattern is the next leaf
+abbrev pub IsNextLeaf : Setting → Pattern → Reading Formula
+IsNextLeaf setting p s o = o ≡ Ok (formulas.Leaf (length s.patterns), with_pattern (as_set setting p) s)
+
+-- a text that writes a pattern is the next leaf; any other is no pattern
+abbrev pub IsLeaf : Setting → List ℕ → Reading Formula
+IsLeaf setting text s o =
+    ((p : Pattern) × IsPatternOf setting.lang text p × IsNextLeaf setting p s o)
+    ⊎ (((p : Pattern) → IsPatternOf setting.lang text p → ⊥) × (o ≡ Err (here BadPattern)))
+
+-- a text that is a comparison, and any other
+abbrev pub IsCompared : List ℕ → Reading Comparison
+IsCompared text s o =
+    ((c : Comparison) × IsComparisonOf text c × (o ≡ Ok (c, s)))
+    ⊎ (((c : Comparison) → IsComparisonOf text c → ⊥) × (o ≡ Err (here BadComparison)))
+
+-- the place of a text among some, which is behind them all where it isn't there
+abbrev pub place_of : List ℕ → List (List ℕ) → ℕ
+place_of text [] = 0
+place_of text (t ∷ ts) = if bytes_eq t text then 0 else suc (place_of text ts)
+
+-- some texts, and one more where it isn't among them
+abbrev pub with_text : List ℕ → List (List ℕ) → List (List ℕ)
+with_text text [] = text ∷ []
+with_text text (t ∷ ts) = if bytes_eq t text then t ∷ ts else t ∷ with_text text ts
+
+-- what was found, with the text
+abbrev pub noting : List ℕ → Found → Found
+noting text s = record { patterns = s.patterns; texts = with_text text s.texts }
+
+-- the number of a regular expression
+abbrev pub IsNumber : List ℕ → Reading ℕ
+IsNumber text s o = o ≡ Ok (place_of text s.texts, noting text s)
+
+-- the text was added at the end, unless memory ran out
+abbrev pub IsAdded : List ℕ → Found → Result (Unit {0}) Stop → Found → Type 0
+IsAdded text old (Ok u) new = new ≡ record { patterns = old.patterns; texts = old.texts ++ text ∷ [] }
+IsAdded text old (Err e) new = e ≡ Memory
+
+-- a text that writes no pattern is a bad one, unless memory ran out
+abbrev pub IsUnwritten : PatternFault → Stop → Type 0
+IsUnwritten faults.Memory stop = stop ≡ Memory
+IsUnwritten _ stop = stop ≡ Bad (here BadPattern)

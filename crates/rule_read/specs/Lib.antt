@@ -1,0 +1,11 @@
+pub mod Misfits
+pub mod Values
+pub mod Names
+pub mod Keys
+pub mod Readings
+pub mod Finds
+pub mod Formulas
+pub mod Bodies
+pub mod Heads
+pub mod Extras
+pub mod Rules

@@ -1,0 +1,456 @@
+//! Formulas.
+
+ghost use Rattle.std.specs.Prelude.{◌≡◌};
+ghost use Rattle.rule_read.specs.declared.found.Found.{Found as a_found};
+ghost use Rattle.rule_read.specs.Misfits.{Fits};
+ghost use Rattle.rule_read.specs.Values as values;
+ghost use Rattle.rule_read.specs.Finds as finds;
+ghost use Rattle.rule_read.specs.Readings.{Reads, Each, AtPlace};
+ghost use Rattle.rule_read.specs.Formulas as spec;
+
+use crate::fault::RuleFaultKind;
+use crate::found::{Found, Setting, leaf, number_of};
+use crate::key::{ChildKey, FormulaKey, Role, map_of, one_of};
+use crate::stop::{Stop, here, within, within_item};
+use crate::value::{
+    Entry, items_of, list_of, required_name, required_text, some_items, text_of, whole_name,
+    whole_text,
+};
+use meta_filter::{CompareFault, read_comparison};
+use node_tree::{List, Text};
+use rule_form::{Child, Comparison, Formula, Propagator};
+use std::alloc::Global;
+use yaml_read::YValue;
+
+fn pattern(
+    alloc: Global,
+    setting: Setting,
+    value: &YValue,
+    found: &mut Found,
+) -> Result<Formula, Stop>
+    ensures { Reads (spec.IsPattern setting value.now) found.old result found.new }
+{
+    let text = whole_text(alloc, value)?;
+    leaf(alloc, setting, text, found)
+}
+
+/// The number of the regular expression that a value is.
+fn regex(alloc: Global, value: &YValue, found: &mut Found) -> Result<u32, Stop>
+    ensures { Reads (spec.IsRegex value.now) found.old result found.new }
+{
+    let text = whole_text(alloc, value)?;
+    number_of(alloc, text, found)
+}
+
+fn regex_formula(alloc: Global, value: &YValue, found: &mut Found) -> Result<Formula, Stop>
+    ensures { Reads (spec.IsRegexFormula value.now) found.old result found.new }
+{
+    let number = regex(alloc, value, found)?;
+    Ok(Formula::Regex(number))
+}
+
+/// Reads the value of a key whose value is a formula, in so many levels at most. `bare` says that a `patterns` needs no operand
+/// there.
+#[cycle(formula)]
+pub fn formula(
+    alloc: Global,
+    setting: Setting,
+    room: u32,
+    bare: bool,
+    key: FormulaKey,
+    value: &YValue,
+    found: &mut Found,
+) -> Result<Formula, Stop>
+    ensures { Reads (spec.IsFormula room setting bare key value.now) found.old result found.new }
+{
+    if room == 0 {
+        return Err(Stop::Memory);
+    }
+    match key {
+        FormulaKey::Pattern => pattern(alloc, setting, value, found),
+        FormulaKey::Patterns => patterns(alloc, setting, room - 1, bare, value, found),
+        FormulaKey::Either => either(alloc, setting, room - 1, value, found),
+        FormulaKey::Regex => regex_formula(alloc, value, found),
+    }
+}
+
+#[cycle(formula)]
+fn either(
+    alloc: Global,
+    setting: Setting,
+    room: u32,
+    value: &YValue,
+    found: &mut Found,
+) -> Result<Formula, Stop>
+    ensures { Reads (spec.IsEither setting (spec.IsFormula room setting) value.now) found.old result found.new }
+{
+    let items = items_of(alloc, value)?;
+    let formulas = alternatives(alloc, setting, room, items, found)?;
+    Ok(Formula::Any(formulas))
+}
+
+#[cycle(formula)]
+fn alternatives(
+    alloc: Global,
+    setting: Setting,
+    room: u32,
+    items: &[YValue],
+    found: &mut Found,
+) -> Result<List<Formula>, Stop>
+    ensures { Reads (Each (AtPlace (spec.IsAlternative setting (spec.IsFormula room setting))) 0 items.now) found.old result found.new }
+{
+    let mut formulas = List::new(alloc);
+    for (place, item) in items.iter().enumerate() {
+        let formula = alternative(alloc, setting, room, item, found);
+        let formula = within_item(alloc, place, formula)?;
+        formulas.push(formula)?;
+    }
+    Ok(formulas)
+}
+
+/// An item of `pattern-either`.
+#[cycle(formula)]
+fn alternative(
+    alloc: Global,
+    setting: Setting,
+    room: u32,
+    item: &YValue,
+    found: &mut Found,
+) -> Result<Formula, Stop>
+    ensures { Reads (spec.IsAlternative setting (spec.IsFormula room setting) item.now) found.old result found.new }
+{
+    let entries = map_of(alloc, Role::Alternative, item)?;
+    let (key, entry) = one_of(alloc, Role::Alternative, entries)?;
+    let formula = alternative_at(alloc, setting, room, key, &entry.1, found);
+    within(alloc, entry.0.as_str(), formula)
+}
+
+/// The value of a key in an item of `pattern-either`, where `pattern-inside` is just the formula that it holds.
+#[cycle(formula)]
+fn alternative_at(
+    alloc: Global,
+    setting: Setting,
+    room: u32,
+    key: ChildKey,
+    value: &YValue,
+    found: &mut Found,
+) -> Result<Formula, Stop>
+    ensures { Reads (spec.IsAlternativeAt setting (spec.IsFormula room setting) key value.now) found.old result found.new }
+{
+    match key {
+        ChildKey::Formula(key) => formula(alloc, setting, room, false, key, value, found),
+        ChildKey::Inside => held(alloc, setting, room, value, found),
+        _ => Err(here(alloc, RuleFaultKind::WrongShape)),
+    }
+}
+
+/// The formula that a map of the role holds, where just one formula key counts.
+#[cycle(formula)]
+pub fn one_formula(
+    alloc: Global,
+    setting: Setting,
+    room: u32,
+    role: Role,
+    bare: bool,
+    entries: &[Entry],
+    found: &mut Found,
+) -> Result<Formula, Stop>
+    ensures { Reads (spec.IsOne (spec.IsFormulaAt (spec.IsFormula room setting) bare) role entries.now) found.old result found.new }
+{
+    let (key, entry) = one_of(alloc, role, entries)?;
+    let formula = formula_at(alloc, setting, room, bare, key, &entry.1, found);
+    within(alloc, entry.0.as_str(), formula)
+}
+
+/// The value of a formula key, where no other key counts.
+#[cycle(formula)]
+fn formula_at(
+    alloc: Global,
+    setting: Setting,
+    room: u32,
+    bare: bool,
+    key: ChildKey,
+    value: &YValue,
+    found: &mut Found,
+) -> Result<Formula, Stop>
+    ensures { Reads (spec.IsFormulaAt (spec.IsFormula room setting) bare key value.now) found.old result found.new }
+{
+    match key {
+        ChildKey::Formula(key) => formula(alloc, setting, room, bare, key, value, found),
+        _ => Err(here(alloc, RuleFaultKind::WrongShape)),
+    }
+}
+
+/// The value of `pattern-inside`, `pattern-not` or `pattern-not-inside`: a pattern, or a map with one formula.
+#[cycle(formula)]
+fn held(
+    alloc: Global,
+    setting: Setting,
+    room: u32,
+    value: &YValue,
+    found: &mut Found,
+) -> Result<Formula, Stop>
+    ensures { Reads (spec.IsHeld setting (spec.IsFormula room setting) value.now) found.old result found.new }
+{
+    if let Some(text) = text_of(value) {
+        return leaf(alloc, setting, text, found);
+    }
+    mapped(alloc, setting, room, value, found)
+}
+
+/// A map with one formula.
+#[cycle(formula)]
+pub fn mapped(
+    alloc: Global,
+    setting: Setting,
+    room: u32,
+    value: &YValue,
+    found: &mut Found,
+) -> Result<Formula, Stop>
+    ensures { Reads (spec.IsMapped (spec.IsFormula room setting) value.now) found.old result found.new }
+{
+    let entries = map_of(alloc, Role::Formula, value)?;
+    one_formula(alloc, setting, room, Role::Formula, false, entries, found)
+}
+
+#[cycle(formula)]
+fn patterns(
+    alloc: Global,
+    setting: Setting,
+    room: u32,
+    bare: bool,
+    value: &YValue,
+    found: &mut Found,
+) -> Result<Formula, Stop>
+    ensures { Reads (spec.IsPatterns setting (spec.IsFormula room setting) bare value.now) found.old result found.new }
+{
+    let items = items_of(alloc, value)?;
+    let children = children(alloc, setting, room, items, found)?;
+    all_of(alloc, bare, children)
+}
+
+#[cycle(formula)]
+fn children(
+    alloc: Global,
+    setting: Setting,
+    room: u32,
+    items: &[YValue],
+    found: &mut Found,
+) -> Result<List<Child>, Stop>
+    ensures { Reads (Each (AtPlace (spec.IsChild setting (spec.IsFormula room setting))) 0 items.now) found.old result found.new }
+{
+    let mut children = List::new(alloc);
+    for (place, item) in items.iter().enumerate() {
+        let child = child(alloc, setting, room, item, found);
+        let child = within_item(alloc, place, child)?;
+        children.push(child)?;
+    }
+    Ok(children)
+}
+
+/// All children, of which one must be an operand unless `bare`.
+fn all_of(alloc: Global, bare: bool, children: List<Child>) -> Result<Formula, Stop>
+    ensures { Fits (λ f. f) (spec.all_of bare children) result }
+{
+    if bare || has_operand(children.as_slice()) {
+        Ok(Formula::All(children))
+    } else {
+        Err(here(alloc, RuleFaultKind::WrongShape))
+    }
+}
+
+/// Whether a child is an operand: one that ranges come from.
+fn is_operand(child: &Child) -> bool
+    ensures { result ≡ spec.is_operand child.now }
+{
+    matches!(child, Child::Positive(_) | Child::Inside(_))
+}
+
+fn has_operand(children: &[Child]) -> bool
+    ensures { result ≡ spec.has_operand children.now }
+{
+    for child in children {
+        if is_operand(child) {
+            return true;
+        }
+    }
+    false
+}
+
+/// An item of `patterns`.
+#[cycle(formula)]
+fn child(
+    alloc: Global,
+    setting: Setting,
+    room: u32,
+    item: &YValue,
+    found: &mut Found,
+) -> Result<Child, Stop>
+    ensures { Reads (spec.IsChild setting (spec.IsFormula room setting) item.now) found.old result found.new }
+{
+    let entries = map_of(alloc, Role::Child, item)?;
+    let (key, entry) = one_of(alloc, Role::Child, entries)?;
+    let child = child_at(alloc, setting, room, key, &entry.1, found);
+    within(alloc, entry.0.as_str(), child)
+}
+
+/// The value of a key in an item of `patterns`.
+#[cycle(formula)]
+fn child_at(
+    alloc: Global,
+    setting: Setting,
+    room: u32,
+    key: ChildKey,
+    value: &YValue,
+    found: &mut Found,
+) -> Result<Child, Stop>
+    ensures { Reads (spec.IsChildAt setting (spec.IsFormula room setting) key value.now) found.old result found.new }
+{
+    match key {
+        ChildKey::Formula(key) => {
+            let formula = formula(alloc, setting, room, false, key, value, found)?;
+            Ok(Child::Positive(formula))
+        }
+        ChildKey::Inside => {
+            let formula = held(alloc, setting, room, value, found)?;
+            Ok(Child::Inside(formula))
+        }
+        ChildKey::Not => {
+            let formula = held(alloc, setting, room, value, found)?;
+            Ok(Child::Not(formula))
+        }
+        ChildKey::NotInside => {
+            let formula = held(alloc, setting, room, value, found)?;
+            Ok(Child::NotInside(formula))
+        }
+        ChildKey::NotRegex => {
+            let number = regex(alloc, value, found)?;
+            Ok(Child::NotRegex(number))
+        }
+        ChildKey::MetaRegex => meta_regex(alloc, value, found),
+        ChildKey::MetaCompare => meta_compare(alloc, value),
+        ChildKey::MetaPattern => meta_pattern(alloc, setting, room, value, found),
+        ChildKey::Focus => {
+            let names = focus(alloc, value)?;
+            Ok(Child::Focus(names))
+        }
+    }
+}
+
+fn meta_regex(alloc: Global, value: &YValue, found: &mut Found) -> Result<Child, Stop>
+    ensures { Reads (spec.IsMetaRegex value.now) found.old result found.new }
+{
+    let entries = map_of(alloc, Role::MetaRegex, value)?;
+    let name = required_name(alloc, entries, "metavariable")?;
+    let text = required_text(alloc, entries, "regex")?;
+    let number = number_of(alloc, text, found)?;
+    Ok(Child::MetaRegex(Text::from_str(alloc, name)?, number))
+}
+
+/// The comparison that a text is.
+fn comparison(alloc: Global, text: &str) -> Result<Comparison, Stop>
+    ensures { (s : a_found) → Reads (finds.IsCompared text.now) s result s }
+{
+    match read_comparison(alloc, text) {
+        Ok(comparison) => Ok(comparison),
+        Err(CompareFault::Memory) => Err(Stop::Memory),
+        Err(CompareFault::NoComparison) => Err(here(alloc, RuleFaultKind::BadComparison)),
+    }
+}
+
+fn meta_compare(alloc: Global, value: &YValue) -> Result<Child, Stop>
+    ensures { (s : a_found) → Reads (spec.IsMetaCompare value.now) s result s }
+{
+    let entries = map_of(alloc, Role::MetaCompare, value)?;
+    let text = required_text(alloc, entries, "comparison")?;
+    let comparison = within(alloc, "comparison", comparison(alloc, text))?;
+    Ok(Child::MetaCompare(comparison))
+}
+
+#[cycle(formula)]
+fn meta_pattern(
+    alloc: Global,
+    setting: Setting,
+    room: u32,
+    value: &YValue,
+    found: &mut Found,
+) -> Result<Child, Stop>
+    ensures { Reads (spec.IsMetaPattern (spec.IsFormula room setting) value.now) found.old result found.new }
+{
+    let entries = map_of(alloc, Role::MetaPattern, value)?;
+    let name = required_name(alloc, entries, "metavariable")?;
+    let formula = one_formula(
+        alloc,
+        setting,
+        room,
+        Role::MetaPattern,
+        true,
+        entries,
+        found,
+    )?;
+    Ok(Child::MetaPattern(Text::from_str(alloc, name)?, formula))
+}
+
+/// The name that a value must be, as a text of its own.
+fn name(alloc: Global, value: &YValue) -> Result<Text, Stop>
+    ensures { Fits (λ t. t) (values.whole_name value.now) result }
+{
+    let name = whole_name(alloc, value)?;
+    let name = Text::from_str(alloc, name)?;
+    Ok(name)
+}
+
+/// The names that the items of a list must be.
+fn names(alloc: Global, items: &[YValue]) -> Result<List<Text>, Stop>
+    ensures { Fits (λ l. l) (spec.names_from 0 items.now) result }
+{
+    let mut all = List::new(alloc);
+    for (place, item) in items.iter().enumerate() {
+        let name = within_item(alloc, place, name(alloc, item))?;
+        all.push(name)?;
+    }
+    Ok(all)
+}
+
+/// The value of `focus-metavariable`: a name, or a list of some.
+fn focus(alloc: Global, value: &YValue) -> Result<List<Text>, Stop>
+    ensures { Fits (λ l. l) (spec.focus value.now) result }
+{
+    if let Some(items) = list_of(value) {
+        let items = some_items(alloc, items)?;
+        return names(alloc, items);
+    }
+    let name = name(alloc, value)?;
+    let mut all = List::new(alloc);
+    all.push(name)?;
+    Ok(all)
+}
+
+/// An item of `pattern-propagators`.
+pub fn propagator(
+    alloc: Global,
+    setting: Setting,
+    room: u32,
+    item: &YValue,
+    found: &mut Found,
+) -> Result<Propagator, Stop>
+    ensures { Reads (spec.IsPropagator (spec.IsFormula room setting) item.now) found.old result found.new }
+{
+    let entries = map_of(alloc, Role::Propagator, item)?;
+    let formula = one_formula(
+        alloc,
+        setting,
+        room,
+        Role::Propagator,
+        false,
+        entries,
+        found,
+    )?;
+    let source = required_name(alloc, entries, "from")?;
+    let target = required_name(alloc, entries, "to")?;
+    Ok(Propagator {
+        formula,
+        source: Text::from_str(alloc, source)?,
+        target: Text::from_str(alloc, target)?,
+    })
+}

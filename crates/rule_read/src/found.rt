@@ -1,0 +1,100 @@
+//! The patterns and regular expressions that were found so far.
+
+ghost use Rattle.std.specs.Prelude.{◌≡◌};
+ghost use Rattle.rule_read.specs.Readings.{Reads};
+ghost use Rattle.rule_read.specs.Finds as spec;
+
+use crate::fault::RuleFaultKind;
+use crate::stop::{Stop, here};
+use crate::value::is;
+use node_tree::{Lang, List, Pattern, Text};
+use pattern_read::{PatternFault, read_pattern};
+use rule_form::Formula;
+use std::alloc::Global;
+
+/// The patterns of a part and the regular expressions of its rule, as far as they were found.
+#[derive(Drop)]
+pub struct Found {
+    pub patterns: List<Pattern>,
+    pub texts: List<Text>,
+}
+
+/// How patterns are read: in which language, and whether literals match names that are known to hold them.
+#[derive(Clone, Copy, Debug, PartialEq, Eq)]
+pub struct Setting {
+    pub lang: Lang,
+    pub constants: bool,
+}
+
+/// The place of a text among some, from 0, if it is among them.
+fn place_of(text: &str, texts: &[Text]) -> usize
+    ensures { result ≡ spec.place_of text.now texts.now }
+{
+    for (place, known) in texts.iter().enumerate() {
+        if is(known.as_str(), text) {
+            return place;
+        }
+    }
+    texts.len()
+}
+
+/// Adds a text that isn't there.
+fn add_text(alloc: Global, text: &str, found: &mut Found) -> Result<(), Stop>
+    ensures { spec.IsAdded text.now found.old result found.new }
+{
+    found.texts.push(Text::from_str(alloc, text)?)?;
+    Ok(())
+}
+
+/// The number of the regular expression among those found, from 0. A new one comes last.
+pub fn number_of(alloc: Global, text: &str, found: &mut Found) -> Result<u32, Stop>
+    ensures { Reads (spec.IsNumber text.now) found.old result found.new }
+{
+    let place = place_of(text, found.texts.as_slice());
+    let Ok(number) = u32::try_from(place) else {
+        return Err(Stop::Memory);
+    };
+    if place < found.texts.len() {
+        return Ok(number);
+    }
+    add_text(alloc, text, found)?;
+    Ok(number)
+}
+
+/// Adds a pattern, as the setting has it.
+fn next_leaf(setting: Setting, pattern: Pattern, found: &mut Found) -> Result<Formula, Stop>
+    ensures { Reads (spec.IsNextLeaf setting pattern) found.old result found.new }
+{
+    let Ok(number) = u32::try_from(found.patterns.len()) else {
+        return Err(Stop::Memory);
+    };
+    found.patterns.push(Pattern {
+        lang: pattern.lang,
+        shape: pattern.shape,
+        tree: pattern.tree,
+        constants: setting.constants,
+    })?;
+    Ok(Formula::Leaf(number))
+}
+
+/// Why a text that writes no pattern is not read.
+fn no_pattern(alloc: Global, fault: PatternFault) -> Stop
+    ensures { spec.IsUnwritten fault result }
+{
+    match fault {
+        PatternFault::Memory => Stop::Memory,
+        PatternFault::NoPattern => here(alloc, RuleFaultKind::BadPattern),
+        PatternFault::OnlyDots => here(alloc, RuleFaultKind::BadPattern),
+        PatternFault::DotsPlace => here(alloc, RuleFaultKind::BadPattern),
+    }
+}
+
+/// Reads a text as a pattern, which comes last among those found.
+pub fn leaf(alloc: Global, setting: Setting, text: &str, found: &mut Found) -> Result<Formula, Stop>
+    ensures { Reads (spec.IsLeaf setting text.now) found.old result found.new }
+{
+    match read_pattern(alloc, setting.lang, text) {
+        Ok(pattern) => next_leaf(setting, pattern, found),
+        Err(fault) => Err(no_pattern(alloc, fault)),
+    }
+}
