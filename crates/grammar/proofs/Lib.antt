@@ -16,4 +16,5 @@ pub mod Counts
 pub mod Rounds
 pub mod Theorem
 pub mod Cuts
+pub mod Renamed
 pub mod sums

@@ -3,4 +3,5 @@ pub mod Sets
 pub mod Reader
 pub mod Tests
 pub mod Check
+pub mod Renamed
 pub mod sums
