@@ -55,3 +55,19 @@ fn texts_grow(rt: HostRuntime) -> Result<(), Fail> {
     assert!(rt; text.copy()?.is_same(&text));
     Ok(())
 }
+
+#[test]
+fn stops_at_each_block(rt: HostRuntime) -> Result<(), Fail> {
+    let mut choice = leaf(&rt, Kind::If, 1);
+    choice.kids.push(leaf(&rt, Kind::Name, 2))?;
+    choice.kids.push(leaf(&rt, Kind::Block, 3))?;
+    let mut root = leaf(&rt, Kind::Root, 0);
+    root.kids.push(choice)?;
+    root.kids.push(leaf(&rt, Kind::Pass, 4))?;
+    let mut places = Vec::new(rt.alloc());
+    for block in root.blocks()? {
+        places.push(block.span.from)?;
+    }
+    assert!(rt; places.as_slice() == [0, 3].as_slice());
+    Ok(())
+}
