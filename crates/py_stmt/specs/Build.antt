@@ -108,15 +108,27 @@ abbrev pub listing : List Part → List Part
 listing [] = clauses [] ∷ []
 listing ps = ps
 
--- parts of a name with points between them
+-- parts of a name, each with a point before it
+abbrev pub pointed : List Part → List ℕ
+pointed [] = []
+pointed (sign text ∷ ps) = 46 ∷ (text ++ pointed ps)
+pointed (p ∷ ps) = pointed ps
+
+-- a name with points between its parts
 abbrev pub dotted : List Part → List ℕ
 dotted [] = []
-dotted (sign text ∷ []) = text
-dotted (sign text ∷ ps) = text ++ 46 ∷ dotted ps
-dotted (p ∷ ps) = dotted ps
+dotted (sign text ∷ ps) = text ++ pointed ps
+dotted (p ∷ ps) = pointed ps
 
 abbrev pub dotting : ℕ → ℕ → List Part → List Part
 dotting from to ps = whole (node k.Id (dotted ps) from to (nodes_of ps)) ∷ []
+
+abbrev pub whole_of : Node → List Part
+whole_of n = whole n ∷ []
+
+-- a piece of one token
+abbrev pub alone : ℕ → ℕ → Bool
+alone i j = eqb j (suc i)
 
 -- ---- all of them, over a piece from a token, behind which another is; alone tells that it is one token
 
@@ -133,7 +145,7 @@ made Dotting alone from to ps = dotting from to ps
 
 abbrev pub build : List Item → Builder → ℕ → ℕ → List Part → List Part
 build ts (Value_of b) i j ps = build_expression ts b i j ps
-build ts b i j ps = made b (eqb j (suc i)) (token_at ts i).span.from (end_from ts i j) ps
+build ts b i j ps = made b (alone i j) (token_at ts i).span.from (end_from ts i j) ps
 
 -- the tokens, for the grammar
 abbrev pub source : List Item → Source Leaf Builder Part

@@ -1,11 +1,26 @@
 -- What the reader by the table gives, in the forms of the functions that read.
-use Rattle.std.specs.Prelude.{ℕ, suc, length, ◌-◌, List, [], ◌∷◌, ◌++◌, Option, Some, None}
+use Rattle.std.specs.Prelude.{ℕ, suc, length, ◌-◌, Bool, List, [], ◌∷◌, ◌++◌, Option, Some, None, eqb}
 use Rattle.node_tree.specs.declared.node.Node.{Node}
+use Rattle.node_tree.specs.declared.kind.Kind.{Kind}
+use Rattle.node_tree.specs.declared.kind.Kind.TheVariants as k
+use Rattle.grammar.specs.Rule.{ref, mark, word, opt, rep, make, has, ◌·◌}
 use Rattle.grammar.specs.Reader.{read, read_level, choice, ◌>>=◌}
 use Rattle.py_expr.specs.declared.item.Item.{Item}
+use Rattle.py_expr.specs.declared.word.Word.{Word}
+use Rattle.py_expr.specs.declared.word.Word.TheVariants as w
+use Rattle.py_expr.specs.declared.level.PyLevel.{PyLevel}
+use Rattle.py_expr.specs.Runs.{level_at}
+use Rattle.py_expr.specs.Words.{class}
 use Rattle.py_expr.specs.Parts.{Part, whole, more, wholes, nodes_of}
-use Rattle.py_stmt.specs.Table.{Level, Row, table}
-use Rattle.py_stmt.specs.Build.{source, filled, written}
+use Rattle.py_expr.specs.Build.{token_at}
+use Rattle.py_expr.specs.Table as expressions
+use Rattle.py_stmt.specs.declared.series.Series.{Series}
+use Rattle.py_stmt.specs.declared.series.Series.TheVariants as series_of
+use Rattle.py_stmt.specs.declared.line.Parted.{Parted}
+use Rattle.py_stmt.specs.declared.line.Parted.TheVariants as parted_of
+use Rattle.py_stmt.specs.Table as rows
+use Rattle.py_stmt.specs.Table.{Level, Expression, Row, Value, ValuesTail, NamesTail, AliasesTail, WithItemsTail, DecoratorsTail, DottedTail, DotsTail, MoreAliasesTail, LineTail, Simple, Alias, Decorator, Statement, Valued, Several, Dotting, table, tok, sign, value, looped}
+use Rattle.py_stmt.specs.Build.{source, filled, written, pointed}
 use Rattle.py_stmt.specs.Sets.{sets, ranks}
 
 -- the reader of a level, by the table
@@ -16,9 +31,12 @@ level ts room l i = read_level (source ts) sets (suc (length ts)) table ranks.to
 abbrev pub row : List Item → ℕ → Row → ℕ → Option (List Part × ℕ)
 row ts room r i = read (source ts) sets (suc (length ts)) (choice (level ts room) (level ts (room - 1))) (λ i. None) None r i
 
--- what a level reads, as the kids of a statement that begins there
+-- what a level reads, as the kids of a statement that begins there, and with the words that count
 abbrev pub kids : List Item → ℕ → ℕ → Level → ℕ → Option (List Node × ℕ)
 kids ts room from l i = level ts room l i >>= λ x. Some (filled from x.0, x.1)
+
+abbrev pub heads : List Item → ℕ → ℕ → Level → ℕ → Option (List ℕ × List Node × ℕ)
+heads ts room from l i = level ts room l i >>= λ x. Some (written x.0, filled from x.0, x.1)
 
 -- ---- results as parts
 
@@ -35,3 +53,99 @@ found (Some n) = n ∷ []
 
 abbrev pub optional : Option Node × ℕ → List Part × ℕ
 optional x = (wholes (found x.0), x.1)
+
+abbrev pub headed : List ℕ × Node × ℕ → List ℕ × List Node × ℕ
+headed x = (x.0, x.1 ∷ [], x.2)
+
+-- ---- parts of rows that have functions of their own
+
+abbrev pub some_exprs : List Item → ℕ → ℕ → Option (List Part × ℕ)
+some_exprs ts room i = row ts room (opt (value expressions.Exprs)) i
+
+abbrev pub marked : List Item → ℕ → Word → PyLevel → ℕ → Option (List Part × ℕ)
+marked ts room m l i = row ts room (opt (tok m · ref (Expression (level_at l)))) i
+
+abbrev pub assigned : List Item → ℕ → ℕ → Option (List Part × ℕ)
+assigned ts room i = row ts room (opt rows.further_value) i
+
+-- a statement of the keyword that stands there
+abbrev pub keyword : List Item → Kind → ℕ → Option (List Part × ℕ)
+keyword ts kind i = Some ((source ts).build (Statement kind) i (suc i) [], suc i)
+
+abbrev pub yielded : List Item → ℕ → ℕ → Option (List Part × ℕ)
+yielded ts room i = row ts room (make Valued (value expressions.Yield)) i
+
+-- names behind the keyword that stands there
+abbrev pub declared : List Item → ℕ → Kind → ℕ → Option (List Part × ℕ)
+declared ts room kind i = row ts room rows.names_of (suc i) >>= λ x. Some ((source ts).build (Statement kind) i x.1 x.0, x.1)
+
+abbrev pub everything : List Item → ℕ → Option (List Part × ℕ)
+everything ts i = Some ((source ts).build Several i (suc i) ((source ts).build (Statement k.Alias) i (suc i) ((source ts).build Dotting i (suc i) (Part.sign (token_at ts i).text ∷ []))), suc i)
+
+-- ---- items in a row
+
+abbrev pub row_of : Series → Row
+row_of series_of.Values = rows.further_value
+row_of series_of.Names = rows.further_name
+row_of series_of.Aliases = rows.further_alias
+row_of series_of.Items = rows.further_item
+row_of series_of.Decorators = ref Decorator
+
+abbrev pub tail_of : Series → Level
+tail_of series_of.Values = ValuesTail
+tail_of series_of.Names = NamesTail
+tail_of series_of.Aliases = AliasesTail
+tail_of series_of.Items = WithItemsTail
+tail_of series_of.Decorators = DecoratorsTail
+
+-- the classes that go on with a row
+abbrev pub marks_of : Series → List ℕ
+marks_of series_of.Values = class w.Equal ∷ []
+marks_of series_of.Decorators = class w.At ∷ []
+marks_of _ = expressions.commas
+
+abbrev pub goes_on : List Item → Series → ℕ → Bool
+goes_on ts s i = has (marks_of s) (class (token_at ts i).word)
+
+abbrev pub further : List Item → ℕ → Series → ℕ → Option (List Part × ℕ)
+further ts room s i = row ts room (rep (tail_of s) (looped (row_of s))) i
+
+-- some nodes, and what is read behind them
+abbrev pub along : List Node → Option (List Part × ℕ) → Option (List Part × ℕ)
+along ns r = r >>= λ x. Some (wholes ns ++ x.0, x.1)
+
+-- a text, and what parts of a name, or points, are read behind it
+abbrev pub pointed_behind : List ℕ → Option (List Part × ℕ) → Option (List ℕ × ℕ)
+pointed_behind text r = r >>= λ x. Some (text ++ pointed x.0, x.1)
+
+abbrev pub further_parts : List Item → ℕ → ℕ → Option (List Part × ℕ)
+further_parts ts room i = row ts room (rep DottedTail (looped rows.further_part)) i
+
+abbrev pub behind : List ℕ → Option (List Part × ℕ) → Option (List ℕ × ℕ)
+behind text r = r >>= λ x. Some (text ++ written x.0, x.1)
+
+abbrev pub further_points : List Item → ℕ → ℕ → Option (List Part × ℕ)
+further_points ts room i = row ts room (rep DotsTail (looped (word expressions.Operator rows.points))) i
+
+-- ---- items with marks between, of which the last may have one behind it
+
+abbrev pub part_of : Parted → Level
+part_of parted_of.Statements = Simple
+part_of parted_of.Aliases = Alias
+
+abbrev pub parts_tail_of : Parted → Level
+parts_tail_of parted_of.Statements = LineTail
+parts_tail_of parted_of.Aliases = MoreAliasesTail
+
+abbrev pub partings_of : Parted → List ℕ
+partings_of parted_of.Statements = class w.Semicolon ∷ []
+partings_of parted_of.Aliases = expressions.commas
+
+abbrev pub is_parting : List Item → Parted → ℕ → Bool
+is_parting ts p i = has (partings_of p) (class (token_at ts i).word)
+
+abbrev pub starts_part : List Item → Parted → ℕ → Bool
+starts_part ts p i = has (sets.first (part_of p)) (class (token_at ts i).word)
+
+abbrev pub parted : List Item → ℕ → Parted → ℕ → Option (List Part × ℕ)
+parted ts room p i = row ts room (ref (part_of p) · rep (parts_tail_of p) (rows.parted (partings_of p) (part_of p))) i
