@@ -19,7 +19,7 @@ use Rattle.py_stmt.specs.declared.series.Series.TheVariants as series_of
 use Rattle.py_stmt.specs.declared.line.Parted.{Parted}
 use Rattle.py_stmt.specs.declared.line.Parted.TheVariants as parted_of
 use Rattle.py_stmt.specs.Table as rows
-use Rattle.py_stmt.specs.Table.{Level, Expression, Row, Value, ValuesTail, NamesTail, AliasesTail, WithItemsTail, DecoratorsTail, DottedTail, DotsTail, MoreAliasesTail, LineTail, Simple, Alias, Decorator, Statement, Valued, Several, Dotting, table, tok, sign, value, looped}
+use Rattle.py_stmt.specs.Table.{Level, Expression, Row, Value, ValuesTail, NamesTail, AliasesTail, WithItemsTail, DecoratorsTail, DottedTail, DotsTail, MoreAliasesTail, LineTail, Simple, Alias, Decorator, ElsePart, Statement, Valued, Several, Dotting, table, tok, sign, value, looped}
 use Rattle.py_stmt.specs.Build.{source, filled, written, pointed}
 use Rattle.py_stmt.specs.Sets.{sets, ranks}
 
@@ -149,3 +149,37 @@ starts_part ts p i = has (sets.first (part_of p)) (class (token_at ts i).word)
 
 abbrev pub parted : List Item → ℕ → Parted → ℕ → Option (List Part × ℕ)
 parted ts room p i = row ts room (ref (part_of p) · rep (parts_tail_of p) (rows.parted (partings_of p) (part_of p))) i
+
+-- ---- parts of compound statements
+
+abbrev pub one_kid : Node × ℕ → List Node × ℕ
+one_kid x = (x.0 ∷ [], x.1)
+
+abbrev pub two_kids : Node × Node × ℕ → List Node × ℕ
+two_kids x = (x.0 ∷ x.1 ∷ [], x.2)
+
+-- what a row reads, as the kids of a statement that begins there
+abbrev pub row_kids : List Item → ℕ → ℕ → Row → ℕ → Option (List Node × ℕ)
+row_kids ts room from r i = row ts room r i >>= λ x. Some (filled from x.0, x.1)
+
+-- some kids, and those that are read behind them
+abbrev pub kids_behind : List Node → Option (List Node × ℕ) → Option (List Node × ℕ)
+kids_behind ns r = r >>= λ x. Some (ns ++ x.0, x.1)
+
+abbrev pub body : List Item → ℕ → ℕ → Option (List Part × ℕ)
+body ts room i = row ts room rows.body i
+
+abbrev pub condition : List Item → ℕ → ℕ → Option (List Part × ℕ)
+condition ts room i = row ts room rows.condition i
+
+abbrev pub some_else : List Item → ℕ → ℕ → Option (List Part × ℕ)
+some_else ts room i = row ts room (opt (ref ElsePart)) i
+
+abbrev pub else_or_absent : List Item → ℕ → ℕ → ℕ → Option (List Node × ℕ)
+else_or_absent ts room from i = row_kids ts room from (rows.maybe (ref ElsePart)) i
+
+abbrev pub caught_name : List Item → ℕ → ℕ → Option (List Node × ℕ)
+caught_name ts from i = row_kids ts 1 from rows.caught_name i
+
+abbrev pub returns : List Item → ℕ → ℕ → ℕ → Option (List Node × ℕ)
+returns ts room from i = row_kids ts room from rows.returns i

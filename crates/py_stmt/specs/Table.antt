@@ -198,6 +198,19 @@ further_part = tok w.Dot · sign w.Name
 abbrev pub names_of : Row
 names_of = word Ident names · rep NamesTail (looped further_name)
 
+-- a block behind a colon, and a condition before it
+abbrev pub body : Row
+body = tok w.Colon · ref Suite
+
+abbrev pub condition : Row
+condition = value expressions.Named · body
+
+abbrev pub caught_name : Row
+caught_name = maybe (tok w.As · word Ident names)
+
+abbrev pub returns : Row
+returns = maybe (tok w.Arrow · value expressions.Test)
+
 -- The table.
 abbrev pub table : Level → Row
 table (Expression l) = expression (expressions.table l)
@@ -216,7 +229,7 @@ table ValuesTail = rep ValuesTail (looped further_value)
 -- val ExprStmt | exprs {"=" val}, at least one, Assign[targets.., value] | exprs augop val  AugAssign(op)[t, v]
 table Evaluated = make Valued (value expressions.Exprs · opt (make (Value_of expressions.Further) (further_value · rep ValuesTail (looped further_value)) ∣ make (Value_of (expressions.SignedLacking k.AugAssign)) (tok w.Augmented · ref Value)))
 -- prim ":" test ["=" val]  AnnAssign[t, annotation, v]
-table Annotated = make (Statement k.AnnAssign) (value expressions.Prim · tok w.Colon · value expressions.Test · opt (tok w.Equal · ref Value))
+table Annotated = make (Statement k.AnnAssign) (value expressions.Prim · tok w.Colon · value expressions.Test · opt further_value)
 -- return [exprs] Return[e] | del exprs Del[e] | raise [test ["from" test]]  Raise[e, cause] | assert test ["," test] Assert[e, m]
 table Return = make (Statement k.Return) (tok w.Return · opt (value expressions.Exprs))
 table Delete = make (Statement k.Del) (tok w.Del · value expressions.Exprs)
@@ -246,37 +259,37 @@ table MoreAliasesTail = rep MoreAliasesTail (parted commas Alias)
 table Suite = tok w.Newline · tok w.Indent · make (Statement k.Block) (deep Stmts) · tok w.Dedent ∣ make (Statement k.Block) (ref Line)
 table Compound = ref If ∣ ref While ∣ ref Try ∣ ref For ∣ ref With ∣ ref Def ∣ ref Class ∣ ref Async ∣ ref Decorated
 -- if named: suite {elif named: suite} [else: suite]  If[c, Block, else]; elif is an If in the else place
-table If = make (Statement k.If) (tok w.If · value expressions.Named · tok w.Colon · ref Suite · opt (ref Branches))
-table Branches = make (Statement k.If) (tok w.Elif · value expressions.Named · tok w.Colon · ref Suite · opt (deep Branches)) ∣ ref ElsePart
-table ElsePart = tok w.Else · tok w.Colon · ref Suite
+table If = make (Statement k.If) (tok w.If · condition · opt (ref Branches))
+table Branches = make (Statement k.If) (tok w.Elif · condition · opt (deep Branches)) ∣ ref ElsePart
+table ElsePart = tok w.Else · body
 -- while named: suite [else: suite]                   While[c, Block, else]
-table While = make (Statement k.While) (tok w.While · value expressions.Named · tok w.Colon · ref Suite · opt (ref ElsePart))
+table While = make (Statement k.While) (tok w.While · condition · opt (ref ElsePart))
 -- [async] for targs in exprs: suite [else: suite]    For(async or empty)[t, e, Block, else]
 table For = make (Statement k.For) (tok w.For · ref ForRest)
-table ForRest = value expressions.Targs · tok w.In · value expressions.Exprs · tok w.Colon · ref Suite · opt (ref ElsePart)
+table ForRest = value expressions.Targs · tok w.In · value expressions.Exprs · body · opt (ref ElsePart)
 -- [async] with item {"," item}: suite   With(async or empty)[List, Block]; WithItem[test, target]
 table With = make (Statement k.With) (tok w.With · ref WithRest)
-table WithRest = ref WithItems · tok w.Colon · ref Suite
+table WithRest = ref WithItems · body
 table WithItems = make Several (ref WithItem · rep WithItemsTail (looped further_item))
 table WithItemsTail = rep WithItemsTail (looped further_item)
 table WithItem = make (Item_of k.WithItem) (value expressions.Test · opt (tok w.As · value expressions.Target))
 -- try: suite {except [test ["as" NAME]]: suite} [else: suite] [finally: suite]
 --     Try[Block, List of Handler[type, Id, Block], else, finally]; a handler or a finally
-table Try = make (Statement k.Try) (tok w.Try · tok w.Colon · ref Suite · ref TryRest)
+table Try = make (Statement k.Try) (tok w.Try · body · ref TryRest)
 table TryRest = ref Handlers · maybe (ref ElsePart) · opt (ref FinallyPart) ∣ no_list · maybe (ref ElsePart) · ref FinallyPart
 table Handlers = make Several (ref Handler · rep HandlersTail (looped (ref Handler)))
 table HandlersTail = rep HandlersTail (looped (ref Handler))
 table Handler = make (Statement k.Handler) (tok w.Except · ref Caught · ref Suite)
-table Caught = value expressions.Test · maybe (tok w.As · word Ident names) · tok w.Colon ∣ lacks · lacks · tok w.Colon
-table FinallyPart = tok w.Finally · tok w.Colon · ref Suite
+table Caught = value expressions.Test · caught_name · tok w.Colon ∣ lacks · lacks · tok w.Colon
+table FinallyPart = tok w.Finally · body
 -- {"@" named Newline} [async] def NAME "(" [params] ")" ["->" test]: suite
 --     FunctionDef(async or empty)[List of decorators, Id, List, returns, Block]
 -- {"@" named Newline} class NAME ["(" args ")"]: suite   ClassDef[List, Id, List, Block]
 table Def = make (Statement k.FunctionDef) (no_list · tok w.Def · ref DefRest)
-table DefRest = word Ident names · ref Parameters · maybe (tok w.Arrow · value expressions.Test) · tok w.Colon · ref Suite
+table DefRest = word Ident names · ref Parameters · returns · body
 table Parameters = make Listing (round (opt (deep (Expression expressions.Params))))
 table Class = make (Statement k.ClassDef) (no_list · tok w.Class · ref ClassRest)
-table ClassRest = word Ident names · ref Bases · tok w.Colon · ref Suite
+table ClassRest = word Ident names · ref Bases · body
 table Bases = make Listing (opt (round (opt (deep (Expression expressions.Args)))))
 table Async = make Headed (sign w.Async · ref AsyncRest)
 table AsyncRest = head k.For w.For · ref ForRest ∣ head k.With w.With · ref WithRest ∣ no_list · head k.FunctionDef w.Def · ref DefRest

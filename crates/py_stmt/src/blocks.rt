@@ -1,6 +1,6 @@
 //! Statements one after another, and what they stand in.
 
-ghost use Rattle.std.specs.Prelude.{◌≡◌, ◌+◌, ◌*◌, ◌<◌, ◌≤◌, length, IfOk};
+ghost use Rattle.std.specs.Prelude.{◌≡◌, ◌++◌, ◌≤◌, length, IfOk};
 ghost use Rattle.node_tree.specs.Gives.{Gives};
 ghost use Rattle.py_stmt.specs.Reading as reading;
 ghost use Rattle.py_stmt.specs.Table.{Stmts, Stmt, Suite, Compound};
@@ -10,7 +10,7 @@ use crate::compound::{if_statement, tried, while_loop, for_loop, with_block};
 use crate::definitions::{class, decorated, function, waited};
 use crate::line::line;
 use crate::look::{starts_compound, starts_statement};
-use node_tree::{Kind, List, Node, ReadFault};
+use node_tree::{Kind, List, Memory, Node, ReadFault};
 use py_expr::{Item, Word, is, one, word_at};
 use std::alloc::Global;
 

@@ -196,3 +196,12 @@ pub fn starts_args(items: &[Item<'_>], at: usize) -> bool
             | Word::DeepOpen
     )
 }
+
+/// Whether an `elif` or an `else` part begins there.
+#[tactic(auto, unfolding(Rattle::py_expr::specs::Words::class))]
+pub fn starts_branches(items: &[Item<'_>], at: usize) -> bool
+    ensures test { result ≡ has (sets.first table.Branches) (class (token_at items.now at).word) }
+    ensures within { result ≡ true → at < length items.now }
+{
+    matches!(word_at(items, at), Word::Elif | Word::Else)
+}
