@@ -1,3 +1,5 @@
 pub mod Passes
-pub mod Steps
+pub mod Among
+pub mod Colons
 pub mod Ends
+pub mod Steps

@@ -10,7 +10,7 @@ use Rattle.py_expr.specs.Table as e
 use Rattle.py_expr.specs.Sets as es
 use Rattle.py_expr.specs.Reading as known
 use Rattle.py_expr.proofs.Passes.{pass as known_pass}
-use Rattle.py_stmt.specs.Table.{Level, Expression, Value_of, Row, table, grammar, Value, Stmts, Stmt, Line, Simple, Annotated, Evaluated, Return, Delete, Raise, Assert, Import, Alias, Dotted, FromImport, Origin, Imported, Aliases, Suite, Compound, If, Branches, ElsePart, While, For, ForRest, With, WithRest, WithItems, WithItem, Try, TryRest, Handlers, Handler, Caught, FinallyPart, Def, DefRest, Parameters, Class, ClassRest, Bases, Async, AsyncRest, Decorated, Decorators, Decorator, DecoratedRest}
+use Rattle.py_stmt.specs.Table.{Level, Expression, Value_of, Row, table, grammar, Value, Stmts, Stmt, Line, Simple, Worded, Naming, Global, Nonlocal, Annotated, Evaluated, Return, Delete, Raise, Assert, Import, Alias, Dotted, FromImport, Origin, Imported, Aliases, Suite, Compound, If, Branches, ElsePart, While, For, ForRest, With, WithRest, WithItems, WithItem, Try, TryRest, Handlers, Handler, Caught, FinallyPart, Def, DefRest, Parameters, Class, ClassRest, Bases, Async, AsyncRest, Decorated, Decorators, Decorator, DecoratedRest}
 use Rattle.py_stmt.specs.Build.{source}
 use Rattle.py_stmt.specs.Sets.{sets, ranks}
 use Rattle.py_stmt.specs.Reading.{level, row}
@@ -172,3 +172,15 @@ stmts_step ts room i h = level_row ts room Stmts i h
 
 pub handlers_step : (ts : List Item) (room i : ℕ) → zero < room → level ts room Handlers i ≡ row ts room (table Handlers) i
 handlers_step ts room i h = level_row ts room Handlers i h
+
+pub worded_step : (ts : List Item) (room i : ℕ) → zero < room → level ts room Worded i ≡ row ts room (table Worded) i
+worded_step ts room i h = level_row ts room Worded i h
+
+pub naming_step : (ts : List Item) (room i : ℕ) → zero < room → level ts room Naming i ≡ row ts room (table Naming) i
+naming_step ts room i h = level_row ts room Naming i h
+
+pub global_step : (ts : List Item) (room i : ℕ) → zero < room → level ts room Global i ≡ row ts room (table Global) i
+global_step ts room i h = level_row ts room Global i h
+
+pub nonlocal_step : (ts : List Item) (room i : ℕ) → zero < room → level ts room Nonlocal i ≡ row ts room (table Nonlocal) i
+nonlocal_step ts room i h = level_row ts room Nonlocal i h

@@ -6,7 +6,7 @@ use Rattle.py_expr.specs.declared.word.Word.TheVariants as w
 use Rattle.py_expr.specs.Words.{class}
 use Rattle.py_expr.specs.Table as expressions
 use Rattle.py_expr.specs.Sets as known
-use Rattle.py_stmt.specs.Table.{Level, Expression, File, Stmts, StmtsTail, Stmt, Line, LineTail, Simple, Value, ValuesTail, Evaluated, Annotated, Return, Delete, Raise, Assert, Global, Nonlocal, NamesTail, Import, AliasesTail, Alias, Dotted, DottedTail, FromImport, Origin, DotsTail, Imported, Aliases, MoreAliases, MoreAliasesTail, Suite, Compound, If, Branches, ElsePart, While, For, ForRest, With, WithRest, WithItems, WithItemsTail, WithItem, Try, TryRest, Handlers, HandlersTail, Handler, Caught, FinallyPart, Def, DefRest, Parameters, Class, ClassRest, Bases, Async, AsyncRest, Decorated, Decorators, DecoratorsTail, Decorator, DecoratedRest, Builder, strong}
+use Rattle.py_stmt.specs.Table.{Level, Expression, File, Stmts, StmtsTail, Stmt, Line, LineTail, Simple, Worded, Naming, Value, ValuesTail, Evaluated, Annotated, Return, Delete, Raise, Assert, Global, Nonlocal, NamesTail, Import, AliasesTail, Alias, Dotted, DottedTail, FromImport, Origin, DotsTail, Imported, Aliases, MoreAliases, MoreAliasesTail, Suite, Compound, If, Branches, ElsePart, While, For, ForRest, With, WithRest, WithItems, WithItemsTail, WithItem, Try, TryRest, Handlers, HandlersTail, Handler, Caught, FinallyPart, Def, DefRest, Parameters, Class, ClassRest, Bases, Async, AsyncRest, Decorated, Decorators, DecoratorsTail, Decorator, DecoratedRest, Builder, strong}
 
 abbrev pub first : Level → List ℕ
 first (Expression l) = known.first l
@@ -17,6 +17,8 @@ first Stmt = class w.Times ∷ class w.Name ∷ class w.Meta ∷ class w.If ∷ 
 first Line = class w.Times ∷ class w.Name ∷ class w.Meta ∷ class w.Lambda ∷ class w.Not ∷ class w.Sign ∷ class w.Tilde ∷ class w.Await ∷ class w.LeftRound ∷ class w.LeftSquare ∷ class w.Number ∷ class w.Const ∷ class w.Ellipsis ∷ class w.Dots ∷ class w.MetaDots ∷ class w.Str ∷ class w.FStr ∷ class w.StrAny ∷ class w.LeftBrace ∷ class w.BraceDots ∷ class w.DeepOpen ∷ class w.Yield ∷ class w.From ∷ class w.Pass ∷ class w.Break ∷ class w.Continue ∷ class w.Return ∷ class w.Del ∷ class w.Raise ∷ class w.Assert ∷ class w.Global ∷ class w.Nonlocal ∷ class w.Import ∷ []
 first LineTail = class w.Semicolon ∷ []
 first Simple = class w.Times ∷ class w.Name ∷ class w.Meta ∷ class w.Lambda ∷ class w.Not ∷ class w.Sign ∷ class w.Tilde ∷ class w.Await ∷ class w.LeftRound ∷ class w.LeftSquare ∷ class w.Number ∷ class w.Const ∷ class w.Ellipsis ∷ class w.Dots ∷ class w.MetaDots ∷ class w.Str ∷ class w.FStr ∷ class w.StrAny ∷ class w.LeftBrace ∷ class w.BraceDots ∷ class w.DeepOpen ∷ class w.Yield ∷ class w.From ∷ class w.Pass ∷ class w.Break ∷ class w.Continue ∷ class w.Return ∷ class w.Del ∷ class w.Raise ∷ class w.Assert ∷ class w.Global ∷ class w.Nonlocal ∷ class w.Import ∷ []
+first Worded = class w.Pass ∷ class w.Break ∷ class w.Continue ∷ class w.Return ∷ class w.Del ∷ class w.Raise ∷ class w.Assert ∷ []
+first Naming = class w.From ∷ class w.Global ∷ class w.Nonlocal ∷ class w.Import ∷ []
 first Value = class w.Times ∷ class w.Name ∷ class w.Meta ∷ class w.Lambda ∷ class w.Not ∷ class w.Sign ∷ class w.Tilde ∷ class w.Await ∷ class w.LeftRound ∷ class w.LeftSquare ∷ class w.Number ∷ class w.Const ∷ class w.Ellipsis ∷ class w.Dots ∷ class w.MetaDots ∷ class w.Str ∷ class w.FStr ∷ class w.StrAny ∷ class w.LeftBrace ∷ class w.BraceDots ∷ class w.DeepOpen ∷ class w.Yield ∷ []
 first ValuesTail = class w.Equal ∷ []
 first Evaluated = class w.Times ∷ class w.Name ∷ class w.Meta ∷ class w.Lambda ∷ class w.Not ∷ class w.Sign ∷ class w.Tilde ∷ class w.Await ∷ class w.LeftRound ∷ class w.LeftSquare ∷ class w.Number ∷ class w.Const ∷ class w.Ellipsis ∷ class w.Dots ∷ class w.MetaDots ∷ class w.Str ∷ class w.FStr ∷ class w.StrAny ∷ class w.LeftBrace ∷ class w.BraceDots ∷ class w.DeepOpen ∷ []
@@ -83,6 +85,8 @@ more Stmt = class w.Else ∷ class w.Elif ∷ class w.Except ∷ class w.Finally
 more Line = []
 more LineTail = class w.Times ∷ class w.Name ∷ class w.Meta ∷ class w.Walrus ∷ class w.If ∷ class w.Lambda ∷ class w.Or ∷ class w.And ∷ class w.Not ∷ class w.Compare ∷ class w.In ∷ class w.Is ∷ class w.Bar ∷ class w.Caret ∷ class w.Ampersand ∷ class w.Shift ∷ class w.Sign ∷ class w.Slash ∷ class w.Factor ∷ class w.At ∷ class w.Tilde ∷ class w.Power ∷ class w.Await ∷ class w.Dot ∷ class w.LeftRound ∷ class w.LeftSquare ∷ class w.Number ∷ class w.Const ∷ class w.Ellipsis ∷ class w.Dots ∷ class w.MetaDots ∷ class w.Str ∷ class w.FStr ∷ class w.StrAny ∷ class w.LeftBrace ∷ class w.BraceDots ∷ class w.Comma ∷ class w.CommaDots ∷ class w.DeepOpen ∷ class w.Yield ∷ class w.From ∷ class w.Equal ∷ class w.Semicolon ∷ class w.Pass ∷ class w.Break ∷ class w.Continue ∷ class w.Augmented ∷ class w.Return ∷ class w.Del ∷ class w.Raise ∷ class w.Assert ∷ class w.Global ∷ class w.Nonlocal ∷ class w.Import ∷ class w.As ∷ []
 more Simple = class w.Times ∷ class w.Name ∷ class w.Meta ∷ class w.Walrus ∷ class w.If ∷ class w.Lambda ∷ class w.Or ∷ class w.And ∷ class w.Not ∷ class w.Compare ∷ class w.In ∷ class w.Is ∷ class w.Bar ∷ class w.Caret ∷ class w.Ampersand ∷ class w.Shift ∷ class w.Sign ∷ class w.Slash ∷ class w.Factor ∷ class w.At ∷ class w.Tilde ∷ class w.Power ∷ class w.Await ∷ class w.Dot ∷ class w.LeftRound ∷ class w.LeftSquare ∷ class w.Number ∷ class w.Const ∷ class w.Ellipsis ∷ class w.Dots ∷ class w.MetaDots ∷ class w.Str ∷ class w.FStr ∷ class w.StrAny ∷ class w.LeftBrace ∷ class w.BraceDots ∷ class w.Comma ∷ class w.CommaDots ∷ class w.DeepOpen ∷ class w.From ∷ class w.Equal ∷ class w.Augmented ∷ class w.As ∷ []
+more Worded = class w.Times ∷ class w.Name ∷ class w.Meta ∷ class w.Walrus ∷ class w.If ∷ class w.Lambda ∷ class w.Or ∷ class w.And ∷ class w.Not ∷ class w.Compare ∷ class w.In ∷ class w.Is ∷ class w.Bar ∷ class w.Caret ∷ class w.Ampersand ∷ class w.Shift ∷ class w.Sign ∷ class w.Slash ∷ class w.Factor ∷ class w.At ∷ class w.Tilde ∷ class w.Power ∷ class w.Await ∷ class w.Dot ∷ class w.LeftRound ∷ class w.LeftSquare ∷ class w.Number ∷ class w.Const ∷ class w.Ellipsis ∷ class w.Dots ∷ class w.MetaDots ∷ class w.Str ∷ class w.FStr ∷ class w.StrAny ∷ class w.LeftBrace ∷ class w.BraceDots ∷ class w.Comma ∷ class w.CommaDots ∷ class w.DeepOpen ∷ class w.From ∷ []
+more Naming = class w.Dot ∷ class w.Comma ∷ class w.CommaDots ∷ class w.As ∷ []
 more Value = class w.Times ∷ class w.Name ∷ class w.Meta ∷ class w.Walrus ∷ class w.If ∷ class w.Lambda ∷ class w.Or ∷ class w.And ∷ class w.Not ∷ class w.Compare ∷ class w.In ∷ class w.Is ∷ class w.Bar ∷ class w.Caret ∷ class w.Ampersand ∷ class w.Shift ∷ class w.Sign ∷ class w.Slash ∷ class w.Factor ∷ class w.At ∷ class w.Tilde ∷ class w.Power ∷ class w.Await ∷ class w.Dot ∷ class w.LeftRound ∷ class w.LeftSquare ∷ class w.Number ∷ class w.Const ∷ class w.Ellipsis ∷ class w.Dots ∷ class w.MetaDots ∷ class w.Str ∷ class w.FStr ∷ class w.StrAny ∷ class w.LeftBrace ∷ class w.BraceDots ∷ class w.Comma ∷ class w.CommaDots ∷ class w.DeepOpen ∷ class w.From ∷ []
 more ValuesTail = class w.Times ∷ class w.Name ∷ class w.Meta ∷ class w.Walrus ∷ class w.If ∷ class w.Lambda ∷ class w.Or ∷ class w.And ∷ class w.Not ∷ class w.Compare ∷ class w.In ∷ class w.Is ∷ class w.Bar ∷ class w.Caret ∷ class w.Ampersand ∷ class w.Shift ∷ class w.Sign ∷ class w.Slash ∷ class w.Factor ∷ class w.At ∷ class w.Tilde ∷ class w.Power ∷ class w.Await ∷ class w.Dot ∷ class w.LeftRound ∷ class w.LeftSquare ∷ class w.Number ∷ class w.Const ∷ class w.Ellipsis ∷ class w.Dots ∷ class w.MetaDots ∷ class w.Str ∷ class w.FStr ∷ class w.StrAny ∷ class w.LeftBrace ∷ class w.BraceDots ∷ class w.Comma ∷ class w.CommaDots ∷ class w.DeepOpen ∷ class w.From ∷ class w.Equal ∷ []
 more Evaluated = class w.Times ∷ class w.Name ∷ class w.Meta ∷ class w.Walrus ∷ class w.If ∷ class w.Lambda ∷ class w.Or ∷ class w.And ∷ class w.Not ∷ class w.Compare ∷ class w.In ∷ class w.Is ∷ class w.Bar ∷ class w.Caret ∷ class w.Ampersand ∷ class w.Shift ∷ class w.Sign ∷ class w.Slash ∷ class w.Factor ∷ class w.At ∷ class w.Tilde ∷ class w.Power ∷ class w.Await ∷ class w.Dot ∷ class w.LeftRound ∷ class w.LeftSquare ∷ class w.Number ∷ class w.Const ∷ class w.Ellipsis ∷ class w.Dots ∷ class w.MetaDots ∷ class w.Str ∷ class w.FStr ∷ class w.StrAny ∷ class w.LeftBrace ∷ class w.BraceDots ∷ class w.Comma ∷ class w.CommaDots ∷ class w.DeepOpen ∷ class w.From ∷ class w.Equal ∷ class w.Augmented ∷ []
@@ -158,13 +162,15 @@ empty _ = false
 
 abbrev pub rank : Level → ℕ
 rank (Expression l) = known.rank l
-rank File = 41
-rank Stmts = 40
-rank StmtsTail = 40
-rank Stmt = 39
-rank Line = 32
-rank LineTail = 32
-rank Simple = 31
+rank File = 42
+rank Stmts = 41
+rank StmtsTail = 41
+rank Stmt = 40
+rank Line = 33
+rank LineTail = 33
+rank Simple = 32
+rank Worded = 27
+rank Naming = 31
 rank Value = 26
 rank ValuesTail = 27
 rank Evaluated = 27
@@ -188,39 +194,39 @@ rank Imported = 29
 rank Aliases = 28
 rank MoreAliases = 28
 rank MoreAliasesTail = 28
-rank Suite = 33
-rank Compound = 38
-rank If = 36
-rank Branches = 35
-rank ElsePart = 34
-rank While = 35
-rank For = 36
-rank ForRest = 35
-rank With = 35
-rank WithRest = 34
+rank Suite = 34
+rank Compound = 39
+rank If = 37
+rank Branches = 36
+rank ElsePart = 35
+rank While = 36
+rank For = 37
+rank ForRest = 36
+rank With = 36
+rank WithRest = 35
 rank WithItems = 27
 rank WithItemsTail = 27
 rank WithItem = 26
-rank Try = 37
-rank TryRest = 36
-rank Handlers = 35
-rank HandlersTail = 35
-rank Handler = 34
+rank Try = 38
+rank TryRest = 37
+rank Handlers = 36
+rank HandlersTail = 36
+rank Handler = 35
 rank Caught = 26
-rank FinallyPart = 34
-rank Def = 35
-rank DefRest = 34
+rank FinallyPart = 35
+rank Def = 36
+rank DefRest = 35
 rank Parameters = 26
-rank Class = 35
-rank ClassRest = 34
+rank Class = 36
+rank ClassRest = 35
 rank Bases = 26
-rank Async = 37
-rank AsyncRest = 36
-rank Decorated = 36
+rank Async = 38
+rank AsyncRest = 37
+rank Decorated = 37
 rank Decorators = 27
 rank DecoratorsTail = 27
 rank Decorator = 26
-rank DecoratedRest = 35
+rank DecoratedRest = 36
 
 -- closed runs are promised of no level
 abbrev pub no_level : Level → Bool
@@ -230,4 +236,4 @@ abbrev pub sets : Sets Level
 sets = record { first = first; more = more; empty = empty }
 
 abbrev pub ranks : Ranks Builder Level
-ranks = record { strong = strong; rank = rank; top = 42; shut = no_level }
+ranks = record { strong = strong; rank = rank; top = 43; shut = no_level }

@@ -20,6 +20,8 @@ pub data Level : Type 0 where
   Line : Level
   LineTail : Level
   Simple : Level
+  Worded : Level
+  Naming : Level
   Value : Level
   ValuesTail : Level
   Annotated : Level
@@ -222,7 +224,9 @@ table Stmt = ref Compound ∣ ref Line
 -- line = simple {";" simple} [";"] Newline
 table Line = ref Simple · rep LineTail (parted (class w.Semicolon ∷ []) Simple) · tok w.Newline
 table LineTail = rep LineTail (parted (class w.Semicolon ∷ []) Simple)
-table Simple = make (Statement k.Pass) (tok w.Pass) ∣ make (Statement k.Break) (tok w.Break) ∣ make (Statement k.Continue) (tok w.Continue) ∣ ref Return ∣ ref Delete ∣ ref Raise ∣ ref Assert ∣ ref Global ∣ ref Nonlocal ∣ ref Import ∣ ref FromImport ∣ make Valued (value expressions.Yield) ∣ choose annotates (ref Annotated) (ref Evaluated)
+table Simple = ref Worded ∣ ref Naming ∣ make Valued (value expressions.Yield) ∣ choose annotates (ref Annotated) (ref Evaluated)
+table Worded = ref Return ∣ ref Delete ∣ ref Raise ∣ ref Assert ∣ make (Statement k.Pass) (tok w.Pass) ∣ make (Statement k.Break) (tok w.Break) ∣ make (Statement k.Continue) (tok w.Continue)
+table Naming = ref Global ∣ ref Nonlocal ∣ ref Import ∣ ref FromImport
 -- val = exprs | yield
 table Value = value expressions.Yield ∣ value expressions.Exprs
 table ValuesTail = rep ValuesTail (looped further_value)

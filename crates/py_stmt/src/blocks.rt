@@ -11,7 +11,7 @@ use crate::definitions::{class, decorated, function, waited};
 use crate::line::line;
 use crate::look::{starts_compound, starts_statement};
 use node_tree::{Kind, List, Memory, Node, ReadFault};
-use py_expr::{Item, Word, is, one, word_at};
+use py_expr::{Item, Word, is, one};
 use std::alloc::Global;
 
 /// Statements, of which there is at least one.
@@ -115,21 +115,34 @@ fn compound(
         return Err(ReadFault::NoTree);
     }
 
-    match word_at(items, at) {
-        Word::If => if_statement(alloc, items, room, at),
-        Word::While => while_loop(alloc, items, room, at),
-        Word::Try => tried(alloc, items, room, at),
-        Word::For => for_loop(alloc, items, room, at),
-        Word::With => with_block(alloc, items, room, at),
-        Word::Def => function(alloc, items, room, at),
-        Word::Class => class(alloc, items, room, at),
-        Word::Async => waited(alloc, items, room, at),
-        _ => decorated(alloc, items, room, at),
+    if is(items, at, Word::If) {
+        return if_statement(alloc, items, room, at);
     }
+    if is(items, at, Word::While) {
+        return while_loop(alloc, items, room, at);
+    }
+    if is(items, at, Word::Try) {
+        return tried(alloc, items, room, at);
+    }
+    if is(items, at, Word::For) {
+        return for_loop(alloc, items, room, at);
+    }
+    if is(items, at, Word::With) {
+        return with_block(alloc, items, room, at);
+    }
+    if is(items, at, Word::Def) {
+        return function(alloc, items, room, at);
+    }
+    if is(items, at, Word::Class) {
+        return class(alloc, items, room, at);
+    }
+    if is(items, at, Word::Async) {
+        return waited(alloc, items, room, at);
+    }
+    decorated(alloc, items, room, at)
 }
 
 /// The nodes of two lists, in order.
-#[tactic(auto, using(crate::proofs::Orders::append_laws))]
 fn append(mut front: List<Node>, mut back: List<Node>) -> Result<List<Node>, Memory>
     ensures { IfOk result (λ ns. ns ≡ front ++ back) }
 {

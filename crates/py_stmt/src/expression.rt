@@ -7,9 +7,8 @@ ghost use Rattle.py_expr.specs.Runs.{level_at};
 ghost use Rattle.py_stmt.specs.Reading as reading;
 ghost use Rattle.py_stmt.specs.Table.{Expression, Value};
 
-use crate::look::starts_exprs;
 use node_tree::{Node, ReadFault};
-use py_expr::{Item, PyLevel, Word, is, read_level};
+use py_expr::{Item, PyLevel, Word, is, read_level, starts_star};
 use std::alloc::Global;
 
 /// An expression of a level.
@@ -39,7 +38,7 @@ pub fn some_exprs(
     ensures within { IfOk result (λ x. x.1 ≤ length items.now) }
     ensures gives { Gives reading.optional result (reading.some_exprs items.now room at) }
 {
-    if !starts_exprs(items, at) {
+    if !starts_star(items, at) {
         return Ok((None, at));
     }
     let (node, end) = expression(alloc, items, PyLevel::Exprs, room, at)?;

@@ -102,7 +102,6 @@ fn dotted(
 }
 
 /// `{"." NAME}`, behind a text.
-#[tactic(auto, using(crate::proofs::Rounds::pointed_end, crate::proofs::Rounds::pointed_turned))]
 fn pointed(
     alloc: Global,
     items: &[Item<'_>],
@@ -189,7 +188,6 @@ fn origin(
 }
 
 /// Further points, behind some.
-#[tactic(auto, using(crate::proofs::Rounds::points_end, crate::proofs::Rounds::points_turned))]
 fn points(
     alloc: Global,
     items: &[Item<'_>],

@@ -7,11 +7,11 @@ ghost use Rattle.py_stmt.specs.Table.{WithItem, WithItems, Decorator, Decorators
 
 use crate::build::{plain, unless_dots};
 use crate::expression::{expression, marked};
-use crate::look::{starts_args, starts_params};
 use crate::series::{Series, further};
 use node_tree::{Kind, Node, ReadFault};
 use py_expr::{
-    Item, PyLevel, Word, absent, empty_list, ident, is, is_name, one, starts_test, two,
+    Item, PyLevel, Word, absent, empty_list, ident, is, is_name, one, starts_arg, starts_param,
+    starts_test, two,
 };
 use std::alloc::Global;
 
@@ -186,7 +186,7 @@ pub fn parameters(
     if !is(items, at, Word::LeftRound) {
         return Err(ReadFault::NoTree);
     }
-    let (list, end) = if starts_params(items, at + 1) {
+    let (list, end) = if starts_param(items, at + 1) {
         expression(alloc, items, PyLevel::Params, room - 1, at + 1)?
     } else {
         (empty_list(alloc, from), at + 1)
@@ -217,7 +217,7 @@ pub fn bases(
     if !is(items, at, Word::LeftRound) {
         return Ok((empty_list(alloc, from), at));
     }
-    let (list, end) = if starts_args(items, at + 1) {
+    let (list, end) = if starts_arg(items, at + 1) {
         expression(alloc, items, PyLevel::Args, room - 1, at + 1)?
     } else {
         (empty_list(alloc, from), at + 1)

@@ -34,8 +34,7 @@ fn is_parting(items: &[Item<'_>], parted: Parted, at: usize) -> bool
 
 /// Whether an item begins there.
 fn starts_part(items: &[Item<'_>], parted: Parted, at: usize) -> bool
-    ensures test { result ≡ reading.starts_part items.now parted at }
-    ensures within { result ≡ true → at < length items.now }
+    ensures { result ≡ reading.starts_part items.now parted at }
 {
     match parted {
         Parted::Statements => starts_simple(items, at),
@@ -62,7 +61,6 @@ fn part(
 }
 
 /// `item {mark item} [mark]`
-#[tactic(auto, using(crate::proofs::Rounds::parted_first, crate::proofs::Rounds::parted_end, crate::proofs::Rounds::parted_last, crate::proofs::Rounds::parted_turned))]
 pub fn parted(
     alloc: Global,
     items: &[Item<'_>],

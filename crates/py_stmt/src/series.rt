@@ -68,7 +68,6 @@ fn one_more(
 }
 
 /// The items of a row, of which some are known, and the further ones from there on.
-#[tactic(auto, using(crate::proofs::Rounds::series_start, crate::proofs::Rounds::series_end, crate::proofs::Rounds::series_turned))]
 pub fn further(
     alloc: Global,
     items: &[Item<'_>],

@@ -4,16 +4,17 @@ ghost use Rattle.std.specs.Prelude.{◌≡◌, ◌≢◌, ◌<◌, ◌≤◌, []
 ghost use Rattle.node_tree.specs.Gives.{Gives};
 ghost use Rattle.py_stmt.specs.Reading as reading;
 ghost use Rattle.py_stmt.specs.Table as table;
-ghost use Rattle.py_stmt.specs.Table.{Simple, Return, Delete, Raise, Assert, Annotated, Evaluated};
+ghost use Rattle.py_stmt.specs.Table.{Simple, Worded, Naming, Return, Delete, Raise, Assert, Annotated, Evaluated};
 
 use crate::annotated::annotates;
 use crate::build::{plain, statement, unless_dots};
 use crate::expression::{assigned, expression, marked, some_exprs, value};
 use crate::imports::{from_import, import};
 use crate::series::{Series, declared, further};
-use node_tree::{Kind, List, Node, ReadFault};
+use crate::look::{starts_naming, starts_worded};
+use node_tree::{Kind, List, Memory, Node, ReadFault};
 use py_expr::{
-    Item, PyLevel, Word, is, is_comma, one, starts_test, text_at, two, word_at,
+    Item, PyLevel, Word, is, is_comma, one, starts_test, text_at, two,
 };
 use std::alloc::Global;
 
@@ -33,26 +34,87 @@ pub fn simple(
         return Err(ReadFault::NoTree);
     }
 
-    match word_at(items, at) {
-        Word::Pass => keyword(alloc, items, Kind::Pass, at),
-        Word::Break => keyword(alloc, items, Kind::Break, at),
-        Word::Continue => keyword(alloc, items, Kind::Continue, at),
-        Word::Return => returned(alloc, items, room, at),
-        Word::Del => deleted(alloc, items, room, at),
-        Word::Raise => raised(alloc, items, room, at),
-        Word::Assert => asserted(alloc, items, room, at),
-        Word::Global => declared(alloc, items, Kind::Global, room, at),
-        Word::Nonlocal => declared(alloc, items, Kind::Nonlocal, room, at),
-        Word::Import => import(alloc, items, room, at),
-        Word::From => from_import(alloc, items, room, at),
-        Word::Yield => yielded(alloc, items, room, at),
-        _ => {
-            if annotates(items, at) {
-                return annotated(alloc, items, room, at);
-            }
-            evaluated(alloc, items, room, at)
-        }
+    if starts_worded(items, at) {
+        return worded(alloc, items, room, at);
     }
+    if starts_naming(items, at) {
+        return naming(alloc, items, room, at);
+    }
+    if is(items, at, Word::Yield) {
+        return yielded(alloc, items, room, at);
+    }
+    if annotates(items, at) {
+        return annotated(alloc, items, room, at);
+    }
+    evaluated(alloc, items, room, at)
+}
+
+/// A statement that a keyword begins.
+#[tactic(auto, using(crate::proofs::Steps::worded_step, crate::proofs::Steps::level_none))]
+fn worded(
+    alloc: Global,
+    items: &[Item<'_>],
+    room: u32,
+    at: usize,
+) -> Result<(Node, usize), ReadFault>
+    requires { at ≤ length items.now }
+    ensures within { IfOk result (λ x. x.1 ≤ length items.now) }
+    ensures gives { Gives reading.one result (reading.level items.now room Worded at) }
+{
+    if room == 0 {
+        return Err(ReadFault::NoTree);
+    }
+
+    if is(items, at, Word::Return) {
+        return returned(alloc, items, room, at);
+    }
+    if is(items, at, Word::Del) {
+        return deleted(alloc, items, room, at);
+    }
+    if is(items, at, Word::Raise) {
+        return raised(alloc, items, room, at);
+    }
+    if is(items, at, Word::Assert) {
+        return asserted(alloc, items, room, at);
+    }
+    if is(items, at, Word::Pass) {
+        return keyword(alloc, items, Kind::Pass, at);
+    }
+    if is(items, at, Word::Break) {
+        return keyword(alloc, items, Kind::Break, at);
+    }
+    if !is(items, at, Word::Continue) {
+        return Err(ReadFault::NoTree);
+    }
+    keyword(alloc, items, Kind::Continue, at)
+}
+
+/// A statement that declares or imports names.
+#[tactic(auto, using(crate::proofs::Steps::naming_step, crate::proofs::Steps::global_step, crate::proofs::Steps::nonlocal_step, crate::proofs::Steps::level_none))]
+fn naming(
+    alloc: Global,
+    items: &[Item<'_>],
+    room: u32,
+    at: usize,
+) -> Result<(Node, usize), ReadFault>
+    requires { at ≤ length items.now }
+    ensures within { IfOk result (λ x. x.1 ≤ length items.now) }
+    ensures gives { Gives reading.one result (reading.level items.now room Naming at) }
+{
+    if room == 0 {
+        return Err(ReadFault::NoTree);
+    }
+
+    if is(items, at, Word::Global) {
+        return declared(alloc, items, Kind::Global, room, at);
+    }
+    if is(items, at, Word::Nonlocal) {
+        return declared(alloc, items, Kind::Nonlocal, room, at);
+    }
+    if is(items, at, Word::Import) {
+        return import(alloc, items, room, at);
+    }
+    from_import(alloc, items, room, at)
 }
 
 /// A statement of one keyword.
