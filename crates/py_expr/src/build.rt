@@ -155,7 +155,6 @@ fn kind_of(word: Word) -> Kind
 }
 
 /// The same where a name is no expression.
-#[tactic(auto, using(crate::proofs::Idents::ident_other))]
 fn ident_kind(word: Word) -> Kind
     ensures { result ≡ build.ident_kind word }
 {

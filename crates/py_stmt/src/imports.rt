@@ -7,7 +7,7 @@ ghost use Rattle.py_stmt.specs.Reading as reading;
 ghost use Rattle.py_stmt.specs.Table.{Import, Alias, Dotted, FromImport, Origin, Imported, Aliases};
 
 use crate::build::{plain, statement};
-use crate::line::{Parted, parted};
+use crate::line::{Separated, parted};
 use crate::look::{is_point, starts_dotted};
 use crate::series::{Series, further};
 use node_tree::{Kind, List, Node, ReadFault, Text};
@@ -232,7 +232,7 @@ fn imported(
     if !is(items, at, Word::LeftRound) {
         return aliases(alloc, items, room, at);
     }
-    let (kids, end) = parted(alloc, items, Parted::Aliases, room, at + 1)?;
+    let (kids, end) = parted(alloc, items, Separated::Aliases, room, at + 1)?;
     if !is(items, end, Word::RightRound) {
         return Err(ReadFault::NoTree);
     }

@@ -14,7 +14,7 @@ use std::alloc::Global;
 
 /// What stands with marks between, of which the last may have one behind it.
 #[derive(Clone, Copy, Debug, PartialEq, Eq)]
-pub enum Parted {
+pub enum Separated {
     /// The statements of a line.
     Statements,
     /// The names of an import in parentheses.
@@ -22,23 +22,23 @@ pub enum Parted {
 }
 
 /// Whether the mark stands there.
-fn is_parting(items: &[Item<'_>], parted: Parted, at: usize) -> bool
+fn is_parting(items: &[Item<'_>], parted: Separated, at: usize) -> bool
     ensures test { result ≡ reading.is_parting items.now parted at }
     ensures within { result ≡ true → at < length items.now }
 {
     match parted {
-        Parted::Statements => is(items, at, Word::Semicolon),
-        Parted::Aliases => is_comma(items, at),
+        Separated::Statements => is(items, at, Word::Semicolon),
+        Separated::Aliases => is_comma(items, at),
     }
 }
 
 /// Whether an item begins there.
-fn starts_part(items: &[Item<'_>], parted: Parted, at: usize) -> bool
+fn starts_part(items: &[Item<'_>], parted: Separated, at: usize) -> bool
     ensures { result ≡ reading.starts_part items.now parted at }
 {
     match parted {
-        Parted::Statements => starts_simple(items, at),
-        Parted::Aliases => starts_alias(items, at),
+        Separated::Statements => starts_simple(items, at),
+        Separated::Aliases => starts_alias(items, at),
     }
 }
 
@@ -46,7 +46,7 @@ fn starts_part(items: &[Item<'_>], parted: Parted, at: usize) -> bool
 fn part(
     alloc: Global,
     items: &[Item<'_>],
-    parted: Parted,
+    parted: Separated,
     room: u32,
     at: usize,
 ) -> Result<(Node, usize), ReadFault>
@@ -55,8 +55,8 @@ fn part(
     ensures gives { Gives reading.one result (reading.level items.now room (reading.part_of parted) at) }
 {
     match parted {
-        Parted::Statements => simple(alloc, items, room, at),
-        Parted::Aliases => alias(alloc, items, room, at),
+        Separated::Statements => simple(alloc, items, room, at),
+        Separated::Aliases => alias(alloc, items, room, at),
     }
 }
 
@@ -64,7 +64,7 @@ fn part(
 pub fn parted(
     alloc: Global,
     items: &[Item<'_>],
-    parted: Parted,
+    parted: Separated,
     room: u32,
     at: usize,
 ) -> Result<(List<Node>, usize), ReadFault>
@@ -105,7 +105,7 @@ pub fn line(
         return Err(ReadFault::NoTree);
     }
 
-    let (kids, end) = parted(alloc, items, Parted::Statements, room, at)?;
+    let (kids, end) = parted(alloc, items, Separated::Statements, room, at)?;
     if !is(items, end, Word::Newline) {
         return Err(ReadFault::NoTree);
     }
