@@ -16,8 +16,6 @@ use Rattle.py_expr.specs.Build.{token_at}
 use Rattle.py_expr.specs.Table as expressions
 use Rattle.py_stmt.specs.declared.series.Series.{Series}
 use Rattle.py_stmt.specs.declared.series.Series.TheVariants as series_of
-use Rattle.py_stmt.specs.declared.line.Separated.{Separated}
-use Rattle.py_stmt.specs.declared.line.Separated.TheVariants as separated_of
 use Rattle.py_stmt.specs.Table as rows
 use Rattle.py_stmt.specs.Table.{Level, Expression, Row, Value, ValuesTail, NamesTail, AliasesTail, WithItemsTail, DecoratorsTail, DottedTail, DotsTail, MoreAliasesTail, LineTail, Simple, Alias, Decorator, ElsePart, Statement, Valued, Several, Dotting, table, tok, sign, value, looped}
 use Rattle.py_stmt.specs.Build.{source, filled, written, pointed}
@@ -127,28 +125,9 @@ behind text r = r >>= λ x. Some (text ++ written x.0, x.1)
 abbrev pub further_points : List Item → ℕ → ℕ → Option (List Part × ℕ)
 further_points ts room i = row ts room (rep DotsTail (looped (word expressions.Operator rows.points))) i
 
--- ---- items with marks between, of which the last may have one behind it
-
-abbrev pub part_of : Separated → Level
-part_of separated_of.Statements = Simple
-part_of separated_of.Aliases = Alias
-
-abbrev pub parts_tail_of : Separated → Level
-parts_tail_of separated_of.Statements = LineTail
-parts_tail_of separated_of.Aliases = MoreAliasesTail
-
-abbrev pub partings_of : Separated → List ℕ
-partings_of separated_of.Statements = class w.Semicolon ∷ []
-partings_of separated_of.Aliases = expressions.commas
-
-abbrev pub is_parting : List Item → Separated → ℕ → Bool
-is_parting ts p i = has (partings_of p) (class (token_at ts i).word)
-
-abbrev pub starts_part : List Item → Separated → ℕ → Bool
-starts_part ts p i = has (sets.first (part_of p)) (class (token_at ts i).word)
-
-abbrev pub parted : List Item → ℕ → Separated → ℕ → Option (List Part × ℕ)
-parted ts room p i = row ts room (ref (part_of p) · rep (parts_tail_of p) (rows.parted (partings_of p) (part_of p))) i
+-- the statements of a line
+abbrev pub simples : List Item → ℕ → ℕ → Option (List Part × ℕ)
+simples ts room i = row ts room (ref Simple · rep LineTail (rows.parted (class w.Semicolon ∷ []) Simple)) i
 
 -- ---- parts of compound statements
 

@@ -4,15 +4,14 @@ ghost use Rattle.std.specs.Prelude.{◌≡◌, ◌<◌, ◌≤◌, [], ◌∷◌
 ghost use Rattle.node_tree.specs.Gives.{Gives};
 ghost use Rattle.py_expr.specs.Build.{token_at};
 ghost use Rattle.py_stmt.specs.Reading as reading;
-ghost use Rattle.py_stmt.specs.Table.{Import, Alias, Dotted, FromImport, Origin, Imported, Aliases};
+ghost use Rattle.py_stmt.specs.Table.{Import, Alias, Dotted, FromImport, Origin, Imported, Aliases, MoreAliases};
 
 use crate::build::{plain, statement};
-use crate::line::{Separated, parted};
-use crate::look::{is_point, starts_dotted};
+use crate::look::{is_point, starts_alias, starts_dotted};
 use crate::series::{Series, further};
 use node_tree::{Kind, List, Node, ReadFault, Text};
 use py_expr::{
-    Item, Word, absent, ident, is, is_dots, is_name, leaf, one, start_at, text_at, two,
+    Item, Word, absent, ident, is, is_comma, is_dots, is_name, leaf, one, start_at, text_at, two,
 };
 use std::alloc::Global;
 
@@ -232,12 +231,40 @@ fn imported(
     if !is(items, at, Word::LeftRound) {
         return aliases(alloc, items, room, at);
     }
-    let (kids, end) = parted(alloc, items, Separated::Aliases, room, at + 1)?;
+    let (kids, end) = more_aliases(alloc, items, room, at + 1)?;
     if !is(items, end, Word::RightRound) {
         return Err(ReadFault::NoTree);
     }
     let list = plain(alloc, items, Kind::List, at + 1, end, kids)?;
     Ok((list, end + 1))
+}
+
+/// `alias {"," alias} [","]`
+fn more_aliases(
+    alloc: Global,
+    items: &[Item<'_>],
+    room: u32,
+    at: usize,
+) -> Result<(List<Node>, usize), ReadFault>
+    requires here { at ≤ length items.now }
+    requires some { 0 < room }
+    ensures within { IfOk result (λ x. x.1 ≤ length items.now) }
+    ensures gives { Gives reading.all result (reading.level items.now room MoreAliases at) }
+{
+    let (first, mut end) = alias(alloc, items, room, at)?;
+    let mut kids = one(alloc, first)?;
+    for turn in 0..=items.len() {
+        if !is_comma(items, end) {
+            return Ok((kids, end));
+        }
+        if !starts_alias(items, end + 1) {
+            return Ok((kids, end + 1));
+        }
+        let (kid, next) = alias(alloc, items, room, end + 1)?;
+        kids.push(kid)?;
+        end = next;
+    }
+    Err(ReadFault::NoTree)
 }
 
 /// `"*"`

@@ -1,88 +1,37 @@
-//! Lines of simple statements, and lists that may end in their mark.
+//! Lines of simple statements.
 
-ghost use Rattle.std.specs.Prelude.{◌≡◌, ◌<◌, ◌≤◌, suc, length, IfOk};
+ghost use Rattle.std.specs.Prelude.{◌≤◌, length, IfOk};
 ghost use Rattle.node_tree.specs.Gives.{Gives};
 ghost use Rattle.py_stmt.specs.Reading as reading;
 ghost use Rattle.py_stmt.specs.Table.{Line};
 
-use crate::imports::alias;
-use crate::look::{starts_alias, starts_simple};
+use crate::look::starts_simple;
 use crate::simple::simple;
 use node_tree::{List, Node, ReadFault};
-use py_expr::{Item, Word, is, is_comma, one};
+use py_expr::{Item, Word, is, one};
 use std::alloc::Global;
 
-/// What stands with marks between, of which the last may have one behind it.
-#[derive(Clone, Copy, Debug, PartialEq, Eq)]
-pub enum Separated {
-    /// The statements of a line.
-    Statements,
-    /// The names of an import in parentheses.
-    Aliases,
-}
-
-/// Whether the mark stands there.
-fn is_parting(items: &[Item<'_>], parted: Separated, at: usize) -> bool
-    ensures test { result ≡ reading.is_parting items.now parted at }
-    ensures within { result ≡ true → at < length items.now }
-{
-    match parted {
-        Separated::Statements => is(items, at, Word::Semicolon),
-        Separated::Aliases => is_comma(items, at),
-    }
-}
-
-/// Whether an item begins there.
-fn starts_part(items: &[Item<'_>], parted: Separated, at: usize) -> bool
-    ensures { result ≡ reading.starts_part items.now parted at }
-{
-    match parted {
-        Separated::Statements => starts_simple(items, at),
-        Separated::Aliases => starts_alias(items, at),
-    }
-}
-
-/// An item.
-fn part(
+/// `simple {";" simple} [";"]`
+fn simples(
     alloc: Global,
     items: &[Item<'_>],
-    parted: Separated,
-    room: u32,
-    at: usize,
-) -> Result<(Node, usize), ReadFault>
-    requires { at ≤ length items.now }
-    ensures within { IfOk result (λ x. x.1 ≤ length items.now) }
-    ensures gives { Gives reading.one result (reading.level items.now room (reading.part_of parted) at) }
-{
-    match parted {
-        Separated::Statements => simple(alloc, items, room, at),
-        Separated::Aliases => alias(alloc, items, room, at),
-    }
-}
-
-/// `item {mark item} [mark]`
-pub fn parted(
-    alloc: Global,
-    items: &[Item<'_>],
-    parted: Separated,
     room: u32,
     at: usize,
 ) -> Result<(List<Node>, usize), ReadFault>
-    requires here { at ≤ length items.now }
-    requires some { 0 < room }
+    requires { at ≤ length items.now }
     ensures within { IfOk result (λ x. x.1 ≤ length items.now) }
-    ensures gives { Gives reading.all result (reading.parted items.now room parted at) }
+    ensures gives { Gives reading.all result (reading.simples items.now room at) }
 {
-    let (first, mut end) = part(alloc, items, parted, room, at)?;
+    let (first, mut end) = simple(alloc, items, room, at)?;
     let mut kids = one(alloc, first)?;
     for turn in 0..=items.len() {
-        if !is_parting(items, parted, end) {
+        if !is(items, end, Word::Semicolon) {
             return Ok((kids, end));
         }
-        if !starts_part(items, parted, end + 1) {
+        if !starts_simple(items, end + 1) {
             return Ok((kids, end + 1));
         }
-        let (kid, next) = part(alloc, items, parted, room, end + 1)?;
+        let (kid, next) = simple(alloc, items, room, end + 1)?;
         kids.push(kid)?;
         end = next;
     }
@@ -105,7 +54,7 @@ pub fn line(
         return Err(ReadFault::NoTree);
     }
 
-    let (kids, end) = parted(alloc, items, Separated::Statements, room, at)?;
+    let (kids, end) = simples(alloc, items, room, at)?;
     if !is(items, end, Word::Newline) {
         return Err(ReadFault::NoTree);
     }
