@@ -1,12 +1,11 @@
 -- Where nodes end, and what is absent at the end of a statement.
-use Rattle.std.proofs.Common.{◌≡◌, ℕ, zero, suc, ◌+◌, ◌-◌, ◌<◌, ◌≤◌, List, [], ◌∷◌, ◌++◌, length, refl, ap, ◌∙◌, sym, arith, append_assoc, length-append}
-use Rattle.std.specs.Prelude.{true, false, Bool}
+use Rattle.std.proofs.Common.{◌≡◌, ℕ, zero, suc, ◌+◌, ◌-◌, ◌<◌, ◌≤◌, List, [], ◌∷◌, ◌++◌, length, refl, ap, arith}
+use Rattle.std.specs.Prelude.{true, false}
 use Rattle.std.proofs.lemmas.List.{append-nil}
 use Rattle.node_tree.specs.declared.node.Node.{Node}
-use Rattle.node_tree.specs.declared.kind.Kind.{Kind}
 use Rattle.py_expr.specs.declared.item.Item.{Item}
-use Rattle.py_expr.specs.Build.{token_at, absent}
-use Rattle.py_stmt.specs.Build.{is_layout, code_end, arity, absents, padded}
+use Rattle.py_expr.specs.Build.{token_at, end_of, absent}
+use Rattle.py_stmt.specs.Build.{is_layout, code_end, absents}
 
 pub code_end_start : (ts : List Item) (n : ℕ) → n ≡ zero → code_end ts n ≡ 0
 unfolding code_end
@@ -16,15 +15,22 @@ code_end_start ts n h = rw h refl
 pub code_end_back : (ts : List Item) (n : ℕ) → zero < n → is_layout (token_at ts (n - 1)).word ≡ true → code_end ts n ≡ code_end ts (n - 1)
 unfolding code_end
 code_end_back ts zero h l = absurd (omega arith)
-code_end_back ts (suc n) h l = rw less (rw less at l |> λ m. rw m refl)
-  where
-    less : suc n - 1 ≡ n
-    less = omega arith
+code_end_back ts (suc n) h l = let less : suc n - 1 ≡ n = omega arith in rw less (rw (rw less at l) refl)
 
-pub code_end_here : (ts : List Item) (n : ℕ) → zero < n → is_layout (token_at ts (n - 1)).word ≡ false → code_end ts n ≡ (token_at ts (n - 1)).span.to
+pub code_end_here : (ts : List Item) (n : ℕ) → zero < n → is_layout (token_at ts (n - 1)).word ≡ false → code_end ts n ≡ end_of ts n
 unfolding code_end
 code_end_here ts zero h l = absurd (omega arith)
-code_end_here ts (suc n) h l = rw less (rw less at l |> λ m. rw m refl)
+code_end_here ts (suc n) h l = let less : suc n - 1 ≡ n = omega arith in rw less (rw (rw less at l) refl)
+
+-- one less is absent
+pub absents_more : (kids : List Node) (from n m : ℕ) → n ≡ suc m → kids ++ absents from n ≡ (kids ++ absent from ∷ []) ++ absents from m
+absents_more kids from n m h = rw h (one_more kids)
   where
-    less : suc n - 1 ≡ n
-    less = omega arith
+    one_more : (ks : List Node) → ks ++ (absent from ∷ absents from m) ≡ (ks ++ absent from ∷ []) ++ absents from m
+    one_more [] = refl
+    one_more (k ∷ ks) = ap (λ (ns : List Node). k ∷ ns) (one_more ks)
+
+pub absents_none : (kids : List Node) (from n : ℕ) → n ≡ zero → kids ++ absents from n ≡ kids
+absents_none kids from n h = rw h (append-nil kids)
+
+pub ruleset padded_laws = (absents_more, absents_none)

@@ -3,3 +3,4 @@ pub mod Among
 pub mod Colons
 pub mod Ends
 pub mod Steps
+pub mod Rounds

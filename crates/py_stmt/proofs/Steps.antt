@@ -10,7 +10,7 @@ use Rattle.py_expr.specs.Table as e
 use Rattle.py_expr.specs.Sets as es
 use Rattle.py_expr.specs.Reading as known
 use Rattle.py_expr.proofs.Passes.{pass as known_pass}
-use Rattle.py_stmt.specs.Table.{Level, Expression, Value_of, Row, table, grammar, Value, Stmts, Stmt, Line, Simple, Worded, Naming, Global, Nonlocal, Annotated, Evaluated, Return, Delete, Raise, Assert, Import, Alias, Dotted, FromImport, Origin, Imported, Aliases, Suite, Compound, If, Branches, ElsePart, While, For, ForRest, With, WithRest, WithItems, WithItem, Try, TryRest, Handlers, Handler, Caught, FinallyPart, Def, DefRest, Parameters, Class, ClassRest, Bases, Async, AsyncRest, Decorated, Decorators, Decorator, DecoratedRest}
+use Rattle.py_stmt.specs.Table.{Level, Expression, Value_of, Row, table, grammar, Value, Stmts, Stmt, Line, Simple, Worded, Naming, Global, Nonlocal, Annotated, Evaluated, Return, Delete, Raise, Assert, Import, Alias, Dotted, FromImport, Origin, Imported, Aliases, MoreAliases, Suite, Compound, If, Branches, ElsePart, While, For, ForRest, With, WithRest, WithItems, WithItem, Try, TryRest, Handlers, Handler, Caught, FinallyPart, Def, DefRest, Parameters, Class, ClassRest, Bases, Async, AsyncRest, Decorated, Decorators, Decorator, DecoratedRest}
 use Rattle.py_stmt.specs.Build.{source}
 use Rattle.py_stmt.specs.Sets.{sets, ranks}
 use Rattle.py_stmt.specs.Reading.{level, row}
@@ -184,3 +184,6 @@ global_step ts room i h = level_row ts room Global i h
 
 pub nonlocal_step : (ts : List Item) (room i : ℕ) → zero < room → level ts room Nonlocal i ≡ row ts room (table Nonlocal) i
 nonlocal_step ts room i h = level_row ts room Nonlocal i h
+
+pub more_aliases_step : (ts : List Item) (room i : ℕ) → zero < room → level ts room MoreAliases i ≡ row ts room (table MoreAliases) i
+more_aliases_step ts room i h = level_row ts room MoreAliases i h

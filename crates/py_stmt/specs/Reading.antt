@@ -17,7 +17,7 @@ use Rattle.py_expr.specs.Table as expressions
 use Rattle.py_stmt.specs.declared.series.Series.{Series}
 use Rattle.py_stmt.specs.declared.series.Series.TheVariants as series_of
 use Rattle.py_stmt.specs.Table as rows
-use Rattle.py_stmt.specs.Table.{Level, Expression, Row, Value, ValuesTail, NamesTail, AliasesTail, WithItemsTail, DecoratorsTail, DottedTail, DotsTail, MoreAliasesTail, LineTail, Simple, Alias, Decorator, ElsePart, Statement, Valued, Several, Dotting, table, tok, sign, value, looped}
+use Rattle.py_stmt.specs.Table.{Level, Expression, Row, Value, ValuesTail, NamesTail, AliasesTail, WithItemsTail, DecoratorsTail, DottedTail, DotsTail, MoreAliasesTail, LineTail, StmtsTail, HandlersTail, Simple, Alias, Stmt, Handler, Decorator, ElsePart, Statement, Valued, Several, Dotting, table, tok, sign, value, looped}
 use Rattle.py_stmt.specs.Build.{source, filled, written, pointed}
 use Rattle.py_stmt.specs.Sets.{sets, ranks}
 
@@ -125,9 +125,18 @@ behind text r = r >>= λ x. Some (text ++ written x.0, x.1)
 abbrev pub further_points : List Item → ℕ → ℕ → Option (List Part × ℕ)
 further_points ts room i = row ts room (rep DotsTail (looped (word expressions.Operator rows.points))) i
 
--- the statements of a line
-abbrev pub simples : List Item → ℕ → ℕ → Option (List Part × ℕ)
-simples ts room i = row ts room (ref Simple · rep LineTail (rows.parted (class w.Semicolon ∷ []) Simple)) i
+-- further statements of a line, names of an import, statements and handlers
+abbrev pub more_simples : List Item → ℕ → ℕ → Option (List Part × ℕ)
+more_simples ts room i = row ts room (rep LineTail (rows.parted (class w.Semicolon ∷ []) Simple)) i
+
+abbrev pub more_aliases : List Item → ℕ → ℕ → Option (List Part × ℕ)
+more_aliases ts room i = row ts room (rep MoreAliasesTail (rows.parted expressions.commas Alias)) i
+
+abbrev pub more_statements : List Item → ℕ → ℕ → Option (List Part × ℕ)
+more_statements ts room i = row ts room (rep StmtsTail (looped (ref Stmt))) i
+
+abbrev pub more_handlers : List Item → ℕ → ℕ → Option (List Part × ℕ)
+more_handlers ts room i = row ts room (rep HandlersTail (looped (ref Handler))) i
 
 -- ---- parts of compound statements
 

@@ -159,9 +159,9 @@ closings = class w.RightRound ∷ class w.RightSquare ∷ class w.RightBrace ∷
 
 -- Nothing but words of a primary stands before the first colon outside of brackets, of which some are open; n tokens are looked at.
 unfoldable pub colon_after : ℕ → (ℕ → ℕ) → ℕ → ℕ → Bool
-colon_after zero f i open = false
+colon_after zero f i inner = false
 colon_after (suc n) f i zero = if has openings (f i) then colon_after n f (suc i) 1 else if has plain (f i) then colon_after n f (suc i) 0 else eqb (class w.Colon) (f i)
-colon_after (suc n) f i (suc open) = if has openings (f i) then colon_after n f (suc i) (suc (suc open)) else if has closings (f i) then colon_after n f (suc i) open else if eqb (class w.Other) (f i) then false else colon_after n f (suc i) (suc open)
+colon_after (suc n) f i (suc inner) = if has openings (f i) then colon_after n f (suc i) (suc (suc inner)) else if has closings (f i) then colon_after n f (suc i) inner else if eqb (class w.Other) (f i) then false else colon_after n f (suc i) (suc inner)
 
 -- more tokens than a text has
 abbrev pub most : ℕ
@@ -222,7 +222,7 @@ table Stmts = ref Stmt · rep StmtsTail (looped (ref Stmt))
 table StmtsTail = rep StmtsTail (looped (ref Stmt))
 table Stmt = ref Compound ∣ ref Line
 -- line = simple {";" simple} [";"] Newline
-table Line = (ref Simple · rep LineTail (parted (class w.Semicolon ∷ []) Simple)) · tok w.Newline
+table Line = ref Simple · rep LineTail (parted (class w.Semicolon ∷ []) Simple) · tok w.Newline
 table LineTail = rep LineTail (parted (class w.Semicolon ∷ []) Simple)
 table Simple = ref Worded ∣ ref Naming ∣ make Valued (value expressions.Yield) ∣ choose annotates (ref Annotated) (ref Evaluated)
 table Worded = ref Return ∣ ref Delete ∣ ref Raise ∣ ref Assert ∣ make (Statement k.Pass) (tok w.Pass) ∣ make (Statement k.Break) (tok w.Break) ∣ make (Statement k.Continue) (tok w.Continue)

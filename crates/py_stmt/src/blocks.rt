@@ -1,6 +1,6 @@
 //! Statements one after another, and what they stand in.
 
-ghost use Rattle.std.specs.Prelude.{◌≡◌, ◌++◌, ◌≤◌, length, IfOk};
+ghost use Rattle.std.specs.Prelude.{◌≡◌, ◌++◌, ◌<◌, ◌≤◌, length, IfOk};
 ghost use Rattle.node_tree.specs.Gives.{Gives};
 ghost use Rattle.py_stmt.specs.Reading as reading;
 ghost use Rattle.py_stmt.specs.Table.{Stmts, Stmt, Suite, Compound};
@@ -16,7 +16,7 @@ use std::alloc::Global;
 
 /// Statements, of which there is at least one.
 #[cycle(blocks)]
-#[tactic(auto, using(crate::proofs::Steps::level_none))]
+#[tactic(auto, using(crate::proofs::Steps::stmts_step, crate::proofs::Steps::level_none))]
 pub fn statements(
     alloc: Global,
     items: &[Item<'_>],
@@ -31,7 +31,25 @@ pub fn statements(
         return Err(ReadFault::NoTree);
     }
 
-    let (mut kids, mut end) = statement(alloc, items, room, at)?;
+    let (kids, end) = statement(alloc, items, room, at)?;
+    more_statements(alloc, items, room, kids, end)
+}
+
+/// Further statements, behind some.
+#[cycle(blocks)]
+fn more_statements(
+    alloc: Global,
+    items: &[Item<'_>],
+    room: u32,
+    mut kids: List<Node>,
+    at: usize,
+) -> Result<(List<Node>, usize), ReadFault>
+    requires here { at ≤ length items.now }
+    requires some { 0 < room }
+    ensures within { IfOk result (λ x. x.1 ≤ length items.now) }
+    ensures gives { Gives reading.all result (reading.along kids (reading.more_statements items.now room at)) }
+{
+    let mut end = at;
     for turn in 0..=items.len() {
         if !starts_statement(items, end) {
             return Ok((kids, end));

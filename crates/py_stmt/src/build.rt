@@ -1,13 +1,12 @@
 //! The nodes of statements.
 
-ghost use Rattle.std.specs.Prelude.{◌≡◌, ◌≤◌, ℕ, [], ◌∷◌, ◌++◌, length, IfOk};
-ghost use Rattle.node_tree.specs.declared.kind.Kind.TheVariants as k;
+ghost use Rattle.std.specs.Prelude.{◌≡◌, ◌<◌, ◌≤◌, [], length, IfOk};
 ghost use Rattle.py_expr.specs.Parts.{node};
 ghost use Rattle.py_expr.specs.Build.{token_at};
 ghost use Rattle.py_stmt.specs.Build as spec;
 
 use node_tree::{Kind, List, Memory, Node, Text};
-use py_expr::{Item, Word, absent, node_of, one, start_at, word_at};
+use py_expr::{Item, Word, absent, end_before, node_of, one, start_at, word_at};
 use std::alloc::Global;
 
 /// Whether a word belongs to no node: the end of a line, indentation, or the `;` between statements.
@@ -21,18 +20,16 @@ fn is_layout(word: Word) -> bool
 }
 
 /// Where the last token before this one ends that belongs to a node.
-#[tactic(auto, using(crate::proofs::Ends::code_end_start, crate::proofs::Ends::code_end_back))]
+#[tactic(auto, using(crate::proofs::Ends::code_end_start, crate::proofs::Ends::code_end_back, crate::proofs::Ends::code_end_here))]
 fn code_end(items: &[Item<'_>], at: usize) -> u32
     requires { at ≤ length items.now }
     ensures { result ≡ spec.code_end items.now at }
 {
-    let mut end = at;
-    while end > 0 {
-        let last = &items[end - 1];
-        if !is_layout(last.word) {
-            return last.span.to;
+    for back in 0..at {
+        let end = at - back;
+        if !is_layout(word_at(items, end - 1)) {
+            return end_before(items, end);
         }
-        end -= 1;
     }
     0
 }
@@ -59,11 +56,11 @@ fn arity(kind: Kind) -> usize
 }
 
 /// The kids of a statement that begins there, with what is absent at their end.
-#[tactic(auto, using(crate::proofs::Ends::padded_full, crate::proofs::Ends::padded_more))]
+#[tactic(auto, using(crate::proofs::Ends::padded_laws))]
 fn padded(alloc: Global, kind: Kind, from: u32, mut kids: List<Node>) -> Result<List<Node>, Memory>
     ensures { IfOk result (λ ns. ns ≡ spec.padded kind from kids) }
 {
-    while kids.len() < arity(kind) {
+    for at in kids.len()..arity(kind) {
         kids.push(absent(alloc, from))?;
     }
     Ok(kids)

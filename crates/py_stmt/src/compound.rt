@@ -386,7 +386,7 @@ fn else_or_absent(
 
 /// Handlers, of which there is at least one.
 #[cycle(blocks)]
-#[tactic(auto, using(crate::proofs::Steps::level_none))]
+#[tactic(auto, using(crate::proofs::Steps::handlers_step, crate::proofs::Steps::level_none))]
 fn handlers(
     alloc: Global,
     items: &[Item<'_>],
@@ -401,11 +401,30 @@ fn handlers(
         return Err(ReadFault::NoTree);
     }
 
-    let (first, mut end) = handler(alloc, items, room, at)?;
-    let mut kids = one(alloc, first)?;
+    let (first, end) = handler(alloc, items, room, at)?;
+    let kids = one(alloc, first)?;
+    let (kids, end) = more_handlers(alloc, items, room, kids, end)?;
+    Ok((plain(alloc, items, Kind::List, at, end, kids)?, end))
+}
+
+/// Further handlers, behind some.
+#[cycle(blocks)]
+fn more_handlers(
+    alloc: Global,
+    items: &[Item<'_>],
+    room: u32,
+    mut kids: List<Node>,
+    at: usize,
+) -> Result<(List<Node>, usize), ReadFault>
+    requires here { at ≤ length items.now }
+    requires some { 0 < room }
+    ensures within { IfOk result (λ x. x.1 ≤ length items.now) }
+    ensures gives { Gives reading.all result (reading.along kids (reading.more_handlers items.now room at)) }
+{
+    let mut end = at;
     for turn in 0..=items.len() {
         if !is(items, end, Word::Except) {
-            return Ok((plain(alloc, items, Kind::List, at, end, kids)?, end));
+            return Ok((kids, end));
         }
         let (kid, next) = handler(alloc, items, room, end)?;
         kids.push(kid)?;

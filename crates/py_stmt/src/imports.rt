@@ -4,7 +4,7 @@ ghost use Rattle.std.specs.Prelude.{◌≡◌, ◌<◌, ◌≤◌, [], ◌∷◌
 ghost use Rattle.node_tree.specs.Gives.{Gives};
 ghost use Rattle.py_expr.specs.Build.{token_at};
 ghost use Rattle.py_stmt.specs.Reading as reading;
-ghost use Rattle.py_stmt.specs.Table.{Import, Alias, Dotted, FromImport, Origin, Imported, Aliases, MoreAliases};
+ghost use Rattle.py_stmt.specs.Table.{Import, Alias, Dotted, FromImport, Origin, Imported, Aliases};
 
 use crate::build::{plain, statement};
 use crate::look::{is_point, starts_alias, starts_dotted};
@@ -210,7 +210,7 @@ fn points(
 }
 
 /// `"*" | "(" aliases [","] ")" | aliases`
-#[tactic(auto, using(crate::proofs::Steps::imported_step, crate::proofs::Steps::level_none))]
+#[tactic(auto, using(crate::proofs::Steps::imported_step, crate::proofs::Steps::more_aliases_step, crate::proofs::Steps::level_none))]
 fn imported(
     alloc: Global,
     items: &[Item<'_>],
@@ -231,7 +231,9 @@ fn imported(
     if !is(items, at, Word::LeftRound) {
         return aliases(alloc, items, room, at);
     }
-    let (kids, end) = more_aliases(alloc, items, room, at + 1)?;
+    let (first, end) = alias(alloc, items, room, at + 1)?;
+    let kids = one(alloc, first)?;
+    let (kids, end) = more_aliases(alloc, items, room, kids, end)?;
     if !is(items, end, Word::RightRound) {
         return Err(ReadFault::NoTree);
     }
@@ -239,20 +241,20 @@ fn imported(
     Ok((list, end + 1))
 }
 
-/// `alias {"," alias} [","]`
+/// `{"," alias} [","]`, behind some.
 fn more_aliases(
     alloc: Global,
     items: &[Item<'_>],
     room: u32,
+    mut kids: List<Node>,
     at: usize,
 ) -> Result<(List<Node>, usize), ReadFault>
     requires here { at ≤ length items.now }
     requires some { 0 < room }
     ensures within { IfOk result (λ x. x.1 ≤ length items.now) }
-    ensures gives { Gives reading.all result (reading.level items.now room MoreAliases at) }
+    ensures gives { Gives reading.all result (reading.along kids (reading.more_aliases items.now room at)) }
 {
-    let (first, mut end) = alias(alloc, items, room, at)?;
-    let mut kids = one(alloc, first)?;
+    let mut end = at;
     for turn in 0..=items.len() {
         if !is_comma(items, end) {
             return Ok((kids, end));

@@ -1,7 +1,7 @@
 //! Items in a row, with marks before the further ones.
 
 ghost use Rattle.std.specs.Prelude.{◌≡◌, ◌<◌, ◌≤◌, [], ◌∷◌, ◌++◌, suc, length, IfOk};
-ghost use Rattle.grammar.specs.Reader.{◌>>=◌};
+
 ghost use Rattle.node_tree.specs.declared.kind.Kind.TheVariants as k;
 ghost use Rattle.node_tree.specs.Gives.{Gives};
 ghost use Rattle.py_expr.specs.Parts.{wholes};
