@@ -20,7 +20,7 @@ code_end_back ts (suc n) h l = let less : suc n - 1 ≡ n = omega arith in rw le
 pub code_end_here : (ts : List Item) (n : ℕ) → zero < n → is_layout (token_at ts (n - 1)).word ≡ false → code_end ts n ≡ end_of ts n
 unfolding code_end
 code_end_here ts zero h l = absurd (omega arith)
-code_end_here ts (suc n) h l = let less : suc n - 1 ≡ n = omega arith in rw less (rw (rw less at l) refl)
+code_end_here ts (suc n) h l = let less : suc n - 1 ≡ n = omega arith in rw (rw less at l) (rw (end_of, less) refl)
 
 -- one less is absent
 pub absents_more : (kids : List Node) (from n m : ℕ) → n ≡ suc m → kids ++ absents from n ≡ (kids ++ absent from ∷ []) ++ absents from m

@@ -125,14 +125,21 @@ module _ (ts : List Item) (room : ℕ) (cs : List ℕ) (l q : Level) (n : ℕ) (
       taken : (c : Bool) (X Z : Option (List Part × ℕ)) → c ≡ true → cond {A = Option (List Part × ℕ)} c X Z ≡ X
       taken c X Z h = rw h refl
 
+  -- what a turn reads behind the mark
+  behind_mark : ℕ → Option (List Part × ℕ)
+  behind_mark i = cond {A = Option (List Part × ℕ)} (has (sets.first l) (class (token_at ts (suc i)).word)) (◌>>=◌ {B = List Part × ℕ} (level ts room l (suc i)) (λ u. ◌>>=◌ {B = List Part × ℕ} (rest ts room q (rows.parted cs l) (n - 1) u.1) (λ v. Some (u.0 ++ v.0, v.1)))) (Some ([], suc i))
+
   -- no further mark, or nothing behind the last
   pub parted_end : (i : ℕ) → o ≡ along ks (rest ts room q (rows.parted cs l) n i) → has cs (class (token_at ts i).word) ≡ false → o ≡ Some (wholes ks, i)
-  parted_end i first stops = first ∙ (ap (along ks) (parted_turn ts room cs l q n i by some ∙ rw stops refl) ∙ along_none ks i)
+  parted_end i first stops = first ∙ (ap (along ks) (parted_turn ts room cs l q n i by some ∙ never (has cs (class (token_at ts i).word)) (behind_mark i) (Some ([], i)) stops) ∙ along_none ks i)
 
   pub parted_last : (i : ℕ) → o ≡ along ks (rest ts room q (rows.parted cs l) n i) → has cs (class (token_at ts i).word) ≡ true → has (sets.first l) (class (token_at ts (i + 1)).word) ≡ false → o ≡ Some (wholes ks, i + 1)
   parted_last i first mark stops =
       let next : i + 1 ≡ suc i = omega arith in
-      rw next (first ∙ (ap (along ks) (parted_turn ts room cs l q n i by some ∙ rw (mark, rw next at stops) refl) ∙ along_none ks (suc i)))
+      rw next (first ∙ (ap (along ks) (parted_turn ts room cs l q n i by some ∙ (taken_mark (has cs (class (token_at ts i).word)) (behind_mark i) (Some ([], i)) mark ∙ never (has (sets.first l) (class (token_at ts (suc i)).word)) (◌>>=◌ {B = List Part × ℕ} (level ts room l (suc i)) (λ u. ◌>>=◌ {B = List Part × ℕ} (rest ts room q (rows.parted cs l) (n - 1) u.1) (λ v. Some (u.0 ++ v.0, v.1)))) (Some ([], suc i)) (rw next at stops))) ∙ along_none ks (suc i)))
+    where
+      taken_mark : (c : Bool) (X Z : Option (List Part × ℕ)) → c ≡ true → cond {A = Option (List Part × ℕ)} c X Z ≡ X
+      taken_mark c X Z h = rw h refl
 
 -- ---- no turn is left
 

@@ -115,7 +115,7 @@ pub fn unless_dots(
     end: usize,
     node: Node,
 ) -> Result<Node, Memory>
-    requires here { at < end }
+    requires here { at ≤ length items.now }
     requires within { end ≤ length items.now }
     ensures { IfOk result (λ n. spec.item kind (spec.alone at end) (token_at items.now at).span.from (spec.end_from items.now at end) (spec.whole_of node) ≡ spec.whole_of n) }
 {

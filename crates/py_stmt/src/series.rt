@@ -1,10 +1,8 @@
 //! Items in a row, with marks before the further ones.
 
-ghost use Rattle.std.specs.Prelude.{◌≡◌, ◌<◌, ◌≤◌, [], ◌∷◌, ◌++◌, suc, length, IfOk};
+ghost use Rattle.std.specs.Prelude.{◌≡◌, ◌<◌, ◌≤◌, true, length, IfOk};
 
-ghost use Rattle.node_tree.specs.declared.kind.Kind.TheVariants as k;
 ghost use Rattle.node_tree.specs.Gives.{Gives};
-ghost use Rattle.py_expr.specs.Parts.{wholes};
 ghost use Rattle.py_stmt.specs.Reading as reading;
 
 use crate::build::plain;
