@@ -12,10 +12,10 @@ unfolding code_end
 code_end_start ts n h = rw h refl
 
 -- a token of layout is passed over, and another is where it ends
-pub code_end_back : (ts : List Item) (n : ℕ) → zero < n → is_layout (token_at ts (n - 1)).word ≡ true → code_end ts n ≡ code_end ts (n - 1)
+pub code_end_back : (ts : List Item) (n m : ℕ) → zero < n → m ≡ n - 1 → is_layout (token_at ts m).word ≡ true → code_end ts n ≡ code_end ts m
 unfolding code_end
-code_end_back ts zero h l = absurd (omega arith)
-code_end_back ts (suc n) h l = let less : suc n - 1 ≡ n = omega arith in rw less (rw (rw less at l) refl)
+code_end_back ts zero m h less l = absurd (omega arith)
+code_end_back ts (suc n) m h less l = let same : m ≡ n = omega arith in rw same (rw (rw same at l) refl)
 
 pub code_end_here : (ts : List Item) (n : ℕ) → zero < n → is_layout (token_at ts (n - 1)).word ≡ false → code_end ts n ≡ end_of ts n
 unfolding code_end

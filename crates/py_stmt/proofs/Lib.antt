@@ -4,3 +4,6 @@ pub mod Colons
 pub mod Ends
 pub mod Steps
 pub mod Rounds
+pub mod Forms
+pub mod Orders
+pub mod Suites

@@ -8,7 +8,7 @@ use Rattle.grammar.proofs.Rounds.{turn, turned}
 use Rattle.py_expr.specs.declared.item.Item.{Item}
 use Rattle.py_expr.specs.declared.word.Word.TheVariants as w
 use Rattle.py_expr.specs.Words.{class}
-use Rattle.py_expr.specs.Parts.{Part, whole, wholes}
+use Rattle.py_expr.specs.Parts.{Part, whole, wholes, sign}
 use Rattle.py_expr.specs.Build.{token_at}
 use Rattle.py_expr.specs.Table.{Operator, commas}
 use Rattle.py_stmt.specs.declared.series.Series.{Series}
@@ -17,7 +17,7 @@ use Rattle.py_stmt.specs.Table as rows
 use Rattle.py_stmt.specs.Table.{Level, Row, Simple, Alias, Stmt, Handler, LineTail, MoreAliasesTail, StmtsTail, HandlersTail, DottedTail, DotsTail, looped, points}
 use Rattle.py_stmt.specs.Build.{source, pointed, written}
 use Rattle.py_stmt.specs.Sets.{sets}
-use Rattle.py_stmt.specs.Reading.{level, row, row_of, tail_of, goes_on, along, pointed_behind, behind}
+use Rattle.py_stmt.specs.Reading.{level, row, row_of, tail_of, goes_on, along, pointed_behind, behind, are_signs, further, further_parts, further_points, more_simples, more_aliases, more_statements, more_handlers}
 
 -- what a loop reads that may go round so often
 unfoldable pub rest : List Item → ℕ → Level → Row → ℕ → ℕ → Option (List Part × ℕ)
@@ -58,6 +58,9 @@ once c I Y R ms j starts item = rw (starts, item) refl
 never : (c : Bool) (X Y : Option (List Part × ℕ)) → c ≡ false → cond {A = Option (List Part × ℕ)} c X Y ≡ Y
 never c X Y h = rw h refl
 
+none_there : (c : Bool) (I Y : Option (List Part × ℕ)) (R : ℕ → Option (List Part × ℕ)) → c ≡ true → I ≡ None → cond {A = Option (List Part × ℕ)} c (◌>>=◌ {B = List Part × ℕ} I (λ u. ◌>>=◌ {B = List Part × ℕ} (R u.1) (λ v. Some (u.0 ++ v.0, v.1)))) Y ≡ None
+none_there c I Y R starts item = rw (starts, item) refl
+
 -- ---- items in a row
 
 series_turn : (ts : List Item) (room : ℕ) (s : Series) (n i : ℕ) → zero < n → rest ts room (tail_of s) (looped (row_of s)) n i ≡ cond {A = Option (List Part × ℕ)} (goes_on ts s i) (◌>>=◌ {B = List Part × ℕ} (row ts room (row_of s) i) (λ u. ◌>>=◌ {B = List Part × ℕ} (rest ts room (tail_of s) (looped (row_of s)) (n - 1) u.1) (λ v. Some (u.0 ++ v.0, v.1)))) (Some ([], i))
@@ -73,6 +76,9 @@ series_more ts room s n m i j o ks ls x first less some goes item more =
 
 pub series_end : (ts : List Item) (room : ℕ) (s : Series) (n i : ℕ) (o : Option (List Part × ℕ)) (ks : List Node) → o ≡ along ks (rest ts room (tail_of s) (looped (row_of s)) n i) → zero < n → goes_on ts s i ≡ false → o ≡ Some (wholes ks, i)
 series_end ts room s n i o ks first some stops = first ∙ (ap (along ks) (series_turn ts room s n i some ∙ never (goes_on ts s i) (◌>>=◌ {B = List Part × ℕ} (row ts room (row_of s) i) (λ u. ◌>>=◌ {B = List Part × ℕ} (rest ts room (tail_of s) (looped (row_of s)) (n - 1) u.1) (λ v. Some (u.0 ++ v.0, v.1)))) (Some ([], i)) stops) ∙ along_none ks i)
+
+pub series_lost : (ts : List Item) (room : ℕ) (s : Series) (n i : ℕ) (o : Option (List Part × ℕ)) (ks : List Node) → o ≡ along ks (rest ts room (tail_of s) (looped (row_of s)) n i) → zero < n → goes_on ts s i ≡ true → row ts room (row_of s) i ≡ None → o ≡ None
+series_lost ts room s n i o ks first some goes item = first ∙ ap (along ks) (series_turn ts room s n i some ∙ none_there (goes_on ts s i) (row ts room (row_of s) i) (Some ([], i)) (rest ts room (tail_of s) (looped (row_of s)) (n - 1)) goes item)
 
 -- ---- a level one after another
 
@@ -91,6 +97,9 @@ chained_more ts room l q n m i j o ks ms ls c first less some goes item more =
 
 pub chained_end : (ts : List Item) (room : ℕ) (l q : Level) (n i : ℕ) (o : Option (List Part × ℕ)) (ks : List Node) → Chained l q → o ≡ along ks (rest ts room q (looped (ref l)) n i) → zero < n → has (sets.first l) (class (token_at ts i).word) ≡ false → o ≡ Some (wholes ks, i)
 chained_end ts room l q n i o ks c first some stops = first ∙ (ap (along ks) (chained_turn ts room l q n i c some ∙ never (has (sets.first l) (class (token_at ts i).word)) (◌>>=◌ {B = List Part × ℕ} (level ts room l i) (λ u. ◌>>=◌ {B = List Part × ℕ} (rest ts room q (looped (ref l)) (n - 1) u.1) (λ v. Some (u.0 ++ v.0, v.1)))) (Some ([], i)) stops) ∙ along_none ks i)
+
+pub chained_lost : (ts : List Item) (room : ℕ) (l q : Level) (n i : ℕ) (o : Option (List Part × ℕ)) (ks : List Node) → Chained l q → o ≡ along ks (rest ts room q (looped (ref l)) n i) → zero < n → has (sets.first l) (class (token_at ts i).word) ≡ true → level ts room l i ≡ None → o ≡ None
+chained_lost ts room l q n i o ks c first some goes item = first ∙ ap (along ks) (chained_turn ts room l q n i c some ∙ none_there (has (sets.first l) (class (token_at ts i).word)) (level ts room l i) (Some ([], i)) (rest ts room q (looped (ref l)) (n - 1)) goes item)
 
 -- ---- the same with a mark between, which may also be the last
 
@@ -126,7 +135,7 @@ module _ (ts : List Item) (room : ℕ) (cs : List ℕ) (l q : Level) (n : ℕ) (
       taken c X Z h = rw h refl
 
   -- what a turn reads behind the mark
-  behind_mark : ℕ → Option (List Part × ℕ)
+  abbrev behind_mark : ℕ → Option (List Part × ℕ)
   behind_mark i = cond {A = Option (List Part × ℕ)} (has (sets.first l) (class (token_at ts (suc i)).word)) (◌>>=◌ {B = List Part × ℕ} (level ts room l (suc i)) (λ u. ◌>>=◌ {B = List Part × ℕ} (rest ts room q (rows.parted cs l) (n - 1) u.1) (λ v. Some (u.0 ++ v.0, v.1)))) (Some ([], suc i))
 
   -- no further mark, or nothing behind the last
@@ -141,7 +150,108 @@ module _ (ts : List Item) (room : ℕ) (cs : List ℕ) (l q : Level) (n : ℕ) (
       taken_mark : (c : Bool) (X Z : Option (List Part × ℕ)) → c ≡ true → cond {A = Option (List Part × ℕ)} c X Z ≡ X
       taken_mark c X Z h = rw h refl
 
+  pub parted_lost : (i : ℕ) → o ≡ along ks (rest ts room q (rows.parted cs l) n i) → has cs (class (token_at ts i).word) ≡ true → has (sets.first l) (class (token_at ts (i + 1)).word) ≡ true → level ts room l (i + 1) ≡ None → o ≡ None
+  parted_lost i first mark starts item =
+      let next : i + 1 ≡ suc i = omega arith in
+      first ∙ ap (along ks) (parted_turn ts room cs l q n i by some ∙ (taken_there (has cs (class (token_at ts i).word)) (behind_mark i) (Some ([], i)) mark ∙ none_there (has (sets.first l) (class (token_at ts (suc i)).word)) (level ts room l (suc i)) (Some ([], suc i)) (rest ts room q (rows.parted cs l) (n - 1)) (rw next at starts) (rw next at item)))
+    where
+      taken_there : (c : Bool) (X Z : Option (List Part × ℕ)) → c ≡ true → cond {A = Option (List Part × ℕ)} c X Z ≡ X
+      taken_there c X Z h = rw h refl
+
 -- ---- no turn is left
 
 pub along_turned : (ts : List Item) (room : ℕ) (q : Level) (r : Row) (n i : ℕ) (o : Option (List Part × ℕ)) (ks : List Node) → o ≡ along ks (rest ts room q r n i) → n ≡ zero → o ≡ None
 along_turned ts room q r n i o ks first none = first ∙ ap (along ks) (rest_none ts room q r n i none)
+
+-- ---- how loops begin
+
+pub further_rest : (ts : List Item) (room : ℕ) (s : Series) (i n : ℕ) → n ≡ suc (length ts) → further ts room s i ≡ rest ts room (tail_of s) (looped (row_of s)) n i
+unfolding rest further
+further_rest ts room s i n h = rw h refl
+
+pub simples_rest : (ts : List Item) (room i n : ℕ) → n ≡ suc (length ts) → more_simples ts room i ≡ rest ts room LineTail (rows.parted (class w.Semicolon ∷ []) Simple) n i
+unfolding rest more_simples
+simples_rest ts room i n h = rw h refl
+
+pub aliases_rest : (ts : List Item) (room i n : ℕ) → n ≡ suc (length ts) → more_aliases ts room i ≡ rest ts room MoreAliasesTail (rows.parted commas Alias) n i
+unfolding rest more_aliases
+aliases_rest ts room i n h = rw h refl
+
+pub statements_rest : (ts : List Item) (room i n : ℕ) → n ≡ suc (length ts) → more_statements ts room i ≡ rest ts room StmtsTail (looped (ref Stmt)) n i
+unfolding rest more_statements
+statements_rest ts room i n h = rw h refl
+
+pub handlers_rest : (ts : List Item) (room i n : ℕ) → n ≡ suc (length ts) → more_handlers ts room i ≡ rest ts room HandlersTail (looped (ref Handler)) n i
+unfolding rest more_handlers
+handlers_rest ts room i n h = rw h refl
+
+pub parts_rest : (ts : List Item) (room i n : ℕ) → n ≡ suc (length ts) → further_parts ts room i ≡ rest ts room DottedTail (looped rows.further_part) n i
+unfolding rest further_parts
+parts_rest ts room i n h = rw h refl
+
+pub points_rest : (ts : List Item) (room i n : ℕ) → n ≡ suc (length ts) → further_points ts room i ≡ rest ts room DotsTail (looped (word Operator points)) n i
+unfolding rest further_points
+points_rest ts room i n h = rw h refl
+
+-- ---- parts of a dotted name, and points, as text
+
+once_sign : (c : Bool) (I Y : Option (List Part × ℕ)) (R : ℕ → Option (List Part × ℕ)) (s : List ℕ) (j : ℕ) → c ≡ true → I ≡ Some (sign s ∷ [], j) → cond {A = Option (List Part × ℕ)} c (◌>>=◌ {B = List Part × ℕ} I (λ u. ◌>>=◌ {B = List Part × ℕ} (R u.1) (λ v. Some (u.0 ++ v.0, v.1)))) Y ≡ ◌>>=◌ {B = List Part × ℕ} (R j) (λ v. Some (sign s ∷ v.0, v.1))
+once_sign c I Y R s j starts item = rw (starts, item) refl
+
+-- a loop over parts that are one token each
+signs_turn : (ts : List Item) (room : ℕ) (n i : ℕ) → zero < n → rest ts room DottedTail (looped rows.further_part) n i ≡ cond {A = Option (List Part × ℕ)} (has (class w.Dot ∷ []) (class (token_at ts i).word)) (◌>>=◌ {B = List Part × ℕ} (row ts room rows.further_part i) (λ u. ◌>>=◌ {B = List Part × ℕ} (rest ts room DottedTail (looped rows.further_part) (n - 1) u.1) (λ v. Some (u.0 ++ v.0, v.1)))) (Some ([], i))
+signs_turn ts room n i h = rest_again ts room DottedTail (looped rows.further_part) n i h
+
+dots_turn : (ts : List Item) (room : ℕ) (n i : ℕ) → zero < n → rest ts room DotsTail (looped (word Operator points)) n i ≡ cond {A = Option (List Part × ℕ)} (has points (class (token_at ts i).word)) (◌>>=◌ {B = List Part × ℕ} (row ts room (word Operator points) i) (λ u. ◌>>=◌ {B = List Part × ℕ} (rest ts room DotsTail (looped (word Operator points)) (n - 1) u.1) (λ v. Some (u.0 ++ v.0, v.1)))) (Some ([], i))
+dots_turn ts room n i h = rest_again ts room DotsTail (looped (word Operator points)) n i h
+
+part_read : (ts : List Item) (room i : ℕ) → eqb (class w.Dot) (class (token_at ts i).word) ≡ true → eqb (class w.Name) (class (token_at ts (suc i)).word) ≡ true → row ts room rows.further_part i ≡ Some (sign (token_at ts (suc i)).text ∷ [], suc (suc i))
+part_read ts room i dot name = rw (dot, name) refl
+
+part_lacks : (ts : List Item) (room i : ℕ) → eqb (class w.Dot) (class (token_at ts i).word) ≡ true → eqb (class w.Name) (class (token_at ts (suc i)).word) ≡ false → row ts room rows.further_part i ≡ None
+part_lacks ts room i dot name = rw (dot, name) refl
+
+point_read : (ts : List Item) (room i : ℕ) → has points (class (token_at ts i).word) ≡ true → row ts room (word Operator points) i ≡ Some (sign (token_at ts i).text ∷ [], suc i)
+point_read ts room i point = rw point refl
+
+pub has_one : (c d : ℕ) (b : Bool) → eqb c d ≡ b → has (c ∷ []) d ≡ b
+has_one c d true h = rw h refl
+has_one c d false h = rw h refl
+
+pushed_part : (o : Option (List Part × ℕ)) (t s : List ℕ) → pointed_behind t (◌>>=◌ {B = List Part × ℕ} o (λ v. Some (sign s ∷ v.0, v.1))) ≡ pointed_behind (t ++ (46 ∷ s)) o
+pushed_part None t s = refl
+pushed_part (Some v) t s = ap (λ (xs : List ℕ). Some (xs, are_signs v.0, v.1)) (sym (append_assoc t (46 ∷ s) (pointed v.0)))
+
+pushed_point : (o : Option (List Part × ℕ)) (t s : List ℕ) → behind t (◌>>=◌ {B = List Part × ℕ} o (λ v. Some (sign s ∷ v.0, v.1))) ≡ behind (t ++ s) o
+pushed_point None t s = refl
+pushed_point (Some v) t s = ap (λ (xs : List ℕ). Some (xs, are_signs v.0, v.1)) (sym (append_assoc t s (written v.0)))
+
+module _ (ts : List Item) (room n i : ℕ) (o : Option (List ℕ × Bool × ℕ)) (t : List ℕ) (some : zero < n) where
+  pub pointed_more : (m j : ℕ) (longer : List ℕ) → o ≡ pointed_behind t (rest ts room DottedTail (looped rows.further_part) n i) → m ≡ n - 1 → j ≡ i + 2 → eqb (class w.Dot) (class (token_at ts i).word) ≡ true → eqb (class w.Name) (class (token_at ts (i + 1)).word) ≡ true → longer ≡ t ++ (46 ∷ (token_at ts (i + 1)).text) → o ≡ pointed_behind longer (rest ts room DottedTail (looped rows.further_part) m j)
+  pointed_more m j longer first less on dot name more =
+      let next : i + 1 ≡ suc i = omega arith in
+      let two : j ≡ suc (suc i) = omega arith in
+      rw (less, two, more, next) (first ∙ (ap (pointed_behind t) (signs_turn ts room n i some ∙ once_sign (has (class w.Dot ∷ []) (class (token_at ts i).word)) (row ts room rows.further_part i) (Some ([], i)) (rest ts room DottedTail (looped rows.further_part) (n - 1)) (token_at ts (suc i)).text (suc (suc i)) (has_one (class w.Dot) (class (token_at ts i).word) true dot) (part_read ts room i dot (rw next at name)))
+          ∙ pushed_part (rest ts room DottedTail (looped rows.further_part) (n - 1) (suc (suc i))) t (token_at ts (suc i)).text))
+
+  pub pointed_end : o ≡ pointed_behind t (rest ts room DottedTail (looped rows.further_part) n i) → eqb (class w.Dot) (class (token_at ts i).word) ≡ false → o ≡ Some (t, true, i)
+  pointed_end first dot = first ∙ (ap (pointed_behind t) (signs_turn ts room n i some ∙ never (has (class w.Dot ∷ []) (class (token_at ts i).word)) (◌>>=◌ {B = List Part × ℕ} (row ts room rows.further_part i) (λ u. ◌>>=◌ {B = List Part × ℕ} (rest ts room DottedTail (looped rows.further_part) (n - 1) u.1) (λ v. Some (u.0 ++ v.0, v.1)))) (Some ([], i)) (has_one (class w.Dot) (class (token_at ts i).word) false dot)) ∙ ap (λ (xs : List ℕ). Some (xs, true, i)) (append-nil t))
+
+  pub pointed_lacks : o ≡ pointed_behind t (rest ts room DottedTail (looped rows.further_part) n i) → eqb (class w.Dot) (class (token_at ts i).word) ≡ true → eqb (class w.Name) (class (token_at ts (i + 1)).word) ≡ false → o ≡ None
+  pointed_lacks first dot name =
+      let next : i + 1 ≡ suc i = omega arith in
+      first ∙ ap (pointed_behind t) (signs_turn ts room n i some ∙ none_there (has (class w.Dot ∷ []) (class (token_at ts i).word)) (row ts room rows.further_part i) (Some ([], i)) (rest ts room DottedTail (looped rows.further_part) (n - 1)) (has_one (class w.Dot) (class (token_at ts i).word) true dot) (part_lacks ts room i dot (rw next at name)))
+
+  pub points_more : (m j : ℕ) (longer : List ℕ) → o ≡ behind t (rest ts room DotsTail (looped (word Operator points)) n i) → m ≡ n - 1 → j ≡ i + 1 → has points (class (token_at ts i).word) ≡ true → longer ≡ t ++ (token_at ts i).text → o ≡ behind longer (rest ts room DotsTail (looped (word Operator points)) m j)
+  points_more m j longer first less on point more =
+      let next : j ≡ suc i = omega arith in
+      rw (less, next, more) (first ∙ (ap (behind t) (dots_turn ts room n i some ∙ once_sign (has points (class (token_at ts i).word)) (row ts room (word Operator points) i) (Some ([], i)) (rest ts room DotsTail (looped (word Operator points)) (n - 1)) (token_at ts i).text (suc i) point (point_read ts room i point)) ∙ pushed_point (rest ts room DotsTail (looped (word Operator points)) (n - 1) (suc i)) t (token_at ts i).text))
+
+  pub points_end : o ≡ behind t (rest ts room DotsTail (looped (word Operator points)) n i) → has points (class (token_at ts i).word) ≡ false → o ≡ Some (t, true, i)
+  points_end first point = first ∙ (ap (behind t) (dots_turn ts room n i some ∙ never (has points (class (token_at ts i).word)) (◌>>=◌ {B = List Part × ℕ} (row ts room (word Operator points) i) (λ u. ◌>>=◌ {B = List Part × ℕ} (rest ts room DotsTail (looped (word Operator points)) (n - 1) u.1) (λ v. Some (u.0 ++ v.0, v.1)))) (Some ([], i)) point) ∙ ap (λ (xs : List ℕ). Some (xs, true, i)) (append-nil t))
+
+pub pointed_turned : (ts : List Item) (room n i : ℕ) (o : Option (List ℕ × Bool × ℕ)) (t : List ℕ) → o ≡ pointed_behind t (rest ts room DottedTail (looped rows.further_part) n i) → n ≡ zero → o ≡ None
+pointed_turned ts room n i o t first none = first ∙ ap (pointed_behind t) (rest_none ts room DottedTail (looped rows.further_part) n i none)
+
+pub points_turned : (ts : List Item) (room n i : ℕ) (o : Option (List ℕ × Bool × ℕ)) (t : List ℕ) → o ≡ behind t (rest ts room DotsTail (looped (word Operator points)) n i) → n ≡ zero → o ≡ None
+points_turned ts room n i o t first none = first ∙ ap (behind t) (rest_none ts room DotsTail (looped (word Operator points)) n i none)

@@ -1,5 +1,5 @@
 -- What the reader by the table gives, in the forms of the functions that read.
-use Rattle.std.specs.Prelude.{ℕ, suc, length, ◌-◌, Bool, List, [], ◌∷◌, ◌++◌, Option, Some, None, eqb}
+use Rattle.std.specs.Prelude.{ℕ, suc, length, ◌-◌, Bool, true, false, List, [], ◌∷◌, ◌++◌, Option, Some, None, eqb}
 use Rattle.node_tree.specs.declared.node.Node.{Node}
 use Rattle.node_tree.specs.declared.kind.Kind.{Kind}
 use Rattle.node_tree.specs.declared.kind.Kind.TheVariants as k
@@ -29,10 +29,7 @@ level ts room l i = read_level (source ts) sets (suc (length ts)) table ranks.to
 abbrev pub row : List Item → ℕ → Row → ℕ → Option (List Part × ℕ)
 row ts room r i = read (source ts) sets (suc (length ts)) (choice (level ts room) (level ts (room - 1))) (λ i. None) None r i
 
--- what a level reads, as the kids of a statement that begins there, and with the words that count
-abbrev pub kids : List Item → ℕ → ℕ → Level → ℕ → Option (List Node × ℕ)
-kids ts room from l i = level ts room l i >>= λ x. Some (filled from x.0, x.1)
-
+-- what a level reads, as the words that count and the kids of a statement that begins there
 abbrev pub heads : List Item → ℕ → ℕ → Level → ℕ → Option (List ℕ × List Node × ℕ)
 heads ts room from l i = level ts room l i >>= λ x. Some (written x.0, filled from x.0, x.1)
 
@@ -105,54 +102,67 @@ marks_of _ = expressions.commas
 abbrev pub goes_on : List Item → Series → ℕ → Bool
 goes_on ts s i = has (marks_of s) (class (token_at ts i).word)
 
-abbrev pub further : List Item → ℕ → Series → ℕ → Option (List Part × ℕ)
+unfoldable pub further : List Item → ℕ → Series → ℕ → Option (List Part × ℕ)
 further ts room s i = row ts room (rep (tail_of s) (looped (row_of s))) i
 
 -- some nodes, and what is read behind them
 abbrev pub along : List Node → Option (List Part × ℕ) → Option (List Part × ℕ)
 along ns r = r >>= λ x. Some (wholes ns ++ x.0, x.1)
 
--- a text, and what parts of a name, or points, are read behind it
-abbrev pub pointed_behind : List ℕ → Option (List Part × ℕ) → Option (List ℕ × ℕ)
-pointed_behind text r = r >>= λ x. Some (text ++ pointed x.0, x.1)
+-- whether parts are words that count, and no nodes
+abbrev pub are_signs : List Part → Bool
+are_signs [] = true
+are_signs (Part.sign text ∷ ps) = are_signs ps
+are_signs (p ∷ ps) = false
 
-abbrev pub further_parts : List Item → ℕ → ℕ → Option (List Part × ℕ)
+abbrev pub signs : List ℕ × ℕ → List ℕ × Bool × ℕ
+signs x = (x.0, true, x.1)
+
+-- a text, and what parts of a name, or points, are read behind it, and that they are no nodes
+abbrev pub pointed_behind : List ℕ → Option (List Part × ℕ) → Option (List ℕ × Bool × ℕ)
+pointed_behind text r = r >>= λ x. Some (text ++ pointed x.0, are_signs x.0, x.1)
+
+unfoldable pub further_parts : List Item → ℕ → ℕ → Option (List Part × ℕ)
 further_parts ts room i = row ts room (rep DottedTail (looped rows.further_part)) i
 
-abbrev pub behind : List ℕ → Option (List Part × ℕ) → Option (List ℕ × ℕ)
-behind text r = r >>= λ x. Some (text ++ written x.0, x.1)
+abbrev pub behind : List ℕ → Option (List Part × ℕ) → Option (List ℕ × Bool × ℕ)
+behind text r = r >>= λ x. Some (text ++ written x.0, are_signs x.0, x.1)
 
-abbrev pub further_points : List Item → ℕ → ℕ → Option (List Part × ℕ)
+unfoldable pub further_points : List Item → ℕ → ℕ → Option (List Part × ℕ)
 further_points ts room i = row ts room (rep DotsTail (looped (word expressions.Operator rows.points))) i
 
 -- further statements of a line, names of an import, statements and handlers
-abbrev pub more_simples : List Item → ℕ → ℕ → Option (List Part × ℕ)
+unfoldable pub more_simples : List Item → ℕ → ℕ → Option (List Part × ℕ)
 more_simples ts room i = row ts room (rep LineTail (rows.parted (class w.Semicolon ∷ []) Simple)) i
 
-abbrev pub more_aliases : List Item → ℕ → ℕ → Option (List Part × ℕ)
+unfoldable pub more_aliases : List Item → ℕ → ℕ → Option (List Part × ℕ)
 more_aliases ts room i = row ts room (rep MoreAliasesTail (rows.parted expressions.commas Alias)) i
 
-abbrev pub more_statements : List Item → ℕ → ℕ → Option (List Part × ℕ)
+unfoldable pub more_statements : List Item → ℕ → ℕ → Option (List Part × ℕ)
 more_statements ts room i = row ts room (rep StmtsTail (looped (ref Stmt))) i
 
-abbrev pub more_handlers : List Item → ℕ → ℕ → Option (List Part × ℕ)
+unfoldable pub more_handlers : List Item → ℕ → ℕ → Option (List Part × ℕ)
 more_handlers ts room i = row ts room (rep HandlersTail (looped (ref Handler))) i
 
 -- ---- parts of compound statements
 
-abbrev pub one_kid : Node × ℕ → List Node × ℕ
-one_kid x = (x.0 ∷ [], x.1)
+-- kids alone, with no words that count
+abbrev pub one_kid : Node × ℕ → List ℕ × List Node × ℕ
+one_kid x = ([], x.0 ∷ [], x.1)
 
-abbrev pub two_kids : Node × Node × ℕ → List Node × ℕ
-two_kids x = (x.0 ∷ x.1 ∷ [], x.2)
+abbrev pub two_kids : Node × Node × ℕ → List ℕ × List Node × ℕ
+two_kids x = ([], x.0 ∷ x.1 ∷ [], x.2)
 
--- what a row reads, as the kids of a statement that begins there
-abbrev pub row_kids : List Item → ℕ → ℕ → Row → ℕ → Option (List Node × ℕ)
-row_kids ts room from r i = row ts room r i >>= λ x. Some (filled from x.0, x.1)
+abbrev pub kids_alone : List Node × ℕ → List ℕ × List Node × ℕ
+kids_alone x = ([], x.0, x.1)
+
+-- what a row reads, in the same form
+abbrev pub row_heads : List Item → ℕ → ℕ → Row → ℕ → Option (List ℕ × List Node × ℕ)
+row_heads ts room from r i = row ts room r i >>= λ x. Some (written x.0, filled from x.0, x.1)
 
 -- some kids, and those that are read behind them
-abbrev pub kids_behind : List Node → Option (List Node × ℕ) → Option (List Node × ℕ)
-kids_behind ns r = r >>= λ x. Some (ns ++ x.0, x.1)
+abbrev pub kids_behind : List Node → Option (List ℕ × List Node × ℕ) → Option (List ℕ × List Node × ℕ)
+kids_behind ns r = r >>= λ x. Some (x.0, ns ++ x.1, x.2)
 
 abbrev pub body : List Item → ℕ → ℕ → Option (List Part × ℕ)
 body ts room i = row ts room rows.body i
@@ -163,11 +173,11 @@ condition ts room i = row ts room rows.condition i
 abbrev pub some_else : List Item → ℕ → ℕ → Option (List Part × ℕ)
 some_else ts room i = row ts room (opt (ref ElsePart)) i
 
-abbrev pub else_or_absent : List Item → ℕ → ℕ → ℕ → Option (List Node × ℕ)
-else_or_absent ts room from i = row_kids ts room from (rows.maybe (ref ElsePart)) i
+abbrev pub else_or_absent : List Item → ℕ → ℕ → ℕ → Option (List ℕ × List Node × ℕ)
+else_or_absent ts room from i = row_heads ts room from (rows.maybe (ref ElsePart)) i
 
-abbrev pub caught_name : List Item → ℕ → ℕ → Option (List Node × ℕ)
-caught_name ts from i = row_kids ts 1 from rows.caught_name i
+abbrev pub caught_name : List Item → ℕ → ℕ → Option (List ℕ × List Node × ℕ)
+caught_name ts from i = row_heads ts 1 from rows.caught_name i
 
-abbrev pub returns : List Item → ℕ → ℕ → ℕ → Option (List Node × ℕ)
-returns ts room from i = row_kids ts room from rows.returns i
+abbrev pub returns : List Item → ℕ → ℕ → ℕ → Option (List ℕ × List Node × ℕ)
+returns ts room from i = row_heads ts room from rows.returns i

@@ -1,6 +1,6 @@
 //! Statements one after another, and what they stand in.
 
-ghost use Rattle.std.specs.Prelude.{◌≡◌, ◌++◌, ◌<◌, ◌≤◌, length, IfOk};
+ghost use Rattle.std.specs.Prelude.{◌≡◌, ◌++◌, ◌<◌, ◌≤◌, length, reverse, IfOk};
 ghost use Rattle.node_tree.specs.Gives.{Gives};
 ghost use Rattle.py_stmt.specs.Reading as reading;
 ghost use Rattle.py_stmt.specs.Table.{Stmts, Stmt, Suite, Compound};
@@ -160,13 +160,22 @@ fn compound(
     decorated(alloc, items, room, at)
 }
 
-/// The nodes of two lists, in order.
-fn append(mut front: List<Node>, mut back: List<Node>) -> Result<List<Node>, Memory>
-    ensures { IfOk result (λ ns. ns ≡ front ++ back) }
+/// The nodes of a list and then those of another from its end on.
+#[tactic(auto, using(crate::proofs::Orders::order_laws))]
+fn push_reversed(mut front: List<Node>, mut back: List<Node>) -> Result<List<Node>, Memory>
+    ensures { IfOk result (λ ns. ns ≡ front ++ reverse back) }
 {
-    back.reverse();
     'kids: while let Some(kid) = back.pop() {
         front.push(kid)?;
     }
     Ok(front)
+}
+
+/// The nodes of two lists, in order.
+#[tactic(auto, using(crate::proofs::Orders::order_laws, crate::proofs::Suites::stmts_read))]
+fn append(front: List<Node>, mut back: List<Node>) -> Result<List<Node>, Memory>
+    ensures { IfOk result (λ ns. ns ≡ front ++ back) }
+{
+    back.reverse();
+    push_reversed(front, back)
 }

@@ -20,7 +20,7 @@ fn is_layout(word: Word) -> bool
 }
 
 /// Where the last token before this one ends that belongs to a node.
-#[tactic(auto, using(crate::proofs::Ends::code_end_start, crate::proofs::Ends::code_end_back, crate::proofs::Ends::code_end_here))]
+#[tactic(auto, using(crate::proofs::Ends::code_end_start, crate::proofs::Ends::code_end_here))]
 fn code_end(items: &[Item<'_>], at: usize) -> u32
     requires { at ≤ length items.now }
     ensures { result ≡ spec.code_end items.now at }

@@ -71,12 +71,12 @@ pub fn if_statement(
     if !is(items, at, Word::If) {
         return Err(ReadFault::NoTree);
     }
-    let (mut kids, mut end) = condition(alloc, items, room, at + 1)?;
-    if starts_branches(items, end) {
-        let (other, next) = branches(alloc, items, room, end)?;
-        kids.push(other)?;
-        end = next;
+    let (mut kids, end) = condition(alloc, items, room, at + 1)?;
+    if !starts_branches(items, end) {
+        return Ok((plain(alloc, items, Kind::If, at, end, kids)?, end));
     }
+    let (other, end) = branches(alloc, items, room, end)?;
+    kids.push(other)?;
     Ok((plain(alloc, items, Kind::If, at, end, kids)?, end))
 }
 
@@ -100,12 +100,12 @@ fn branches(
     if !is(items, at, Word::Elif) {
         return else_part(alloc, items, room, at);
     }
-    let (mut kids, mut end) = condition(alloc, items, room, at + 1)?;
-    if starts_branches(items, end) {
-        let (other, next) = branches(alloc, items, room - 1, end)?;
-        kids.push(other)?;
-        end = next;
+    let (mut kids, end) = condition(alloc, items, room, at + 1)?;
+    if !starts_branches(items, end) {
+        return Ok((plain(alloc, items, Kind::If, at, end, kids)?, end));
     }
+    let (other, end) = branches(alloc, items, room - 1, end)?;
+    kids.push(other)?;
     Ok((plain(alloc, items, Kind::If, at, end, kids)?, end))
 }
 
@@ -339,25 +339,26 @@ fn try_rest(
 ) -> Result<(List<Node>, usize), ReadFault>
     requires { at ≤ length items.now }
     ensures within { IfOk result (λ x. x.1 ≤ length items.now) }
-    ensures gives { Gives (λ x. x) result (reading.kids_behind kids (reading.kids items.now room from TryRest at)) }
+    ensures gives { Gives reading.kids_alone result (reading.kids_behind kids (reading.heads items.now room from TryRest at)) }
 {
     if room == 0 {
         return Err(ReadFault::NoTree);
     }
 
-    let handled = is(items, at, Word::Except);
-    let (list, end) = if handled {
-        handlers(alloc, items, room, at)?
-    } else {
-        (empty_list(alloc, from), at)
-    };
+    if !is(items, at, Word::Except) {
+        kids.push(empty_list(alloc, from))?;
+        let (other, end) = else_or_absent(alloc, items, room, from, at)?;
+        kids.push(other)?;
+        let (last, end) = finally_part(alloc, items, room, end)?;
+        kids.push(last)?;
+        return Ok((kids, end));
+    }
+    let (list, end) = handlers(alloc, items, room, at)?;
     kids.push(list)?;
     let (other, end) = else_or_absent(alloc, items, room, from, end)?;
     kids.push(other)?;
-    if handled {
-        if !is(items, end, Word::Finally) {
-            return Ok((kids, end));
-        }
+    if !is(items, end, Word::Finally) {
+        return Ok((kids, end));
     }
     let (last, end) = finally_part(alloc, items, room, end)?;
     kids.push(last)?;

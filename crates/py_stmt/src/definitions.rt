@@ -53,7 +53,7 @@ fn def_rest(
 ) -> Result<(List<Node>, usize), ReadFault>
     requires { at ≤ length items.now }
     ensures within { IfOk result (λ x. x.1 ≤ length items.now) }
-    ensures gives { Gives (λ x. x) result (reading.kids_behind kids (reading.kids items.now room from DefRest at)) }
+    ensures gives { Gives reading.kids_alone result (reading.kids_behind kids (reading.heads items.now room from DefRest at)) }
 {
     if room == 0 {
         return Err(ReadFault::NoTree);
@@ -130,7 +130,7 @@ fn class_rest(
 ) -> Result<(List<Node>, usize), ReadFault>
     requires { at ≤ length items.now }
     ensures within { IfOk result (λ x. x.1 ≤ length items.now) }
-    ensures gives { Gives (λ x. x) result (reading.kids_behind kids (reading.kids items.now room from ClassRest at)) }
+    ensures gives { Gives reading.kids_alone result (reading.kids_behind kids (reading.heads items.now room from ClassRest at)) }
 {
     if room == 0 {
         return Err(ReadFault::NoTree);

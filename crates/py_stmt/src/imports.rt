@@ -16,7 +16,7 @@ use py_expr::{
 use std::alloc::Global;
 
 /// `"import" alias {"," alias}`
-#[tactic(auto, using(crate::proofs::Steps::import_step, crate::proofs::Steps::level_none))]
+#[tactic(auto, using(crate::proofs::Forms::import_read, crate::proofs::Forms::stated_laws, crate::proofs::Steps::import_step, crate::proofs::Steps::level_none))]
 pub fn import(
     alloc: Global,
     items: &[Item<'_>],
@@ -41,7 +41,7 @@ pub fn import(
 }
 
 /// `dotted ["as" NAME]`, or dots of a pattern.
-#[tactic(auto, using(crate::proofs::Steps::alias_step, crate::proofs::Steps::level_none))]
+#[tactic(auto, using(crate::proofs::Forms::alias_read, crate::proofs::Steps::alias_step, crate::proofs::Steps::level_none))]
 pub fn alias(
     alloc: Global,
     items: &[Item<'_>],
@@ -73,7 +73,7 @@ pub fn alias(
 }
 
 /// `NAME {"." NAME}`, as one name, or a metavariable.
-#[tactic(auto, using(crate::proofs::Steps::dotted_step, crate::proofs::Steps::level_none))]
+#[tactic(auto, using(crate::proofs::Forms::dotted_laws, crate::proofs::Steps::dotted_step, crate::proofs::Steps::level_none))]
 fn dotted(
     alloc: Global,
     items: &[Item<'_>],
@@ -101,6 +101,7 @@ fn dotted(
 }
 
 /// `{"." NAME}`, behind a text.
+#[tactic(auto, using(crate::proofs::Rounds::parts_rest, crate::proofs::Rounds::pointed_end, crate::proofs::Rounds::pointed_lacks, crate::proofs::Rounds::pointed_turned))]
 fn pointed(
     alloc: Global,
     items: &[Item<'_>],
@@ -110,7 +111,7 @@ fn pointed(
 ) -> Result<(Text, usize), ReadFault>
     requires { at ≤ length items.now }
     ensures within { IfOk result (λ x. x.1 ≤ length items.now) }
-    ensures gives { Gives (λ x. x) result (reading.pointed_behind text (reading.further_parts items.now room at)) }
+    ensures gives { Gives reading.signs result (reading.pointed_behind text (reading.further_parts items.now room at)) }
 {
     let mut end = at;
     for turn in 0..=items.len() {
@@ -128,7 +129,7 @@ fn pointed(
 }
 
 /// `"from" origin "import" imported`
-#[tactic(auto, using(crate::proofs::Steps::from_import_step, crate::proofs::Steps::level_none))]
+#[tactic(auto, using(crate::proofs::Forms::from_laws, crate::proofs::Steps::from_import_step, crate::proofs::Steps::level_none))]
 pub fn from_import(
     alloc: Global,
     items: &[Item<'_>],
@@ -157,7 +158,7 @@ pub fn from_import(
 }
 
 /// `DOTS [dotted] | dotted`, for a statement that begins there: the points, and the name or that it is absent.
-#[tactic(auto, using(crate::proofs::Steps::origin_step, crate::proofs::Steps::level_none))]
+#[tactic(auto, using(crate::proofs::Forms::origin_laws, crate::proofs::Steps::level_none))]
 fn origin(
     alloc: Global,
     items: &[Item<'_>],
@@ -187,6 +188,7 @@ fn origin(
 }
 
 /// Further points, behind some.
+#[tactic(auto, using(crate::proofs::Rounds::points_rest, crate::proofs::Rounds::points_end, crate::proofs::Rounds::points_turned))]
 fn points(
     alloc: Global,
     items: &[Item<'_>],
@@ -196,7 +198,7 @@ fn points(
 ) -> Result<(Text, usize), ReadFault>
     requires { at ≤ length items.now }
     ensures within { IfOk result (λ x. x.1 ≤ length items.now) }
-    ensures gives { Gives (λ x. x) result (reading.behind text (reading.further_points items.now room at)) }
+    ensures gives { Gives reading.signs result (reading.behind text (reading.further_points items.now room at)) }
 {
     let mut end = at;
     for turn in 0..=items.len() {
@@ -210,7 +212,7 @@ fn points(
 }
 
 /// `"*" | "(" aliases [","] ")" | aliases`
-#[tactic(auto, using(crate::proofs::Steps::imported_step, crate::proofs::Steps::more_aliases_step, crate::proofs::Steps::level_none))]
+#[tactic(auto, using(crate::proofs::Forms::imported_laws, crate::proofs::Steps::imported_step, crate::proofs::Steps::level_none))]
 fn imported(
     alloc: Global,
     items: &[Item<'_>],
@@ -242,6 +244,7 @@ fn imported(
 }
 
 /// `{"," alias} [","]`, behind some.
+#[tactic(auto, using(crate::proofs::Rounds::aliases_rest, crate::proofs::Rounds::parted_end, crate::proofs::Rounds::parted_last))]
 fn more_aliases(
     alloc: Global,
     items: &[Item<'_>],
@@ -284,7 +287,7 @@ fn everything(alloc: Global, items: &[Item<'_>], at: usize) -> Result<(Node, usi
 }
 
 /// `alias {"," alias}`
-#[tactic(auto, using(crate::proofs::Steps::aliases_step, crate::proofs::Steps::level_none))]
+#[tactic(auto, using(crate::proofs::Forms::aliases_read, crate::proofs::Forms::collected_laws, crate::proofs::Steps::aliases_step, crate::proofs::Steps::level_none))]
 fn aliases(
     alloc: Global,
     items: &[Item<'_>],

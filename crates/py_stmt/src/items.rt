@@ -126,7 +126,7 @@ pub fn caught(
 ) -> Result<(Node, Node, usize), ReadFault>
     requires { at ≤ length items.now }
     ensures within { IfOk result (λ x. x.2 ≤ length items.now) }
-    ensures gives { Gives reading.two_kids result (reading.kids items.now room from Caught at) }
+    ensures gives { Gives reading.two_kids result (reading.heads items.now room from Caught at) }
 {
     if room == 0 {
         return Err(ReadFault::NoTree);
@@ -177,7 +177,7 @@ pub fn parameters(
 ) -> Result<(Node, usize), ReadFault>
     requires { at ≤ length items.now }
     ensures within { IfOk result (λ x. x.1 ≤ length items.now) }
-    ensures gives { Gives reading.one_kid result (reading.kids items.now room from Parameters at) }
+    ensures gives { Gives reading.one_kid result (reading.heads items.now room from Parameters at) }
 {
     if room == 0 {
         return Err(ReadFault::NoTree);
@@ -186,11 +186,13 @@ pub fn parameters(
     if !is(items, at, Word::LeftRound) {
         return Err(ReadFault::NoTree);
     }
-    let (list, end) = if starts_param(items, at + 1) {
-        expression(alloc, items, PyLevel::Params, room - 1, at + 1)?
-    } else {
-        (empty_list(alloc, from), at + 1)
-    };
+    if !starts_param(items, at + 1) {
+        if !is(items, at + 1, Word::RightRound) {
+            return Err(ReadFault::NoTree);
+        }
+        return Ok((empty_list(alloc, from), at + 2));
+    }
+    let (list, end) = expression(alloc, items, PyLevel::Params, room - 1, at + 1)?;
     if !is(items, end, Word::RightRound) {
         return Err(ReadFault::NoTree);
     }
@@ -208,7 +210,7 @@ pub fn bases(
 ) -> Result<(Node, usize), ReadFault>
     requires { at ≤ length items.now }
     ensures within { IfOk result (λ x. x.1 ≤ length items.now) }
-    ensures gives { Gives reading.one_kid result (reading.kids items.now room from Bases at) }
+    ensures gives { Gives reading.one_kid result (reading.heads items.now room from Bases at) }
 {
     if room == 0 {
         return Err(ReadFault::NoTree);
@@ -217,11 +219,13 @@ pub fn bases(
     if !is(items, at, Word::LeftRound) {
         return Ok((empty_list(alloc, from), at));
     }
-    let (list, end) = if starts_arg(items, at + 1) {
-        expression(alloc, items, PyLevel::Args, room - 1, at + 1)?
-    } else {
-        (empty_list(alloc, from), at + 1)
-    };
+    if !starts_arg(items, at + 1) {
+        if !is(items, at + 1, Word::RightRound) {
+            return Err(ReadFault::NoTree);
+        }
+        return Ok((empty_list(alloc, from), at + 2));
+    }
+    let (list, end) = expression(alloc, items, PyLevel::Args, room - 1, at + 1)?;
     if !is(items, end, Word::RightRound) {
         return Err(ReadFault::NoTree);
     }

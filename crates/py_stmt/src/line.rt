@@ -12,7 +12,7 @@ use py_expr::{Item, Word, is, one};
 use std::alloc::Global;
 
 /// `simple {";" simple} [";"] Newline`
-#[tactic(auto, using(crate::proofs::Steps::line_step, crate::proofs::Steps::level_none))]
+#[tactic(auto, using(crate::proofs::Forms::line_laws, crate::proofs::Steps::level_none))]
 pub fn line(
     alloc: Global,
     items: &[Item<'_>],
@@ -37,6 +37,7 @@ pub fn line(
 }
 
 /// `{";" simple} [";"]`, behind some statements.
+#[tactic(auto, using(crate::proofs::Rounds::simples_rest, crate::proofs::Rounds::parted_end, crate::proofs::Rounds::parted_last))]
 fn more_simples(
     alloc: Global,
     items: &[Item<'_>],

@@ -66,6 +66,7 @@ fn one_more(
 }
 
 /// The items of a row, of which some are known, and the further ones from there on.
+#[tactic(auto, using(crate::proofs::Rounds::further_rest, crate::proofs::Rounds::series_end))]
 pub fn further(
     alloc: Global,
     items: &[Item<'_>],
@@ -92,6 +93,7 @@ pub fn further(
 }
 
 /// `keyword NAME {"," NAME}`
+#[tactic(auto, using(crate::proofs::Forms::declared_read, crate::proofs::Forms::stated_laws))]
 pub fn declared(
     alloc: Global,
     items: &[Item<'_>],

@@ -1,6 +1,6 @@
 //! Statements that hold no others.
 
-ghost use Rattle.std.specs.Prelude.{◌≡◌, ◌≢◌, ◌<◌, ◌≤◌, [], ◌∷◌, length, IfOk};
+ghost use Rattle.std.specs.Prelude.{◌≡◌, ◌≢◌, ◌<◌, ◌≤◌, [], ◌∷◌, ◌++◌, length, IfOk};
 ghost use Rattle.node_tree.specs.Gives.{Gives};
 ghost use Rattle.py_stmt.specs.Reading as reading;
 ghost use Rattle.py_stmt.specs.Table as table;
@@ -181,7 +181,7 @@ fn deleted(
 }
 
 /// `"raise" [test ["from" test]]`
-#[tactic(auto, using(crate::proofs::Steps::raise_step, crate::proofs::Steps::level_none))]
+#[tactic(auto, using(crate::proofs::Forms::raise_read, crate::proofs::Steps::raise_step, crate::proofs::Steps::level_none))]
 fn raised(
     alloc: Global,
     items: &[Item<'_>],
@@ -258,7 +258,7 @@ fn yielded(
 }
 
 /// `prim ":" test ["=" value]`
-#[tactic(auto, using(crate::proofs::Steps::annotated_step, crate::proofs::Steps::level_none))]
+#[tactic(auto, using(crate::proofs::Forms::annotated_read, crate::proofs::Steps::annotated_step, crate::proofs::Steps::level_none))]
 fn annotated(
     alloc: Global,
     items: &[Item<'_>],
@@ -279,15 +279,12 @@ fn annotated(
     }
     let (annotation, end) = expression(alloc, items, PyLevel::Test, room, end + 1)?;
     let (value, end) = assigned(alloc, items, room, end)?;
-    let mut kids = two(alloc, target, annotation)?;
-    if let Some(value) = value {
-        kids.push(value)?;
-    }
+    let kids = followed(two(alloc, target, annotation)?, value)?;
     Ok((plain(alloc, items, Kind::AnnAssign, at, end, kids)?, end))
 }
 
 /// `exprs {"=" value} | exprs augop value`
-#[tactic(auto, using(crate::proofs::Steps::evaluated_step, crate::proofs::Steps::level_none))]
+#[tactic(auto, using(crate::proofs::Forms::evaluated_laws, crate::proofs::Forms::collected_laws, crate::proofs::Steps::evaluated_step, crate::proofs::Steps::level_none))]
 fn evaluated(
     alloc: Global,
     items: &[Item<'_>],
@@ -304,7 +301,8 @@ fn evaluated(
 
     let (first, end) = expression(alloc, items, PyLevel::Exprs, room, at)?;
     if is(items, end, Word::Equal) {
-        let kids = one(alloc, first)?;
+        let (second, end) = value(alloc, items, room, end + 1)?;
+        let kids = two(alloc, first, second)?;
         let (kids, end) = further(alloc, items, Series::Values, room, kids, end)?;
         return Ok((plain(alloc, items, Kind::Assign, at, end, kids)?, end));
     }
@@ -337,4 +335,14 @@ fn begun(alloc: Global, first: Node, found: Option<Node>) -> Result<List<Node>, 
         Some(second) => two(alloc, first, second),
         None => one(alloc, first),
     }
+}
+
+/// Some nodes, and one more that may be there.
+fn followed(mut kids: List<Node>, found: Option<Node>) -> Result<List<Node>, Memory>
+    ensures { IfOk result (λ ns. ns ≡ kids ++ reading.found found) }
+{
+    if let Some(node) = found {
+        kids.push(node)?;
+    }
+    Ok(kids)
 }
