@@ -1,1 +1,4 @@
 pub mod Passes
+pub mod Steps
+pub mod Rounds
+pub mod Curlies

@@ -29,6 +29,7 @@ const OPENINGS: [Word; 3] = [Word::OpenRound, Word::OpenSquare, Word::OpenCurly]
 const CLOSINGS: [Word; 3] = [Word::CloseRound, Word::CloseSquare, Word::CloseCurly];
 
 /// Whether a `{` stands behind the declarator that begins there.
+#[tactic(auto, using(crate::proofs::Curlies::at_end, crate::proofs::Curlies::none_left))]
 pub fn defines(tokens: &[Token<'_>], at: usize) -> bool
     requires { at ≤ length tokens.now }
     ensures { result ≡ spec.defines (source tokens.now).cls at }

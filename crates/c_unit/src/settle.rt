@@ -1,6 +1,6 @@
 //! Where the next tokens settle what stands there.
 
-ghost use Rattle.std.specs.Prelude.{◌≡◌, ◌≤◌, ◌<◌, true, length};
+ghost use Rattle.std.specs.Prelude.{◌≡◌, ◌+◌, ◌<◌, true, length};
 ghost use Rattle.c_expr.specs.Build.{source};
 ghost use Rattle.c_unit.specs.Settling as spec;
 
