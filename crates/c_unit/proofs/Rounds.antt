@@ -9,7 +9,10 @@ use Rattle.c_expr.specs.declared.word.Token.{Token}
 use Rattle.c_expr.specs.declared.part.Part.{Part}
 use Rattle.c_expr.specs.Words.{class}
 use Rattle.c_expr.specs.Table as e
-use Rattle.c_expr.specs.Build.{token_at, cut_source}
+use Rattle.node_tree.specs.declared.node.Node.{Node}
+use Rattle.c_expr.specs.Build.{token_at, cut_source, nodes, tallest}
+use Rattle.c_expr.proofs.Parts.{tallest_more as known_tallest}
+use Rattle.std.specs.Prelude.{max}
 use Rattle.c_unit.specs.Settling.{marks}
 use Rattle.c_unit.specs.Table.{Level, Expression, File, FileItem, Items, Item, Labelled, Mark, Statement, VarsTail}
 use Rattle.c_unit.specs.Sets.{sets}
@@ -46,3 +49,12 @@ labelled_last ts room ps qs p n i j h ends read pushed = rw (rest_turn ts room L
 
 pub vars_more : (ts : List Token) (room : ℕ) (ps qs : List Part) (p : Part) (n m i j : ℕ) → zero < n → eqb (class w.Comma) (class (token_at ts i).word) ≡ true → level ts room (Expression e.Var) (i + 1) ≡ Some (p ∷ [], j) → qs ≡ ps ++ p ∷ [] → n - 1 ≡ m → along ps (rest ts room VarsTail n i) ≡ along qs (rest ts room VarsTail m j)
 vars_more ts room ps qs p n m i j h comma read pushed less = rw (rest_turn ts room VarsTail n i h) (rw (comma, (rw add-one at read)) (one_pushed (rest ts room VarsTail) ps qs p (n - 1) m j pushed less))
+
+-- ---- one part more at the end
+
+pub nodes_more : (ps : List Part) (p : Part) → nodes (ps ++ p ∷ []) ≡ nodes ps ++ p.node ∷ []
+nodes_more [] p = refl
+nodes_more (q ∷ ps) p = ap (λ (ns : List Node). q.node ∷ ns) (nodes_more ps p)
+
+pub tallest_more : (ps : List Part) (p : Part) → tallest (ps ++ p ∷ []) ≡ max (tallest ps) p.depth
+tallest_more ps p = known_tallest ps p

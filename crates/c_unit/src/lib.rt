@@ -16,6 +16,7 @@ mod pattern;
 mod settle;
 mod statements;
 mod unit;
+mod whole;
 
 pub use pattern::read_c_pattern;
 pub use unit::read_unit;

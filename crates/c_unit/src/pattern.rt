@@ -6,66 +6,31 @@ ghost use Rattle.node_tree.specs.declared.node.Node.{Node as a_node};
 ghost use Rattle.node_tree.specs.declared.view.Shape.{Shape as a_shape};
 ghost use Rattle.c_unit.specs.Units.{IsPattern};
 
-use crate::file::file_items;
-use crate::items::items;
-use crate::parts::expression;
-use crate::unit::{ROOM, lexed, shallow_nodes};
-use c_expr::{CLevel, Part, Token, classified, shallow_end, span_at};
+use crate::unit::{ITEM_DEPTH, lexed, nodes_of};
+use crate::whole::{Whole, read_whole};
+use c_expr::{Token, classified, span_at};
 use node_tree::{Kind, Mode, Node, ReadFault, Shape, Text};
 use std::alloc::Global;
 
 /// How deep a tree may be.
 const MAX_DEPTH: u32 = 500;
 
-/// What some tokens are read as, of which the last is the end of a text.
-#[derive(Clone, Copy, Debug, PartialEq, Eq)]
-enum Reading {
-    Expression,
-    Items,
-    FileItems,
-}
-
-/// The parts that all tokens but the last spell.
-fn read_parts(
-    alloc: Global,
-    tokens: &[Token<'_>],
-    reading: Reading,
-) -> Result<Vec<Part>, ReadFault> {
-    let shallow = &tokens[..shallow_end(tokens, 0)];
-    let (parts, end) = match reading {
-        Reading::Expression => {
-            let (part, end) = expression(alloc, shallow, CLevel::Comma, ROOM, 0)?;
-            (vec![in alloc; part]?, end)
-        }
-        Reading::Items => items(alloc, shallow, ROOM, 0)?,
-        Reading::FileItems => file_items(alloc, shallow, ROOM, 0)?,
-    };
-    if end + 1 != tokens.len() {
-        return Err(ReadFault::NoTree);
-    }
-    Ok(parts)
-}
-
-/// The expression that all tokens but the last are.
+/// The expression that the tokens are.
 fn read_expression(alloc: Global, tokens: &[Token<'_>]) -> Result<Node, ReadFault> {
-    let mut parts = read_parts(alloc, tokens, Reading::Expression)?;
+    let (mut parts, end) = read_whole(alloc, tokens, Whole::Expression, MAX_DEPTH)?;
     let Some(part) = parts.pop() else {
         return Err(ReadFault::NoTree);
     };
-    if part.depth > MAX_DEPTH {
-        return Err(ReadFault::NoTree);
-    }
     Ok(part.node)
 }
 
-/// The block of the items that all tokens but the last are.
-fn read_run(alloc: Global, tokens: &[Token<'_>], reading: Reading) -> Result<Node, ReadFault> {
-    let parts = read_parts(alloc, tokens, reading)?;
-    let end = tokens.len().saturating_sub(1);
+/// The block of the items that the tokens are.
+fn read_run(alloc: Global, tokens: &[Token<'_>], whole: Whole) -> Result<Node, ReadFault> {
+    let (parts, end) = read_whole(alloc, tokens, whole, ITEM_DEPTH)?;
     Ok(Node {
         kind: Kind::Block,
         text: Text::new(alloc),
-        kids: shallow_nodes(alloc, parts)?,
+        kids: nodes_of(alloc, parts)?,
         span: span_at(tokens, 0, end),
     })
 }
@@ -89,11 +54,11 @@ pub fn read_c_pattern(alloc: Global, text: &str) -> Result<(Shape, Node), ReadFa
         Err(ReadFault::Memory) => return Err(ReadFault::Memory),
         Err(ReadFault::NoTree) => {}
     }
-    match read_run(alloc, tokens, Reading::Items) {
+    match read_run(alloc, tokens, Whole::Items) {
         Ok(block) => return Ok((Shape::Run, block)),
         Err(ReadFault::Memory) => return Err(ReadFault::Memory),
         Err(ReadFault::NoTree) => {}
     }
-    let block = read_run(alloc, tokens, Reading::FileItems)?;
+    let block = read_run(alloc, tokens, Whole::FileItems)?;
     Ok((Shape::Run, block))
 }

@@ -1,29 +1,27 @@
 //! From a text to the tree of its file.
 
-ghost use Rattle.std.specs.Prelude.{◌≡◌, ◌≤◌, ◌<◌, ◌++◌, List as list, length, IfOk, Some, [], ◌∷◌, ℕ};
+ghost use Rattle.std.specs.Prelude.{◌≡◌, ◌≤◌, List as list, length, IfOk, Some};
 ghost use Rattle.node_tree.specs.Gives.{Gives};
 ghost use Rattle.node_tree.specs.declared.node.Node.{Node as a_node};
-ghost use Rattle.node_tree.specs.declared.view.Mode.TheVariants.{Text as in_text};
+ghost use Rattle.c_lex.specs.declared.token.CToken.{CToken as c_token};
 ghost use Rattle.c_lex.specs.Lexing.{IsTokensOf};
-ghost use Rattle.c_expr.specs.declared.part.Part.{Part as a_part};
-ghost use Rattle.c_expr.specs.Build.{nodes, tallest};
+ghost use Rattle.c_expr.specs.Build.{nodes};
 ghost use Rattle.c_unit.specs.Units.{IsUnit};
 
-use crate::file::file_items;
-use c_expr::{Part, classified, shallow_end};
+use crate::whole::{Whole, read_whole};
+use c_expr::{Part, classified};
 use c_lex::{CToken, c_tokens};
 use node_tree::{Kind, LexFault, List, Memory, Mode, Node, ReadFault, Span, Text};
 use std::alloc::Global;
 
-/// How deep an item may be.
-const MAX_DEPTH: u32 = 499;
-
-/// How many steps deeper the reader may go: so that depth, brackets and what stands in them never reach it.
-pub const ROOM: u32 = 1002;
+/// How deep an item of a file, or of a run, may be.
+pub const ITEM_DEPTH: u32 = 499;
 
 /// The tokens of a text.
 pub fn lexed(alloc: Global, text: &str, mode: Mode) -> Result<List<CToken>, ReadFault>
     requires { length text.now ≤ 1000000 }
+    ensures given { IfOk result (λ l. IsTokensOf mode text.now l) }
+    ensures only { (ts : list c_token) → IsTokensOf mode text.now ts → Gives (λ l. l) result (Some ts) }
 {
     match c_tokens(alloc, text, mode) {
         Ok(all) => Ok(all),
@@ -32,17 +30,13 @@ pub fn lexed(alloc: Global, text: &str, mode: Mode) -> Result<List<CToken>, Read
     }
 }
 
-/// The nodes of some items, none of which is too deep.
-pub fn shallow_nodes(alloc: Global, parts: Vec<Part>) -> Result<List<Node>, ReadFault>
-    ensures kept { IfOk result (λ ns. ns ≡ nodes parts.items) }
-    ensures shallow { IfOk result (λ ns. tallest parts.items < 500) }
-    ensures only { tallest parts.items < 500 → Gives (λ ns. ns) result (Some (nodes parts.items)) }
+/// The nodes of some parts.
+#[tactic(auto, using(crate::proofs::Rounds::nodes_more))]
+pub fn nodes_of(alloc: Global, parts: Vec<Part>) -> Result<List<Node>, Memory>
+    ensures { IfOk result (λ ns. ns ≡ nodes parts.items) }
 {
     let mut kids = Vec::with_capacity(alloc, parts.len())?;
     for part in parts {
-        if part.depth > MAX_DEPTH {
-            return Err(ReadFault::NoTree);
-        }
         kids.push(part.node)?;
     }
     Ok(List::from_vec(kids))
@@ -61,19 +55,15 @@ pub fn read_unit(alloc: Global, text: &str) -> Result<Node, ReadFault>
 {
     let all = lexed(alloc, text, Mode::Text)?;
     let classed = classified(alloc, &all, Mode::Text)?;
-    let tokens = classed.as_slice();
-    let shallow = &tokens[..shallow_end(tokens, 0)];
-    let (parts, end) = file_items(alloc, shallow, ROOM, 0)?;
-    if end + 1 != tokens.len() {
-        return Err(ReadFault::NoTree);
-    }
+    let (parts, end) = read_whole(alloc, classed.as_slice(), Whole::FileItems, ITEM_DEPTH)?;
+    let span = Span {
+        from: 0,
+        to: text.len() as u32,
+    };
     Ok(Node {
         kind: Kind::Root,
         text: Text::new(alloc),
-        kids: shallow_nodes(alloc, parts)?,
-        span: Span {
-            from: 0,
-            to: text.len() as u32,
-        },
+        kids: nodes_of(alloc, parts)?,
+        span,
     })
 }
