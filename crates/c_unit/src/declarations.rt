@@ -86,6 +86,7 @@ fn variables(
 }
 
 /// `{"," var}`, behind some variables.
+#[tactic(auto, using(crate::proofs::Steps::level_none, crate::proofs::Steps::vars_step, crate::proofs::Steps::vars_turn, crate::proofs::Steps::rest_turned, crate::proofs::Steps::list_laws))]
 fn more_variables(
     alloc: Global,
     tokens: &[Token<'_>],
