@@ -66,5 +66,5 @@ pub record IsRun (l : Level) (text : List ℕ) (block : Node) : Type 0 where
 -- Which pattern a text is: an expression where it is one, else a run of items, else one of file items.
 pub data IsPattern (text : List ℕ) : Shape → Node → Type 0 where
   expression : {tree : Node} → IsExpression text tree → IsPattern text shapes.Expr tree
-  items : {block : Node} → ((tree : Node) → IsExpression text tree → Absurd {0}) → IsRun Items text block → IsPattern text shapes.Run block
-  file_items : {block : Node} → ((tree : Node) → IsExpression text tree → Absurd {0}) → ((other : Node) → IsRun Items text other → Absurd {0}) → IsRun File text block → IsPattern text shapes.Run block
+  items : {block : Node} → ((tree : Node) → IsExpression text tree → ⊥) → IsRun Items text block → IsPattern text shapes.Run block
+  file_items : {block : Node} → ((tree : Node) → IsExpression text tree → ⊥) → ((other : Node) → IsRun Items text other → ⊥) → IsRun File text block → IsPattern text shapes.Run block
