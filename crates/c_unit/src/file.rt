@@ -14,7 +14,10 @@ use crate::look::starts_file_item;
 use crate::make::node_one;
 use crate::parts::expression;
 use crate::settle::invokes;
-use c_expr::{CLevel, Listed, Part, Token, Word, graft_one, graft_two, is, is_among, leaf, list, span_at, start_at};
+use c_expr::{
+    CLevel, Listed, Part, Token, Word, graft_one, graft_two, is, is_among, leaf, list, span_at,
+    start_at,
+};
 use node_tree::{Kind, ReadFault, Text};
 use std::alloc::Global;
 

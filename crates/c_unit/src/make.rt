@@ -51,13 +51,7 @@ pub fn named(
     ensures { IfOk result (λ p. p ≡ cut (node_over kind (token_at tokens.now at).text (span_between tokens.now at end) [])) }
 {
     let text = Text::from_str(alloc, text_at(tokens, at))?;
-    over(
-        alloc,
-        kind,
-        text,
-        span_at(tokens, at, end),
-        Vec::new(alloc),
-    )
+    over(alloc, kind, text, span_at(tokens, at, end), Vec::new(alloc))
 }
 
 /// A node over one other.

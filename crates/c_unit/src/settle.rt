@@ -16,12 +16,7 @@ const SPEC_OR_NAME: [Word; 5] = [
 ];
 
 /// What stands behind the name of a variable that is a pointer to a type with a name.
-const BEHIND_VARIABLE: [Word; 4] = [
-    Word::Equals,
-    Word::Semicolon,
-    Word::Comma,
-    Word::OpenSquare,
-];
+const BEHIND_VARIABLE: [Word; 4] = [Word::Equals, Word::Semicolon, Word::Comma, Word::OpenSquare];
 
 /// What goes on with an expression, and begins no item.
 const ONLY_GOES_ON: [Word; 15] = [

@@ -191,5 +191,8 @@ fn evaluated(
         return Err(ReadFault::NoTree);
     }
     let end = close + 1;
-    Ok((node_one(alloc, tokens, Kind::ExprStmt, at, end, value)?, end))
+    Ok((
+        node_one(alloc, tokens, Kind::ExprStmt, at, end, value)?,
+        end,
+    ))
 }

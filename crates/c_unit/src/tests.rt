@@ -136,22 +136,13 @@ fn all_patterns(rt: &impl Abort, alloc: Global, rows: &[(&str, &str)]) -> Result
 #[test]
 fn reads_files(rt: HostRuntime) -> Result<(), Fail> {
     let rows = [
-        (
-            "",
-            "",
-        ),
-        (
-            "int x;",
-            "Decl[TypeSpec(int) List[Var[Id(x) Absent]]]",
-        ),
+        ("", ""),
+        ("int x;", "Decl[TypeSpec(int) List[Var[Id(x) Absent]]]"),
         (
             "int main(void) { return 0; }",
             "FuncDef[TypeSpec(int) FuncOf[Id(main) List[ParamC[TypeSpec(void) Absent]]] Block[Return[Number(0)]]]",
         ),
-        (
-            "#include <a.h>\n;",
-            "Directive(#include <a.h>) Empty",
-        ),
+        ("#include <a.h>\n;", "Directive(#include <a.h>) Empty"),
         (
             "M(a, int);",
             "ExprStmt[Call[Name(M) List[Name(a) TypeName[TypeSpec(int) Absent]]]]",
@@ -160,14 +151,8 @@ fn reads_files(rt: HostRuntime) -> Result<(), Fail> {
             "M()\nint x;",
             "ExprStmt[Call[Name(M) List]] Decl[TypeSpec(int) List[Var[Id(x) Absent]]]",
         ),
-        (
-            "M(a);;",
-            "ExprStmt[Call[Name(M) List[Name(a)]]] Empty",
-        ),
-        (
-            "x;",
-            "Decl[TypeSpec(x) List]",
-        ),
+        ("M(a);;", "ExprStmt[Call[Name(M) List[Name(a)]]] Empty"),
+        ("x;", "Decl[TypeSpec(x) List]"),
         (
             "enum E { A, B = 2 };",
             "Decl[TypeSpec(enum E)[EnumItems[EnumItem[Id(A) Absent] EnumItem[Id(B) Number(2)]]] List]",
@@ -196,10 +181,7 @@ fn reads_files(rt: HostRuntime) -> Result<(), Fail> {
             "static T *f(int a[3], ...) { }",
             "FuncDef[TypeSpec(static T) Ptr[FuncOf[Id(f) List[ParamC[TypeSpec(int) ArrayOf[Id(a) Number(3)]] ParamC(...)[Absent Absent]]]] Block]",
         ),
-        (
-            "int x { }",
-            "FuncDef[TypeSpec(int) Id(x) Block]",
-        ),
+        ("int x { }", "FuncDef[TypeSpec(int) Id(x) Block]"),
         (
             "int (*g(int))(char) { }",
             "FuncDef[TypeSpec(int) FuncOf[Ptr[FuncOf[Id(g) List[ParamC[TypeSpec(int) Absent]]]] List[ParamC[TypeSpec(char) Absent]]] Block]",
@@ -224,66 +206,21 @@ fn reads_files(rt: HostRuntime) -> Result<(), Fail> {
 #[test]
 fn refuses_files(rt: HostRuntime) -> Result<(), Fail> {
     let rows = [
-        (
-            "f(void) { }",
-            "none",
-        ),
-        (
-            "DEFINE(x) = 1;",
-            "none",
-        ),
-        (
-            "T (*p)(int);",
-            "none",
-        ),
-        (
-            "int f(a) int a; { }",
-            "none",
-        ),
-        (
-            "extern \"C\" { }",
-            "none",
-        ),
-        (
-            "int",
-            "none",
-        ),
-        (
-            "int x",
-            "none",
-        ),
-        (
-            "int x y;",
-            "none",
-        ),
-        (
-            "x = 1;",
-            "none",
-        ),
-        (
-            "}",
-            "none",
-        ),
-        (
-            "int f() { } }",
-            "none",
-        ),
-        (
-            "int f() {",
-            "none",
-        ),
-        (
-            "int a, ;",
-            "none",
-        ),
-        (
-            "if (a) x();",
-            "none",
-        ),
-        (
-            "/* int x;",
-            "none",
-        ),
+        ("f(void) { }", "none"),
+        ("DEFINE(x) = 1;", "none"),
+        ("T (*p)(int);", "none"),
+        ("int f(a) int a; { }", "none"),
+        ("extern \"C\" { }", "none"),
+        ("int", "none"),
+        ("int x", "none"),
+        ("int x y;", "none"),
+        ("x = 1;", "none"),
+        ("}", "none"),
+        ("int f() { } }", "none"),
+        ("int f() {", "none"),
+        ("int a, ;", "none"),
+        ("if (a) x();", "none"),
+        ("/* int x;", "none"),
     ];
     all_files(&rt, rt.alloc(), &rows)
 }
@@ -292,22 +229,13 @@ fn refuses_files(rt: HostRuntime) -> Result<(), Fail> {
 #[test]
 fn reads_statements(rt: HostRuntime) -> Result<(), Fail> {
     let rows = [
-        (
-            "",
-            "",
-        ),
+        ("", ""),
         (
             "x = 1; ; f();",
             "ExprStmt[AssignE(=)[Name(x) Number(1)]] Empty ExprStmt[Call[Name(f) List]]",
         ),
-        (
-            "{ } { x; }",
-            "Block Block[ExprStmt[Name(x)]]",
-        ),
-        (
-            "if (a) { } else ;",
-            "If[Name(a) Block Block[Empty]]",
-        ),
+        ("{ } { x; }", "Block Block[ExprStmt[Name(x)]]"),
+        ("if (a) { } else ;", "If[Name(a) Block Block[Empty]]"),
         (
             "if (a) x();",
             "If[Name(a) Block[ExprStmt[Call[Name(x) List]]] Absent]",
@@ -332,14 +260,8 @@ fn reads_statements(rt: HostRuntime) -> Result<(), Fail> {
             "do x++; while (x);",
             "DoWhile[Block[ExprStmt[Postfix(++)[Name(x)]]] Name(x)]",
         ),
-        (
-            "do { } while (0);",
-            "DoWhile[Block Number(0)]",
-        ),
-        (
-            "for (;;) ;",
-            "ForC[Absent Absent Absent Block[Empty]]",
-        ),
+        ("do { } while (0);", "DoWhile[Block Number(0)]"),
+        ("for (;;) ;", "ForC[Absent Absent Absent Block[Empty]]"),
         (
             "for (int i = 0; i < n; i++) { }",
             "ForC[Decl[TypeSpec(int) List[Var[Id(i) Number(0)]]] Binary(<)[Name(i) Name(n)] Postfix(++)[Name(i)] Block]",
@@ -392,10 +314,7 @@ fn reads_statements(rt: HostRuntime) -> Result<(), Fail> {
             "a: b ? c : d;",
             "Label[Id(a)] ExprStmt[Cond[Name(b) Name(c) Name(d)]]",
         ),
-        (
-            "L:",
-            "Label[Id(L)]",
-        ),
+        ("L:", "Label[Id(L)]"),
         (
             "\n#define A\nx;\n#undef A\n",
             "Directive(#define A) ExprStmt[Name(x)] Directive(#undef A)",
@@ -408,10 +327,7 @@ fn reads_statements(rt: HostRuntime) -> Result<(), Fail> {
 #[test]
 fn tells_declarations(rt: HostRuntime) -> Result<(), Fail> {
     let rows = [
-        (
-            "T * p;",
-            "Decl[TypeSpec(T) List[Var[Ptr[Id(p)] Absent]]]",
-        ),
+        ("T * p;", "Decl[TypeSpec(T) List[Var[Ptr[Id(p)] Absent]]]"),
         (
             "T ** p[3];",
             "Decl[TypeSpec(T) List[Var[Ptr[Ptr[ArrayOf[Id(p) Number(3)]]] Absent]]]",
@@ -424,10 +340,7 @@ fn tells_declarations(rt: HostRuntime) -> Result<(), Fail> {
             "T * p, q;",
             "Decl[TypeSpec(T) List[Var[Ptr[Id(p)] Absent] Var[Id(q) Absent]]]",
         ),
-        (
-            "T x;",
-            "Decl[TypeSpec(T) List[Var[Id(x) Absent]]]",
-        ),
+        ("T x;", "Decl[TypeSpec(T) List[Var[Id(x) Absent]]]"),
         (
             "T const x;",
             "Decl[TypeSpec(T const) List[Var[Id(x) Absent]]]",
@@ -436,10 +349,7 @@ fn tells_declarations(rt: HostRuntime) -> Result<(), Fail> {
             "struct S s;",
             "Decl[TypeSpec(struct S) List[Var[Id(s) Absent]]]",
         ),
-        (
-            "int;",
-            "Decl[TypeSpec(int) List]",
-        ),
+        ("int;", "Decl[TypeSpec(int) List]"),
         (
             "int a[] = { 1, };",
             "Decl[TypeSpec(int) List[Var[ArrayOf[Id(a) Absent] InitList[Number(1)]]]]",
@@ -464,10 +374,7 @@ fn tells_declarations(rt: HostRuntime) -> Result<(), Fail> {
             "if (a) T * b;",
             "If[Name(a) Block[ExprStmt[Binary(*)[Name(T) Name(b)]]] Absent]",
         ),
-        (
-            "T * const p;",
-            "none",
-        ),
+        ("T * const p;", "none"),
     ];
     all_items(&rt, rt.alloc(), &rows)
 }
@@ -476,78 +383,24 @@ fn tells_declarations(rt: HostRuntime) -> Result<(), Fail> {
 #[test]
 fn refuses_statements(rt: HostRuntime) -> Result<(), Fail> {
     let rows = [
-        (
-            "return",
-            "none",
-        ),
-        (
-            "if a x;",
-            "none",
-        ),
-        (
-            "else x;",
-            "none",
-        ),
-        (
-            "do x; while (a)",
-            "none",
-        ),
-        (
-            "{",
-            "none",
-        ),
-        (
-            "if (a) int b;",
-            "none",
-        ),
-        (
-            "if (a)\n#if 1\nx;",
-            "none",
-        ),
-        (
-            "case 1 ... 2: ;",
-            "none",
-        ),
-        (
-            "for (;) ;",
-            "none",
-        ),
-        (
-            "for (;;;) ;",
-            "none",
-        ),
-        (
-            "goto 1;",
-            "none",
-        ),
-        (
-            "x",
-            "none",
-        ),
-        (
-            "a b c;",
-            "none",
-        ),
-        (
-            "default x;",
-            "none",
-        ),
-        (
-            "break",
-            "none",
-        ),
-        (
-            "int f() { }",
-            "none",
-        ),
-        (
-            "if (a) L: }",
-            "none",
-        ),
-        (
-            "while () ;",
-            "none",
-        ),
+        ("return", "none"),
+        ("if a x;", "none"),
+        ("else x;", "none"),
+        ("do x; while (a)", "none"),
+        ("{", "none"),
+        ("if (a) int b;", "none"),
+        ("if (a)\n#if 1\nx;", "none"),
+        ("case 1 ... 2: ;", "none"),
+        ("for (;) ;", "none"),
+        ("for (;;;) ;", "none"),
+        ("goto 1;", "none"),
+        ("x", "none"),
+        ("a b c;", "none"),
+        ("default x;", "none"),
+        ("break", "none"),
+        ("int f() { }", "none"),
+        ("if (a) L: }", "none"),
+        ("while () ;", "none"),
     ];
     all_items(&rt, rt.alloc(), &rows)
 }
@@ -572,22 +425,10 @@ fn reads_patterns(rt: HostRuntime) -> Result<(), Fail> {
             "printf($F, ...)",
             "expression Call[Name(printf) List[Meta($F) Dots]]",
         ),
-        (
-            "\"...\"",
-            "expression StrAny",
-        ),
-        (
-            "...",
-            "expression Dots",
-        ),
-        (
-            "$...A",
-            "expression MetaDots($...A)",
-        ),
-        (
-            "$X * $Y",
-            "expression Binary(*)[Meta($X) Meta($Y)]",
-        ),
+        ("\"...\"", "expression StrAny"),
+        ("...", "expression Dots"),
+        ("$...A", "expression MetaDots($...A)"),
+        ("$X * $Y", "expression Binary(*)[Meta($X) Meta($Y)]"),
         (
             "$X * $Y;",
             "run Block[Decl[Meta($X) List[Var[Ptr[Meta($Y)] Absent]]]]",
@@ -596,14 +437,8 @@ fn reads_patterns(rt: HostRuntime) -> Result<(), Fail> {
             "$X $Y;",
             "run Block[Decl[Meta($X) List[Var[Meta($Y) Absent]]]]",
         ),
-        (
-            "$X;",
-            "run Block[ExprStmt[Meta($X)]]",
-        ),
-        (
-            "x;",
-            "run Block[ExprStmt[Name(x)]]",
-        ),
+        ("$X;", "run Block[ExprStmt[Meta($X)]]"),
+        ("x;", "run Block[ExprStmt[Name(x)]]"),
         (
             "int f(char *, ...);",
             "run Block[Decl[TypeSpec(int) List[Var[FuncOf[Id(f) List[ParamC[TypeSpec(char) Ptr[Absent]] Dots]] Absent]]]]",
@@ -612,10 +447,7 @@ fn reads_patterns(rt: HostRuntime) -> Result<(), Fail> {
             "$T $F(...) { ... }",
             "run Block[FuncDef[Meta($T) FuncOf[Meta($F) List[Dots]] Block[Dots]]]",
         ),
-        (
-            "$F(...);",
-            "run Block[ExprStmt[Call[Meta($F) List[Dots]]]]",
-        ),
+        ("$F(...);", "run Block[ExprStmt[Call[Meta($F) List[Dots]]]]"),
         (
             "int x; void f(void) { }",
             "run Block[Decl[TypeSpec(int) List[Var[Id(x) Absent]]] FuncDef[TypeSpec(void) FuncOf[Id(f) List[ParamC[TypeSpec(void) Absent]]] Block]]",
@@ -624,14 +456,8 @@ fn reads_patterns(rt: HostRuntime) -> Result<(), Fail> {
             "... void f(void) { } $...B",
             "run Block[Dots FuncDef[TypeSpec(void) FuncOf[Id(f) List[ParamC[TypeSpec(void) Absent]]] Block] MetaDots($...B)]",
         ),
-        (
-            "$X:",
-            "run Block[Label[Meta($X)]]",
-        ),
-        (
-            "goto $L;",
-            "run Block[Goto[Meta($L)]]",
-        ),
+        ("$X:", "run Block[Label[Meta($X)]]"),
+        ("goto $L;", "run Block[Goto[Meta($L)]]"),
         (
             "<... f(x) ...>;",
             "run Block[ExprStmt[Deep[Call[Name(f) List[Name(x)]]]]]",
@@ -644,10 +470,7 @@ fn reads_patterns(rt: HostRuntime) -> Result<(), Fail> {
             "const $T;",
             "run Block[Decl[TypeSpec(const) List[Var[Meta($T) Absent]]]]",
         ),
-        (
-            "",
-            "run Block",
-        ),
+        ("", "run Block"),
     ];
     all_patterns(&rt, rt.alloc(), &rows)
 }
@@ -656,26 +479,14 @@ fn reads_patterns(rt: HostRuntime) -> Result<(), Fail> {
 #[test]
 fn settles_dots(rt: HostRuntime) -> Result<(), Fail> {
     let rows = [
-        (
-            "...;",
-            "run Block[Dots]",
-        ),
-        (
-            "...;;",
-            "run Block[Dots Empty]",
-        ),
+        ("...;", "run Block[Dots]"),
+        ("...;;", "run Block[Dots Empty]"),
         (
             "...\n*p = 1;",
             "run Block[Dots ExprStmt[AssignE(=)[Unary(*)[Name(p)] Number(1)]]]",
         ),
-        (
-            "... -x;",
-            "run Block[Dots ExprStmt[Unary(-)[Name(x)]]]",
-        ),
-        (
-            "... (x);",
-            "run Block[Dots ExprStmt[Name(x)]]",
-        ),
+        ("... -x;", "run Block[Dots ExprStmt[Unary(-)[Name(x)]]]"),
+        ("... (x);", "run Block[Dots ExprStmt[Name(x)]]"),
         (
             "$...A ++x;",
             "run Block[MetaDots($...A) ExprStmt[Unary(++)[Name(x)]]]",
@@ -688,14 +499,8 @@ fn settles_dots(rt: HostRuntime) -> Result<(), Fail> {
             "... = 1;",
             "run Block[ExprStmt[AssignE(=)[Dots Number(1)]]]",
         ),
-        (
-            "... , x;",
-            "run Block[ExprStmt[Binary(,)[Dots Name(x)]]]",
-        ),
-        (
-            "... * p",
-            "expression Binary(*)[Dots Name(p)]",
-        ),
+        ("... , x;", "run Block[ExprStmt[Binary(,)[Dots Name(x)]]]"),
+        ("... * p", "expression Binary(*)[Dots Name(p)]"),
         (
             "x = ... * p;",
             "run Block[ExprStmt[AssignE(=)[Name(x) Binary(*)[Dots Name(p)]]]]",
@@ -712,10 +517,7 @@ fn settles_dots(rt: HostRuntime) -> Result<(), Fail> {
             "for (...; ...; ...) ...",
             "run Block[ForC[Dots Dots Dots Block[Dots]]]",
         ),
-        (
-            "{ ... }",
-            "run Block[Block[Dots]]",
-        ),
+        ("{ ... }", "run Block[Block[Dots]]"),
         (
             "...; x; $...B",
             "run Block[Dots ExprStmt[Name(x)] MetaDots($...B)]",
@@ -728,46 +530,16 @@ fn settles_dots(rt: HostRuntime) -> Result<(), Fail> {
 #[test]
 fn refuses_patterns(rt: HostRuntime) -> Result<(), Fail> {
     let rows = [
-        (
-            "const $T x;",
-            "none",
-        ),
-        (
-            "struct $S x;",
-            "none",
-        ),
-        (
-            "static $T $F() { ... }",
-            "none",
-        ),
-        (
-            "(T)...",
-            "none",
-        ),
-        (
-            "a b c",
-            "none",
-        ),
-        (
-            "foo(",
-            "none",
-        ),
-        (
-            "... = ",
-            "none",
-        ),
-        (
-            "for (...) ...",
-            "none",
-        ),
-        (
-            "int",
-            "none",
-        ),
-        (
-            "$X $Y $Z;",
-            "none",
-        ),
+        ("const $T x;", "none"),
+        ("struct $S x;", "none"),
+        ("static $T $F() { ... }", "none"),
+        ("(T)...", "none"),
+        ("a b c", "none"),
+        ("foo(", "none"),
+        ("... = ", "none"),
+        ("for (...) ...", "none"),
+        ("int", "none"),
+        ("$X $Y $Z;", "none"),
     ];
     all_patterns(&rt, rt.alloc(), &rows)
 }
@@ -784,10 +556,7 @@ fn places_nodes(rt: HostRuntime) -> Result<(), Fail> {
             "M(a) ;",
             "Root 0..6[ExprStmt 0..6[Call 0..4[Name(M) 0..1 List 2..3[Name(a) 2..3]]]]",
         ),
-        (
-            "x;",
-            "Root 0..2[Decl 0..2[TypeSpec(x) 0..1 List 0..0]]",
-        ),
+        ("x;", "Root 0..2[Decl 0..2[TypeSpec(x) 0..1 List 0..0]]"),
         (
             "void f(void) { for (;;) ; }",
             "Root 0..27[FuncDef 0..27[TypeSpec(void) 0..4 FuncOf 5..12[Id(f) 5..6 List 7..11[ParamC 7..11[TypeSpec(void) 7..11 Absent 7..7]]] Block 13..27[ForC 15..25[Absent 15..15 Absent 15..15 Absent 15..15 Block 24..25[Empty 24..25]]]]]",
@@ -808,7 +577,13 @@ fn places_nodes(rt: HostRuntime) -> Result<(), Fail> {
     Ok(())
 }
 
-fn repeated(alloc: Global, front: &str, times: u32, middle: &str, back: &str) -> Result<String, Fail> {
+fn repeated(
+    alloc: Global,
+    front: &str,
+    times: u32,
+    middle: &str,
+    back: &str,
+) -> Result<String, Fail> {
     let mut text = String::new(alloc);
     for _ in 0..times {
         text.push_str(front)?;
@@ -859,14 +634,24 @@ fn reads_many_items(rt: HostRuntime) -> Result<(), Fail> {
 #[test]
 fn refuses_many_functions(rt: HostRuntime) -> Result<(), Fail> {
     let alloc = rt.alloc();
-    assert!(rt; !is_file(alloc, repeated(alloc, "int f() {", 100_000, "", "")?.as_str())?);
+    assert!(rt;
+        !is_file(
+            alloc,
+            repeated(alloc, "int f() {", 100_000, "", "")?.as_str()
+        )?
+    );
     Ok(())
 }
 
 #[test]
 fn refuses_many_blocks(rt: HostRuntime) -> Result<(), Fail> {
     let alloc = rt.alloc();
-    assert!(rt; !is_file(alloc, repeated(alloc, "int f() { if (a) {", 50_000, "", "")?.as_str())?);
+    assert!(rt;
+        !is_file(
+            alloc,
+            repeated(alloc, "int f() { if (a) {", 50_000, "", "")?.as_str()
+        )?
+    );
     Ok(())
 }
 

@@ -30,11 +30,7 @@ pub enum Whole {
 }
 
 /// What stands from the first token on, and the place behind it.
-fn read(
-    alloc: Global,
-    tokens: &[Token<'_>],
-    whole: Whole,
-) -> Result<(Vec<Part>, usize), ReadFault>
+fn read(alloc: Global, tokens: &[Token<'_>], whole: Whole) -> Result<(Vec<Part>, usize), ReadFault>
     ensures within { IfOk result (λ x. x.1 ≤ length tokens.now) }
     ensures gives { Gives e.parts result (reading.level tokens.now 1002 (level_of whole) 0) }
 {
