@@ -4,7 +4,7 @@ ghost use Rattle.std.specs.Prelude.{◌≡◌, ◌≤◌, length, IfOk, Some};
 ghost use Rattle.node_tree.specs.Gives.{Gives};
 ghost use Rattle.node_tree.specs.declared.node.Node.{Node as a_node};
 ghost use Rattle.node_tree.specs.declared.view.Shape.{Shape as a_shape};
-ghost use Rattle.c_unit.specs.Units.{IsPattern};
+ghost use Rattle.c_unit.specs.Units.{level_of, IsExpression, IsRun, IsPattern};
 
 use crate::unit::{ITEM_DEPTH, lexed, nodes_of};
 use crate::whole::{Whole, read_whole};
@@ -16,7 +16,10 @@ use std::alloc::Global;
 const MAX_DEPTH: u32 = 500;
 
 /// The expression that the tokens are.
-fn read_expression(alloc: Global, tokens: &[Token<'_>]) -> Result<Node, ReadFault> {
+fn read_expression(alloc: Global, tokens: &[Token<'_>]) -> Result<Node, ReadFault>
+    ensures found { IfOk result (IsExpression tokens.now) }
+    ensures only { (n : a_node) → IsExpression tokens.now n → Gives (λ m. m) result (Some n) }
+{
     let (mut parts, end) = read_whole(alloc, tokens, Whole::Expression, MAX_DEPTH)?;
     let Some(part) = parts.pop() else {
         return Err(ReadFault::NoTree);
@@ -25,7 +28,10 @@ fn read_expression(alloc: Global, tokens: &[Token<'_>]) -> Result<Node, ReadFaul
 }
 
 /// The block of the items that the tokens are.
-fn read_run(alloc: Global, tokens: &[Token<'_>], whole: Whole) -> Result<Node, ReadFault> {
+fn read_run(alloc: Global, tokens: &[Token<'_>], whole: Whole) -> Result<Node, ReadFault>
+    ensures found { IfOk result (IsRun (level_of whole) tokens.now) }
+    ensures only { (n : a_node) → IsRun (level_of whole) tokens.now n → Gives (λ m. m) result (Some n) }
+{
     let (parts, end) = read_whole(alloc, tokens, whole, ITEM_DEPTH)?;
     Ok(Node {
         kind: Kind::Block,
