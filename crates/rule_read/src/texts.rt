@@ -39,7 +39,7 @@ impl<'v> Texts<'v> {
 
     /// The texts, in the order in which they came.
     pub fn into_list(self) -> List<Text>
-        ensures { result ≡ self }
+        ensures { result ≡ self.entry }
     {
         self.all
     }
