@@ -115,7 +115,7 @@ module _ (id : List ℕ) (es : List Entry) where
                     whole i n ts i-is n-is ts-is =
                         let rule : List ℕ → List ℕ → List (List ℕ) → Rule = λ a b c. record { id = a; message = b; severity = v; fix = f; include = p.include; exclude = p.exclude; unread = us; texts = c; parts = ps } in
                         let e : Ok (rule i n ts, t) ≡ Ok (rule id m t.texts, t) =
-                            ap (λ (a : List ℕ). Ok (rule a n ts, t)) i-is ∙ ap (λ (b : List ℕ). Ok (rule id b ts, t)) n-is ∙ ap (λ (c : List (List ℕ)). Ok (rule id m c, t)) ts-is in
+                        ap (λ (a : List ℕ). Ok (rule a n ts, t)) i-is ∙ ap (λ (b : List ℕ). Ok (rule id b ts, t)) n-is ∙ ap (λ (c : List (List ℕ)). Ok (rule id m c, t)) ts-is in
                         (t, pathed (Ok (rule i n ts)) (after_goes (λ (x : List (List ℕ)). x) (unread_of es) (IsMade id m v ps f p) us t t (Ok (rule i n ts)) unread (record { is = e; one = λ o h. h ∙ sym e })))
 
 -- ---- the id of a rule

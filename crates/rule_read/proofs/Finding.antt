@@ -1,7 +1,6 @@
 -- Patterns, comparisons and regular expressions, as they are found.
-use Rattle.std.proofs.Common.{◌≡◌, inl, inr, ℕ, suc, ◌<◌, ◌≤◌, Bool, true, false, List, [], ◌∷◌, ◌++◌, length, refl, sym, ap, ◌∙◌, subst, arith, Ok, Err}
-use Rattle.std.specs.Prelude.{Result, if◌then◌else◌}
-use Rattle.std.specs.Str.{bytes_eq}
+use Rattle.std.proofs.Common.{◌≡◌, inl, inr, ℕ, List, refl, sym, ap, ◌∙◌, subst, Ok, Err}
+use Rattle.std.specs.Prelude.{Result}
 use Rattle.node_tree.specs.declared.view.Pattern.{Pattern}
 use Rattle.pattern_read.specs.Patterns.{IsPatternOf, GivesPattern}
 use Rattle.pattern_read.specs.declared.fault.PatternFault.{PatternFault}

@@ -42,7 +42,11 @@ fn regex<'v>(alloc: Global, value: &'v YValue, found: &mut Found<'v>) -> Result<
     number_of(alloc, text, found)
 }
 
-fn regex_formula<'v>(alloc: Global, value: &'v YValue, found: &mut Found<'v>) -> Result<Formula, Stop>
+fn regex_formula<'v>(
+    alloc: Global,
+    value: &'v YValue,
+    found: &mut Found<'v>,
+) -> Result<Formula, Stop>
     ensures { Reads (spec.IsRegexFormula value.now) found.old result found.new }
 {
     let number = regex(alloc, value, found)?;

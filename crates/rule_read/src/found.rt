@@ -26,11 +26,7 @@ pub struct Setting {
 }
 
 /// The number of the regular expression among those found, from 0. A new one comes last.
-pub fn number_of<'v>(
-    alloc: Global,
-    text: &'v str,
-    found: &mut Found<'v>,
-) -> Result<u32, Stop>
+pub fn number_of<'v>(alloc: Global, text: &'v str, found: &mut Found<'v>) -> Result<u32, Stop>
     ensures { Reads (spec.IsNumber text.now) found.old result found.new }
 {
     Ok(found.texts.number_of(alloc, text)?)
@@ -65,7 +61,12 @@ fn no_pattern(alloc: Global, fault: PatternFault) -> Stop
 }
 
 /// Reads a text as a pattern, which comes last among those found.
-pub fn leaf(alloc: Global, setting: Setting, text: &str, found: &mut Found<'_>) -> Result<Formula, Stop>
+pub fn leaf(
+    alloc: Global,
+    setting: Setting,
+    text: &str,
+    found: &mut Found<'_>,
+) -> Result<Formula, Stop>
     ensures { Reads (spec.IsLeaf setting text.now) found.old result found.new }
 {
     match read_pattern(alloc, setting.lang, text) {
