@@ -110,12 +110,13 @@ module _ (id : List ℕ) (es : List Entry) where
                   no_options e h = (t, pathed (Err e) (after_stops (λ (x : List (List ℕ)). x) (unread_of es) (IsMade id m v ps f p) e t t h))
 
                   module _ (us : List (List ℕ)) (unread : unread_of es ≡ Ok us) where
-                    pub whole : (i n : List ℕ) → i ≡ id → n ≡ m
-                        → Whole (Ok (record { id = i; message = n; severity = v; fix = f; include = p.include; exclude = p.exclude; unread = us; texts = t.texts; parts = ps }))
-                    whole i n i-is n-is =
-                        let rule : List ℕ → List ℕ → Rule = λ a b. record { id = a; message = b; severity = v; fix = f; include = p.include; exclude = p.exclude; unread = us; texts = t.texts; parts = ps } in
-                        let e : Ok (rule i n, t) ≡ Ok (rule id m, t) = ap (λ (a : List ℕ). Ok (rule a n, t)) i-is ∙ ap (λ (b : List ℕ). Ok (rule id b, t)) n-is in
-                        (t, pathed (Ok (rule i n)) (after_goes (λ (x : List (List ℕ)). x) (unread_of es) (IsMade id m v ps f p) us t t (Ok (rule i n)) unread (record { is = e; one = λ o h. h ∙ sym e })))
+                    pub whole : (i n : List ℕ) (ts : List (List ℕ)) → i ≡ id → n ≡ m → ts ≡ t.texts
+                        → Whole (Ok (record { id = i; message = n; severity = v; fix = f; include = p.include; exclude = p.exclude; unread = us; texts = ts; parts = ps }))
+                    whole i n ts i-is n-is ts-is =
+                        let rule : List ℕ → List ℕ → List (List ℕ) → Rule = λ a b c. record { id = a; message = b; severity = v; fix = f; include = p.include; exclude = p.exclude; unread = us; texts = c; parts = ps } in
+                        let e : Ok (rule i n ts, t) ≡ Ok (rule id m t.texts, t) =
+                        ap (λ (a : List ℕ). Ok (rule a n ts, t)) i-is ∙ ap (λ (b : List ℕ). Ok (rule id b ts, t)) n-is ∙ ap (λ (c : List (List ℕ)). Ok (rule id m c, t)) ts-is in
+                        (t, pathed (Ok (rule i n ts)) (after_goes (λ (x : List (List ℕ)). x) (unread_of es) (IsMade id m v ps f p) us t t (Ok (rule i n ts)) unread (record { is = e; one = λ o h. h ∙ sym e })))
 
 -- ---- the id of a rule
 

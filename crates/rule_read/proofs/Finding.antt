@@ -1,7 +1,6 @@
 -- Patterns, comparisons and regular expressions, as they are found.
-use Rattle.std.proofs.Common.{◌≡◌, inl, inr, ℕ, suc, ◌<◌, ◌≤◌, Bool, true, false, List, [], ◌∷◌, ◌++◌, length, refl, sym, ap, ◌∙◌, subst, arith, Ok, Err}
-use Rattle.std.specs.Prelude.{Result, if◌then◌else◌}
-use Rattle.std.specs.Str.{bytes_eq}
+use Rattle.std.proofs.Common.{◌≡◌, inl, inr, ℕ, List, refl, sym, ap, ◌∙◌, subst, Ok, Err}
+use Rattle.std.specs.Prelude.{Result}
 use Rattle.node_tree.specs.declared.view.Pattern.{Pattern}
 use Rattle.pattern_read.specs.Patterns.{IsPatternOf, GivesPattern}
 use Rattle.pattern_read.specs.declared.fault.PatternFault.{PatternFault}
@@ -16,7 +15,8 @@ use Rattle.rule_read.specs.declared.stop.Stop.{Stop}
 use Rattle.rule_read.specs.declared.stop.Stop.TheVariants.{Memory, Bad}
 use Rattle.rule_read.specs.Misfits.{here}
 use Rattle.rule_read.specs.Readings.{Outcome, Only, Reads}
-use Rattle.rule_read.specs.Finds.{IsNextLeaf, IsLeaf, IsCompared, IsNumber, IsUnwritten, place_of, with_text, noting}
+use Rattle.rule_read.specs.TextPlaces.{place_of, with_text}
+use Rattle.rule_read.specs.Finds.{IsNextLeaf, IsLeaf, IsCompared, IsNumber, IsUnwritten, noting}
 
 module _ (setting : Setting) (text : List ℕ) (s : Found) where
   module _ (p : Pattern) (is : IsPatternOf setting.lang text p) (one : (q : Pattern) → IsPatternOf setting.lang text q → p ≡ q) where
@@ -65,24 +65,6 @@ module _ (text : List ℕ) (s : Found) where
 
   pub uncompared : (stop : Stop) (t : Found) → ((c : Comparison) → IsComparisonOf text c → ⊥) → stop ≡ Bad (here BadComparison) → Reads (IsCompared text) s (Err stop) t
   uncompared stop t none e = subst (λ (z : Stop). Reads (IsCompared text) s (Err z) t) (sym e) (not_compared none)
-
-known_by : (b : Bool) (t : List ℕ) (ts us : List (List ℕ)) (n : ℕ) → (n < length ts → us ≡ ts) → (if b then 0 else suc n) < suc (length ts) → (if b then t ∷ ts else t ∷ us) ≡ t ∷ ts
-known_by true t ts us n h lt = refl
-known_by false t ts us n h lt = ap (λ (xs : List (List ℕ)). t ∷ xs) (h (omega (arith, lt)))
-
--- a text that is there stays where it is
-pub with_known : (text : List ℕ) (ts : List (List ℕ)) → place_of text ts < length ts → with_text text ts ≡ ts
-with_known text [] lt = absurd (omega (arith, lt))
-with_known text (t ∷ ts) lt = known_by (bytes_eq t text) t ts (with_text text ts) (place_of text ts) (with_known text ts) lt
-
-new_by : (b : Bool) (t text : List ℕ) (ts us : List (List ℕ)) (n : ℕ) → (length ts ≤ n → us ≡ ts ++ text ∷ []) → suc (length ts) ≤ (if b then 0 else suc n) → (if b then t ∷ ts else t ∷ us) ≡ t ∷ ts ++ text ∷ []
-new_by true t text ts us n h le = absurd (omega (arith, le))
-new_by false t text ts us n h le = ap (λ (xs : List (List ℕ)). t ∷ xs) (h (omega (arith, le)))
-
--- a new text comes last
-pub with_new : (text : List ℕ) (ts : List (List ℕ)) → length ts ≤ place_of text ts → with_text text ts ≡ ts ++ text ∷ []
-with_new text [] le = refl
-with_new text (t ∷ ts) le = new_by (bytes_eq t text) t text ts (with_text text ts) (place_of text ts) (with_new text ts) le
 
 module _ (text : List ℕ) (s t : Found) (number : ℕ) (is : number ≡ place_of text s.texts) (texts : t.texts ≡ with_text text s.texts) (patterns : t.patterns ≡ s.patterns) where
   same : t ≡ noting text s

@@ -1,6 +1,7 @@
 pub mod Folds
 pub mod Distinct
 pub mod Laws
+pub mod TextPlaces
 pub mod Finding
 pub mod Levels
 pub mod Shapes

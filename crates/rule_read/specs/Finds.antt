@@ -1,6 +1,5 @@
 -- Patterns, comparisons and regular expressions, as they are found.
-use Rattle.std.specs.Prelude.{◌≡◌, ◌⊎◌, ℕ, suc, List, [], ◌∷◌, ◌++◌, length, if◌then◌else◌, Result, Ok, Err}
-use Rattle.std.specs.Str.{bytes_eq}
+use Rattle.std.specs.Prelude.{◌≡◌, ◌⊎◌, ℕ, List, [], ◌∷◌, ◌++◌, length, Ok, Err}
 use Rattle.node_tree.specs.declared.view.Pattern.{Pattern}
 use Rattle.pattern_read.specs.Patterns.{IsPatternOf}
 use Rattle.pattern_read.specs.declared.fault.PatternFault.{PatternFault}
@@ -15,6 +14,7 @@ use Rattle.rule_read.specs.declared.found.Setting.{Setting}
 use Rattle.rule_read.specs.declared.stop.Stop.{Stop}
 use Rattle.rule_read.specs.declared.stop.Stop.TheVariants.{Memory, Bad}
 use Rattle.rule_read.specs.Misfits.{here}
+use Rattle.rule_read.specs.TextPlaces.{place_of, with_text}
 use Rattle.rule_read.specs.Readings.{Reading}
 
 -- a pattern with the setting's word on names that are known to hold a literal
@@ -41,16 +41,6 @@ IsCompared text s o =
     ((c : Comparison) × IsComparisonOf text c × (o ≡ Ok (c, s)))
     ⊎ (((c : Comparison) → IsComparisonOf text c → ⊥) × (o ≡ Err (here BadComparison)))
 
--- the place of a text among some, which is behind them all where it isn't there
-abbrev pub place_of : List ℕ → List (List ℕ) → ℕ
-place_of text [] = 0
-place_of text (t ∷ ts) = if bytes_eq t text then 0 else suc (place_of text ts)
-
--- some texts, and one more where it isn't among them
-abbrev pub with_text : List ℕ → List (List ℕ) → List (List ℕ)
-with_text text [] = text ∷ []
-with_text text (t ∷ ts) = if bytes_eq t text then t ∷ ts else t ∷ with_text text ts
-
 -- what was found, with the text
 abbrev pub noting : List ℕ → Found → Found
 noting text s = record { patterns = s.patterns; texts = with_text text s.texts }
@@ -58,11 +48,6 @@ noting text s = record { patterns = s.patterns; texts = with_text text s.texts }
 -- the number of a regular expression
 abbrev pub IsNumber : List ℕ → Reading ℕ
 IsNumber text s o = o ≡ Ok (place_of text s.texts, noting text s)
-
--- the text was added at the end, unless memory ran out
-abbrev pub IsAdded : List ℕ → Found → Result (Unit {0}) Stop → Found → Type 0
-IsAdded text old (Ok u) new = new ≡ record { patterns = old.patterns; texts = old.texts ++ text ∷ [] }
-IsAdded text old (Err e) new = e ≡ Memory
 
 -- a text that writes no pattern is a bad one, unless memory ran out
 abbrev pub IsUnwritten : PatternFault → Stop → Type 0

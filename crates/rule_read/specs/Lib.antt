@@ -9,3 +9,4 @@ pub mod Bodies
 pub mod Heads
 pub mod Extras
 pub mod Rules
+pub mod TextPlaces

@@ -45,11 +45,11 @@ pub fn check_body(alloc: Global, mode: RuleMode, entries: &[Entry]) -> Result<()
 }
 
 /// The formulas of a list of taint.
-fn taint_items(
+fn taint_items<'v>(
     alloc: Global,
     setting: Setting,
-    value: &YValue,
-    found: &mut Found,
+    value: &'v YValue,
+    found: &mut Found<'v>,
 ) -> Result<List<Formula>, Stop>
     ensures { Reads (spec.IsFormulas (IsFormula spec.room setting) value.now) found.old result found.new }
 {
@@ -57,11 +57,11 @@ fn taint_items(
     each_formula(alloc, setting, items, found)
 }
 
-fn each_formula(
+fn each_formula<'v>(
     alloc: Global,
     setting: Setting,
-    items: &[YValue],
-    found: &mut Found,
+    items: &'v [YValue],
+    found: &mut Found<'v>,
 ) -> Result<List<Formula>, Stop>
     ensures { Reads (Each (AtPlace (IsMapped (IsFormula spec.room setting))) 0 items.now) found.old result found.new }
 {
@@ -75,11 +75,11 @@ fn each_formula(
 }
 
 /// The propagators of a list.
-fn propagators(
+fn propagators<'v>(
     alloc: Global,
     setting: Setting,
-    value: &YValue,
-    found: &mut Found,
+    value: &'v YValue,
+    found: &mut Found<'v>,
 ) -> Result<List<Propagator>, Stop>
     ensures { Reads (spec.IsPropagators (IsFormula spec.room setting) value.now) found.old result found.new }
 {
@@ -87,11 +87,11 @@ fn propagators(
     each_propagator(alloc, setting, items, found)
 }
 
-fn each_propagator(
+fn each_propagator<'v>(
     alloc: Global,
     setting: Setting,
-    items: &[YValue],
-    found: &mut Found,
+    items: &'v [YValue],
+    found: &mut Found<'v>,
 ) -> Result<List<Propagator>, Stop>
     ensures { Reads (Each (AtPlace (IsPropagator (IsFormula spec.room setting))) 0 items.now) found.old result found.new }
 {
@@ -137,11 +137,11 @@ fn key_of(entry: &Entry) -> Option<TaintKey>
 }
 
 /// The formulas that an entry lists.
-fn formulas_at(
+fn formulas_at<'v>(
     alloc: Global,
     setting: Setting,
-    entry: &Entry,
-    found: &mut Found,
+    entry: &'v Entry,
+    found: &mut Found<'v>,
 ) -> Result<List<Formula>, Stop>
     ensures { Reads (Below entry.now.0 (spec.IsFormulas (IsFormula spec.room setting) entry.now.1)) found.old result found.new }
 {
@@ -150,11 +150,11 @@ fn formulas_at(
 }
 
 /// The propagators that an entry lists.
-fn propagators_at(
+fn propagators_at<'v>(
     alloc: Global,
     setting: Setting,
-    entry: &Entry,
-    found: &mut Found,
+    entry: &'v Entry,
+    found: &mut Found<'v>,
 ) -> Result<List<Propagator>, Stop>
     ensures { Reads (Below entry.now.0 (spec.IsPropagators (IsFormula spec.room setting) entry.now.1)) found.old result found.new }
 {
@@ -163,13 +163,13 @@ fn propagators_at(
 }
 
 /// The lists of taint, with the one that an entry holds.
-fn added(
+fn added<'v>(
     alloc: Global,
     setting: Setting,
     rule: TaintRule,
     key: TaintKey,
-    entry: &Entry,
-    found: &mut Found,
+    entry: &'v Entry,
+    found: &mut Found<'v>,
 ) -> Result<TaintRule, Stop>
     ensures { Reads (spec.IsAdded (IsFormula spec.room setting) rule entry.now (Some key)) found.old result found.new }
 {
@@ -197,11 +197,11 @@ fn added(
 }
 
 /// Reads the lists of taint, in written order.
-fn taint(
+fn taint<'v>(
     alloc: Global,
     setting: Setting,
-    entries: &[Entry],
-    found: &mut Found,
+    entries: &'v [Entry],
+    found: &mut Found<'v>,
 ) -> Result<TaintRule, Stop>
     ensures { Reads (spec.IsTaint (IsFormula spec.room setting) spec.no_taint entries.now) found.old result found.new }
 {
@@ -220,11 +220,11 @@ fn taint(
     Ok(rule)
 }
 
-fn search(
+fn search<'v>(
     alloc: Global,
     setting: Setting,
-    entries: &[Entry],
-    found: &mut Found,
+    entries: &'v [Entry],
+    found: &mut Found<'v>,
 ) -> Result<Body, Stop>
     ensures { Reads (spec.IsBody (IsFormula spec.room setting) RuleMode.Search entries.now) found.old result found.new }
 {
@@ -232,12 +232,12 @@ fn search(
     Ok(Body::Search(formula))
 }
 
-fn body(
+fn body<'v>(
     alloc: Global,
     setting: Setting,
     mode: RuleMode,
-    entries: &[Entry],
-    found: &mut Found,
+    entries: &'v [Entry],
+    found: &mut Found<'v>,
 ) -> Result<Body, Stop>
     ensures { Reads (spec.IsBody (IsFormula spec.room setting) mode entries.now) found.old result found.new }
 {
@@ -251,12 +251,12 @@ fn body(
 }
 
 /// The part of a rule in one language. The patterns found are those of the part.
-fn part(
+fn part<'v>(
     alloc: Global,
     setting: Setting,
     mode: RuleMode,
-    entries: &[Entry],
-    found: &mut Found,
+    entries: &'v [Entry],
+    found: &mut Found<'v>,
 ) -> Result<Part, Stop>
     ensures { Reads (spec.IsPart setting mode entries.now) found.old result found.new }
 {
@@ -270,13 +270,13 @@ fn part(
 }
 
 /// The parts of a rule, one for each language.
-pub fn parts(
+pub fn parts<'v>(
     alloc: Global,
     langs: &[Lang],
     constants: bool,
     mode: RuleMode,
-    entries: &[Entry],
-    found: &mut Found,
+    entries: &'v [Entry],
+    found: &mut Found<'v>,
 ) -> Result<List<Part>, Stop>
     ensures { Reads (spec.IsParts constants mode entries.now langs.now) found.old result found.new }
 {

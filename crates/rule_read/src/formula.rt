@@ -26,7 +26,7 @@ fn pattern(
     alloc: Global,
     setting: Setting,
     value: &YValue,
-    found: &mut Found,
+    found: &mut Found<'_>,
 ) -> Result<Formula, Stop>
     ensures { Reads (spec.IsPattern setting value.now) found.old result found.new }
 {
@@ -35,14 +35,18 @@ fn pattern(
 }
 
 /// The number of the regular expression that a value is.
-fn regex(alloc: Global, value: &YValue, found: &mut Found) -> Result<u32, Stop>
+fn regex<'v>(alloc: Global, value: &'v YValue, found: &mut Found<'v>) -> Result<u32, Stop>
     ensures { Reads (spec.IsRegex value.now) found.old result found.new }
 {
     let text = whole_text(alloc, value)?;
     number_of(alloc, text, found)
 }
 
-fn regex_formula(alloc: Global, value: &YValue, found: &mut Found) -> Result<Formula, Stop>
+fn regex_formula<'v>(
+    alloc: Global,
+    value: &'v YValue,
+    found: &mut Found<'v>,
+) -> Result<Formula, Stop>
     ensures { Reads (spec.IsRegexFormula value.now) found.old result found.new }
 {
     let number = regex(alloc, value, found)?;
@@ -52,14 +56,14 @@ fn regex_formula(alloc: Global, value: &YValue, found: &mut Found) -> Result<For
 /// Reads the value of a key whose value is a formula, in so many levels at most. `bare` says that a `patterns` needs no operand
 /// there.
 #[cycle(formula)]
-pub fn formula(
+pub fn formula<'v>(
     alloc: Global,
     setting: Setting,
     room: u32,
     bare: bool,
     key: FormulaKey,
-    value: &YValue,
-    found: &mut Found,
+    value: &'v YValue,
+    found: &mut Found<'v>,
 ) -> Result<Formula, Stop>
     ensures { Reads (spec.IsFormula room setting bare key value.now) found.old result found.new }
 {
@@ -75,12 +79,12 @@ pub fn formula(
 }
 
 #[cycle(formula)]
-fn either(
+fn either<'v>(
     alloc: Global,
     setting: Setting,
     room: u32,
-    value: &YValue,
-    found: &mut Found,
+    value: &'v YValue,
+    found: &mut Found<'v>,
 ) -> Result<Formula, Stop>
     ensures { Reads (spec.IsEither setting (spec.IsFormula room setting) value.now) found.old result found.new }
 {
@@ -90,12 +94,12 @@ fn either(
 }
 
 #[cycle(formula)]
-fn alternatives(
+fn alternatives<'v>(
     alloc: Global,
     setting: Setting,
     room: u32,
-    items: &[YValue],
-    found: &mut Found,
+    items: &'v [YValue],
+    found: &mut Found<'v>,
 ) -> Result<List<Formula>, Stop>
     ensures { Reads (Each (AtPlace (spec.IsAlternative setting (spec.IsFormula room setting))) 0 items.now) found.old result found.new }
 {
@@ -110,12 +114,12 @@ fn alternatives(
 
 /// An item of `pattern-either`.
 #[cycle(formula)]
-fn alternative(
+fn alternative<'v>(
     alloc: Global,
     setting: Setting,
     room: u32,
-    item: &YValue,
-    found: &mut Found,
+    item: &'v YValue,
+    found: &mut Found<'v>,
 ) -> Result<Formula, Stop>
     ensures { Reads (spec.IsAlternative setting (spec.IsFormula room setting) item.now) found.old result found.new }
 {
@@ -127,13 +131,13 @@ fn alternative(
 
 /// The value of a key in an item of `pattern-either`, where `pattern-inside` is just the formula that it holds.
 #[cycle(formula)]
-fn alternative_at(
+fn alternative_at<'v>(
     alloc: Global,
     setting: Setting,
     room: u32,
     key: ChildKey,
-    value: &YValue,
-    found: &mut Found,
+    value: &'v YValue,
+    found: &mut Found<'v>,
 ) -> Result<Formula, Stop>
     ensures { Reads (spec.IsAlternativeAt setting (spec.IsFormula room setting) key value.now) found.old result found.new }
 {
@@ -146,14 +150,14 @@ fn alternative_at(
 
 /// The formula that a map of the role holds, where just one formula key counts.
 #[cycle(formula)]
-pub fn one_formula(
+pub fn one_formula<'v>(
     alloc: Global,
     setting: Setting,
     room: u32,
     role: Role,
     bare: bool,
-    entries: &[Entry],
-    found: &mut Found,
+    entries: &'v [Entry],
+    found: &mut Found<'v>,
 ) -> Result<Formula, Stop>
     ensures { Reads (spec.IsOne (spec.IsFormulaAt (spec.IsFormula room setting) bare) role entries.now) found.old result found.new }
 {
@@ -164,14 +168,14 @@ pub fn one_formula(
 
 /// The value of a formula key, where no other key counts.
 #[cycle(formula)]
-fn formula_at(
+fn formula_at<'v>(
     alloc: Global,
     setting: Setting,
     room: u32,
     bare: bool,
     key: ChildKey,
-    value: &YValue,
-    found: &mut Found,
+    value: &'v YValue,
+    found: &mut Found<'v>,
 ) -> Result<Formula, Stop>
     ensures { Reads (spec.IsFormulaAt (spec.IsFormula room setting) bare key value.now) found.old result found.new }
 {
@@ -183,12 +187,12 @@ fn formula_at(
 
 /// The value of `pattern-inside`, `pattern-not` or `pattern-not-inside`: a pattern, or a map with one formula.
 #[cycle(formula)]
-fn held(
+fn held<'v>(
     alloc: Global,
     setting: Setting,
     room: u32,
-    value: &YValue,
-    found: &mut Found,
+    value: &'v YValue,
+    found: &mut Found<'v>,
 ) -> Result<Formula, Stop>
     ensures { Reads (spec.IsHeld setting (spec.IsFormula room setting) value.now) found.old result found.new }
 {
@@ -200,12 +204,12 @@ fn held(
 
 /// A map with one formula.
 #[cycle(formula)]
-pub fn mapped(
+pub fn mapped<'v>(
     alloc: Global,
     setting: Setting,
     room: u32,
-    value: &YValue,
-    found: &mut Found,
+    value: &'v YValue,
+    found: &mut Found<'v>,
 ) -> Result<Formula, Stop>
     ensures { Reads (spec.IsMapped (spec.IsFormula room setting) value.now) found.old result found.new }
 {
@@ -214,13 +218,13 @@ pub fn mapped(
 }
 
 #[cycle(formula)]
-fn patterns(
+fn patterns<'v>(
     alloc: Global,
     setting: Setting,
     room: u32,
     bare: bool,
-    value: &YValue,
-    found: &mut Found,
+    value: &'v YValue,
+    found: &mut Found<'v>,
 ) -> Result<Formula, Stop>
     ensures { Reads (spec.IsPatterns setting (spec.IsFormula room setting) bare value.now) found.old result found.new }
 {
@@ -230,12 +234,12 @@ fn patterns(
 }
 
 #[cycle(formula)]
-fn children(
+fn children<'v>(
     alloc: Global,
     setting: Setting,
     room: u32,
-    items: &[YValue],
-    found: &mut Found,
+    items: &'v [YValue],
+    found: &mut Found<'v>,
 ) -> Result<List<Child>, Stop>
     ensures { Reads (Each (AtPlace (spec.IsChild setting (spec.IsFormula room setting))) 0 items.now) found.old result found.new }
 {
@@ -279,12 +283,12 @@ fn has_operand(children: &[Child]) -> bool
 
 /// An item of `patterns`.
 #[cycle(formula)]
-fn child(
+fn child<'v>(
     alloc: Global,
     setting: Setting,
     room: u32,
-    item: &YValue,
-    found: &mut Found,
+    item: &'v YValue,
+    found: &mut Found<'v>,
 ) -> Result<Child, Stop>
     ensures { Reads (spec.IsChild setting (spec.IsFormula room setting) item.now) found.old result found.new }
 {
@@ -296,13 +300,13 @@ fn child(
 
 /// The value of a key in an item of `patterns`.
 #[cycle(formula)]
-fn child_at(
+fn child_at<'v>(
     alloc: Global,
     setting: Setting,
     room: u32,
     key: ChildKey,
-    value: &YValue,
-    found: &mut Found,
+    value: &'v YValue,
+    found: &mut Found<'v>,
 ) -> Result<Child, Stop>
     ensures { Reads (spec.IsChildAt setting (spec.IsFormula room setting) key value.now) found.old result found.new }
 {
@@ -337,7 +341,7 @@ fn child_at(
     }
 }
 
-fn meta_regex(alloc: Global, value: &YValue, found: &mut Found) -> Result<Child, Stop>
+fn meta_regex<'v>(alloc: Global, value: &'v YValue, found: &mut Found<'v>) -> Result<Child, Stop>
     ensures { Reads (spec.IsMetaRegex value.now) found.old result found.new }
 {
     let entries = map_of(alloc, Role::MetaRegex, value)?;
@@ -368,12 +372,12 @@ fn meta_compare(alloc: Global, value: &YValue) -> Result<Child, Stop>
 }
 
 #[cycle(formula)]
-fn meta_pattern(
+fn meta_pattern<'v>(
     alloc: Global,
     setting: Setting,
     room: u32,
-    value: &YValue,
-    found: &mut Found,
+    value: &'v YValue,
+    found: &mut Found<'v>,
 ) -> Result<Child, Stop>
     ensures { Reads (spec.IsMetaPattern (spec.IsFormula room setting) value.now) found.old result found.new }
 {
@@ -427,12 +431,12 @@ fn focus(alloc: Global, value: &YValue) -> Result<List<Text>, Stop>
 }
 
 /// An item of `pattern-propagators`.
-pub fn propagator(
+pub fn propagator<'v>(
     alloc: Global,
     setting: Setting,
     room: u32,
-    item: &YValue,
-    found: &mut Found,
+    item: &'v YValue,
+    found: &mut Found<'v>,
 ) -> Result<Propagator, Stop>
     ensures { Reads (spec.IsPropagator (spec.IsFormula room setting) item.now) found.old result found.new }
 {

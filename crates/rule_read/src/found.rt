@@ -1,22 +1,21 @@
 //! The patterns and regular expressions that were found so far.
 
-ghost use Rattle.std.specs.Prelude.{◌≡◌};
 ghost use Rattle.rule_read.specs.Readings.{Reads};
 ghost use Rattle.rule_read.specs.Finds as spec;
 
 use crate::fault::RuleFaultKind;
 use crate::stop::{Stop, here};
-use crate::value::is;
-use node_tree::{Lang, List, Pattern, Text};
+use crate::texts::Texts;
+use node_tree::{Lang, List, Pattern};
 use pattern_read::{PatternFault, read_pattern};
 use rule_form::Formula;
 use std::alloc::Global;
 
 /// The patterns of a part and the regular expressions of its rule, as far as they were found.
 #[derive(Drop)]
-pub struct Found {
+pub struct Found<'v> {
     pub patterns: List<Pattern>,
-    pub texts: List<Text>,
+    pub texts: Texts<'v>,
 }
 
 /// How patterns are read: in which language, and whether literals match names that are known to hold them.
@@ -26,43 +25,15 @@ pub struct Setting {
     pub constants: bool,
 }
 
-/// The place of a text among some, from 0, if it is among them.
-fn place_of(text: &str, texts: &[Text]) -> usize
-    ensures { result ≡ spec.place_of text.now texts.now }
-{
-    for (place, known) in texts.iter().enumerate() {
-        if is(known.as_str(), text) {
-            return place;
-        }
-    }
-    texts.len()
-}
-
-/// Adds a text that isn't there.
-fn add_text(alloc: Global, text: &str, found: &mut Found) -> Result<(), Stop>
-    ensures { spec.IsAdded text.now found.old result found.new }
-{
-    found.texts.push(Text::from_str(alloc, text)?)?;
-    Ok(())
-}
-
 /// The number of the regular expression among those found, from 0. A new one comes last.
-pub fn number_of(alloc: Global, text: &str, found: &mut Found) -> Result<u32, Stop>
+pub fn number_of<'v>(alloc: Global, text: &'v str, found: &mut Found<'v>) -> Result<u32, Stop>
     ensures { Reads (spec.IsNumber text.now) found.old result found.new }
 {
-    let place = place_of(text, found.texts.as_slice());
-    let Ok(number) = u32::try_from(place) else {
-        return Err(Stop::Memory);
-    };
-    if place < found.texts.len() {
-        return Ok(number);
-    }
-    add_text(alloc, text, found)?;
-    Ok(number)
+    Ok(found.texts.number_of(alloc, text)?)
 }
 
 /// Adds a pattern, as the setting has it.
-fn next_leaf(setting: Setting, pattern: Pattern, found: &mut Found) -> Result<Formula, Stop>
+fn next_leaf(setting: Setting, pattern: Pattern, found: &mut Found<'_>) -> Result<Formula, Stop>
     ensures { Reads (spec.IsNextLeaf setting pattern) found.old result found.new }
 {
     let Ok(number) = u32::try_from(found.patterns.len()) else {
@@ -90,7 +61,12 @@ fn no_pattern(alloc: Global, fault: PatternFault) -> Stop
 }
 
 /// Reads a text as a pattern, which comes last among those found.
-pub fn leaf(alloc: Global, setting: Setting, text: &str, found: &mut Found) -> Result<Formula, Stop>
+pub fn leaf(
+    alloc: Global,
+    setting: Setting,
+    text: &str,
+    found: &mut Found<'_>,
+) -> Result<Formula, Stop>
     ensures { Reads (spec.IsLeaf setting text.now) found.old result found.new }
 {
     match read_pattern(alloc, setting.lang, text) {

@@ -11,6 +11,7 @@ mod key;
 mod name;
 mod read;
 mod stop;
+mod texts;
 mod value;
 
 pub use fault::{RuleFault, RuleFaultKind, RuleOutcome, RulesFault};

@@ -14,6 +14,7 @@ use crate::fault::{RuleFault, RuleFaultKind, RuleOutcome, RulesFault};
 use crate::found::Found;
 use crate::head::{id, languages, mode, severity};
 use crate::stop::{Misfit, Stop, at, here};
+use crate::texts::Texts;
 use crate::value::{Entry, entries_of, list_of, look, required_text};
 use node_tree::{List, Memory, Text};
 use rule_form::Rule;
@@ -22,12 +23,12 @@ use std::collections::BTreeSet;
 use yaml_read::YValue;
 
 /// Nothing is found yet.
-fn nothing(alloc: Global) -> Found
+fn nothing<'v>(alloc: Global) -> Found<'v>
     ensures { result ≡ spec.nothing }
 {
     Found {
         patterns: List::new(alloc),
-        texts: List::new(alloc),
+        texts: Texts::new(alloc),
     }
 }
 
@@ -63,7 +64,7 @@ fn rule(alloc: Global, id: &str, entries: &[Entry]) -> Result<Rule, Stop>
         include: paths.include,
         exclude: paths.exclude,
         unread,
-        texts: found.texts,
+        texts: found.texts.into_list(),
         parts,
     })
 }

@@ -32,4 +32,4 @@ returns-in_err-check_body c =
 pub returns : goal.returns
 returns c =
     let parts = parts_as c.in_ok-mode.mode c.args.entries.now c.constants-constants.result (constants_of c.args.entries.now) c.as_slice.result.now c.in_ok-langs.langs c.nothing-found.result (Ok (c.in_ok-parts.parts, c.parts.new.found)) c.constants-constants.ensures c.as_slice.ensures c.nothing-found.ensures c.in_ok-parts.ensures in
-    whole c.args.id.now c.args.entries.now c.in_ok-message.message.now c.in_ok-message.ensures c.in_ok-severity.severity c.in_ok-severity.ensures c.in_ok-langs.langs c.in_ok-langs.ensures c.in_ok-mode.mode c.in_ok-mode.ensures c.in_ok-check_body.field-0 c.in_ok-check_body.ensures c.in_ok-parts.parts c.parts.new.found parts c.in_ok-fix.fix c.in_ok-fix.ensures c.in_ok-paths.paths c.in_ok-paths.ensures c.in_ok-unread.unread c.in_ok-unread.ensures c.in_ok-id.id c.in_ok-message-2.message c.in_ok-id.ensures c.in_ok-message-2.ensures
+    whole c.args.id.now c.args.entries.now c.in_ok-message.message.now c.in_ok-message.ensures c.in_ok-severity.severity c.in_ok-severity.ensures c.in_ok-langs.langs c.in_ok-langs.ensures c.in_ok-mode.mode c.in_ok-mode.ensures c.in_ok-check_body.field-0 c.in_ok-check_body.ensures c.in_ok-parts.parts c.parts.new.found parts c.in_ok-fix.fix c.in_ok-fix.ensures c.in_ok-paths.paths c.in_ok-paths.ensures c.in_ok-unread.unread c.in_ok-unread.ensures c.in_ok-id.id c.in_ok-message-2.message c.into_list.result c.in_ok-id.ensures c.in_ok-message-2.ensures c.into_list.ensures
