@@ -15,8 +15,7 @@ use Rattle.rule_read.specs.declared.stop.Stop.{Stop}
 use Rattle.rule_read.specs.declared.stop.Stop.TheVariants.{Memory, Bad}
 use Rattle.rule_read.specs.Misfits.{here}
 use Rattle.rule_read.specs.Readings.{Outcome, Only, Reads}
-use Rattle.rule_read.specs.TextPlaces.{place_of, with_text}
-use Rattle.rule_read.specs.Finds.{IsNextLeaf, IsLeaf, IsCompared, IsNumber, IsUnwritten, noting}
+use Rattle.rule_read.specs.Finds.{IsNextLeaf, IsLeaf, IsCompared, IsUnwritten}
 
 module _ (setting : Setting) (text : List ℕ) (s : Found) where
   module _ (p : Pattern) (is : IsPatternOf setting.lang text p) (one : (q : Pattern) → IsPatternOf setting.lang text q → p ≡ q) where
@@ -65,15 +64,3 @@ module _ (text : List ℕ) (s : Found) where
 
   pub uncompared : (stop : Stop) (t : Found) → ((c : Comparison) → IsComparisonOf text c → ⊥) → stop ≡ Bad (here BadComparison) → Reads (IsCompared text) s (Err stop) t
   uncompared stop t none e = subst (λ (z : Stop). Reads (IsCompared text) s (Err z) t) (sym e) (not_compared none)
-
-module _ (text : List ℕ) (s t : Found) (number : ℕ) (is : number ≡ place_of text s.texts) (texts : t.texts ≡ with_text text s.texts) (patterns : t.patterns ≡ s.patterns) where
-  same : t ≡ noting text s
-  same =
-      let f : List Pattern → Found = λ ps. record { patterns = ps; texts = t.texts } in
-      let g : List (List ℕ) → Found = λ ts. record { patterns = s.patterns; texts = ts } in
-      ap f patterns ∙ ap g texts
-
-  pub numbered : Only (IsNumber text s) (Ok (number, t))
-  numbered =
-      let e : Ok (number, t) ≡ Ok (place_of text s.texts, noting text s) = ap (λ (n : ℕ). Ok (n, t)) is ∙ ap (λ (z : Found). Ok (place_of text s.texts, z)) same in
-      record { is = e; one = λ p h. h ∙ sym e }
