@@ -24,8 +24,12 @@ mod word;
 pub use classify::classified;
 pub use law::{at_most_one_tree, spans_lie};
 pub use limits::shallow_end;
+pub use lists::{Listed, list};
+pub use look::{is, is_among, span_at, start_at, text_at};
+pub use make::{absent, graft_one, graft_two, id, leaf, or_absent, over, over_one, over_two};
 pub use part::Part;
 pub use read::{CLevel, read_c, read_level};
+pub use settle::{NAMES, SPEC_WORDS, behind_stars};
 pub use word::{Token, Word};
 
 #[cfg(test)]

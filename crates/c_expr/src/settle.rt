@@ -32,7 +32,7 @@ const MOST_STARS: usize = 500;
 
 /// The place behind the `*` that stand there.
 #[tactic(auto, using(crate::proofs::Stars::stars_turn, crate::proofs::Stars::stars_turned))]
-fn behind_stars(tokens: &[Token<'_>], at: usize) -> usize
+pub fn behind_stars(tokens: &[Token<'_>], at: usize) -> usize
     requires { at ≤ length tokens.now }
     ensures place { result ≡ spec.behind_stars (source tokens.now).cls spec.most_stars at }
     ensures within { result ≤ length tokens.now }

@@ -4,7 +4,7 @@ use Rattle.std.specs.Prelude.{◌⊎◌}
 use Rattle.std.proofs.lemmas.List.{get_or_past}
 use Rattle.py_expr.specs.declared.item.Item.{Item}
 use Rattle.py_expr.specs.declared.word.Word.{Word}
-use Rattle.py_expr.specs.declared.word.Word.TheVariants.{Other, Name, Meta, Number, Const, Ellipsis, Dots, MetaDots, Str, FStr, StrAny, LeftRound, RightRound, LeftSquare, RightSquare, LeftBrace, BraceDots, RightBrace, Comma, CommaDots, Colon, Dot, Equal, Walrus, Times, Slash, Factor, Sign, Tilde, Power, Shift, Ampersand, Caret, Bar, Compare, In, Is, Not, And, Or, If, Else, Lambda, For, Async, Await, Yield, From, DeepOpen, DeepClose}
+use Rattle.py_expr.specs.declared.word.Word.TheVariants.{Other, Name, Meta, Number, Const, Ellipsis, Dots, MetaDots, Str, FStr, StrAny, LeftRound, RightRound, LeftSquare, RightSquare, LeftBrace, BraceDots, RightBrace, Comma, CommaDots, Colon, Dot, Equal, Walrus, Times, Slash, Factor, Sign, Tilde, Power, Shift, Ampersand, Caret, Bar, Compare, In, Is, Not, And, Or, If, Else, Lambda, For, Async, Await, Yield, From, DeepOpen, DeepClose, At, Semicolon, Arrow, Augmented, Newline, Indent, Dedent, End, As, Assert, Break, Class, Continue, Def, Del, Elif, Except, Finally, Global, Import, Nonlocal, Pass, Raise, Return, Try, While, With}
 use Rattle.py_expr.specs.Words.{class}
 use Rattle.py_expr.specs.Build.{token_at, end_item}
 
@@ -61,6 +61,33 @@ class_zero Yield h = absurd (omega (arith, h))
 class_zero From h = absurd (omega (arith, h))
 class_zero DeepOpen h = absurd (omega (arith, h))
 class_zero DeepClose h = absurd (omega (arith, h))
+class_zero At h = absurd (omega (arith, h))
+class_zero Semicolon h = absurd (omega (arith, h))
+class_zero Arrow h = absurd (omega (arith, h))
+class_zero Augmented h = absurd (omega (arith, h))
+class_zero Newline h = absurd (omega (arith, h))
+class_zero Indent h = absurd (omega (arith, h))
+class_zero Dedent h = absurd (omega (arith, h))
+class_zero End h = absurd (omega (arith, h))
+class_zero As h = absurd (omega (arith, h))
+class_zero Assert h = absurd (omega (arith, h))
+class_zero Break h = absurd (omega (arith, h))
+class_zero Class h = absurd (omega (arith, h))
+class_zero Continue h = absurd (omega (arith, h))
+class_zero Def h = absurd (omega (arith, h))
+class_zero Del h = absurd (omega (arith, h))
+class_zero Elif h = absurd (omega (arith, h))
+class_zero Except h = absurd (omega (arith, h))
+class_zero Finally h = absurd (omega (arith, h))
+class_zero Global h = absurd (omega (arith, h))
+class_zero Import h = absurd (omega (arith, h))
+class_zero Nonlocal h = absurd (omega (arith, h))
+class_zero Pass h = absurd (omega (arith, h))
+class_zero Raise h = absurd (omega (arith, h))
+class_zero Return h = absurd (omega (arith, h))
+class_zero Try h = absurd (omega (arith, h))
+class_zero While h = absurd (omega (arith, h))
+class_zero With h = absurd (omega (arith, h))
 
 same_number : (a b : ℕ) → eqb a b ≡ true → a ≡ b
 same_number a b h = grind arith

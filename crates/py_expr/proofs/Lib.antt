@@ -1,4 +1,5 @@
 pub mod Classes
+pub mod Idents
 pub mod Passes
 pub mod Closes
 pub mod Tokens

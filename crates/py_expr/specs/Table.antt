@@ -169,7 +169,7 @@ abbrev pub commas : List ℕ
 commas = class w.Comma ∷ class w.CommaDots ∷ []
 
 abbrev pub factors : List ℕ
-factors = class w.Times ∷ class w.Slash ∷ class w.Factor ∷ []
+factors = class w.Times ∷ class w.Slash ∷ class w.Factor ∷ class w.At ∷ []
 
 abbrev pub comparisons : List ℕ
 comparisons = class w.Compare ∷ class w.In ∷ []

@@ -8,7 +8,7 @@ use Rattle.py_lex.specs.declared.token.PyToken.{PyToken, out-PyToken}
 use Rattle.py_lex.specs.declared.token.PyWord.{PyWord}
 use Rattle.py_lex.specs.declared.token.PyWord.TheVariants as lexed
 use Rattle.py_expr.specs.declared.word.Word.{Word}
-use Rattle.py_expr.specs.declared.word.Word.TheVariants.{Other, Name, Meta, Number, Const, Ellipsis, Dots, MetaDots, Str, FStr, StrAny, LeftRound, RightRound, LeftSquare, RightSquare, LeftBrace, BraceDots, RightBrace, Comma, CommaDots, Colon, Dot, Equal, Walrus, Times, Slash, Factor, Sign, Tilde, Power, Shift, Ampersand, Caret, Bar, Compare, In, Is, Not, And, Or, If, Else, Lambda, For, Async, Await, Yield, From, DeepOpen, DeepClose}
+use Rattle.py_expr.specs.declared.word.Word.TheVariants.{Other, Name, Meta, Number, Const, Ellipsis, Dots, MetaDots, Str, FStr, StrAny, LeftRound, RightRound, LeftSquare, RightSquare, LeftBrace, BraceDots, RightBrace, Comma, CommaDots, Colon, Dot, Equal, Walrus, Times, Slash, Factor, Sign, Tilde, Power, Shift, Ampersand, Caret, Bar, Compare, In, Is, Not, And, Or, If, Else, Lambda, For, Async, Await, Yield, From, DeepOpen, DeepClose, At, Semicolon, Arrow, Augmented, Newline, Indent, Dedent, End, As, Assert, Break, Class, Continue, Def, Del, Elif, Except, Finally, Global, Import, Nonlocal, Pass, Raise, Return, Try, While, With}
 
 -- the class of a word in the grammar
 unfoldable pub class : Word → ℕ
@@ -62,8 +62,35 @@ class Yield = 46
 class From = 47
 class DeepOpen = 48
 class DeepClose = 49
+class At = 50
+class Semicolon = 51
+class Arrow = 52
+class Augmented = 53
+class Newline = 54
+class Indent = 55
+class Dedent = 56
+class End = 57
+class As = 58
+class Assert = 59
+class Break = 60
+class Class = 61
+class Continue = 62
+class Def = 63
+class Del = 64
+class Elif = 65
+class Except = 66
+class Finally = 67
+class Global = 68
+class Import = 69
+class Nonlocal = 70
+class Pass = 71
+class Raise = 72
+class Return = 73
+class Try = 74
+class While = 75
+class With = 76
 
--- what stands for a spelling in a list of pairs, or the word of no expression
+-- what stands for a spelling in a list of pairs, or the word of no line of the grammar
 abbrev pub by_byte : List (ℕ × Word) → ℕ → Word
 by_byte [] c = Other
 by_byte (row ∷ rows) c = if c == row.0 then row.1 else by_byte rows c
@@ -72,9 +99,9 @@ abbrev pub by_text : List (List ℕ × Word) → List ℕ → Word
 by_text [] text = Other
 by_text (row ∷ rows) text = if bytes_eq text row.0 then row.1 else by_text rows text
 
--- the marks of one byte, by its number in ASCII: ( ) [ ] { } , : . = * / % @ + - ~ & ^ | < >
+-- the marks of one byte, by its number in ASCII: ( ) [ ] { } , : . = * / % @ + - ~ & ^ | < > ;
 abbrev pub short_marks : List (ℕ × Word)
-short_marks = (40, LeftRound) ∷ (41, RightRound) ∷ (91, LeftSquare) ∷ (93, RightSquare) ∷ (123, LeftBrace) ∷ (125, RightBrace) ∷ (44, Comma) ∷ (58, Colon) ∷ (46, Dot) ∷ (61, Equal) ∷ (42, Times) ∷ (47, Slash) ∷ (37, Factor) ∷ (64, Factor) ∷ (43, Sign) ∷ (45, Sign) ∷ (126, Tilde) ∷ (38, Ampersand) ∷ (94, Caret) ∷ (124, Bar) ∷ (60, Compare) ∷ (62, Compare) ∷ []
+short_marks = (40, LeftRound) ∷ (41, RightRound) ∷ (91, LeftSquare) ∷ (93, RightSquare) ∷ (123, LeftBrace) ∷ (125, RightBrace) ∷ (44, Comma) ∷ (58, Colon) ∷ (46, Dot) ∷ (61, Equal) ∷ (42, Times) ∷ (47, Slash) ∷ (37, Factor) ∷ (64, At) ∷ (43, Sign) ∷ (45, Sign) ∷ (126, Tilde) ∷ (38, Ampersand) ∷ (94, Caret) ∷ (124, Bar) ∷ (60, Compare) ∷ (62, Compare) ∷ (59, Semicolon) ∷ []
 
 -- a word that patterns alone have
 abbrev pub in_pattern : Mode → Word → Word
@@ -87,15 +114,15 @@ dots_word Pattern = Dots
 
 -- the marks of several bytes
 abbrev pub long_marks : Mode → List (List ℕ × Word)
-long_marks mode = (codes ":=", Walrus) ∷ (codes "**", Power) ∷ (codes "//", Factor) ∷ (codes "==", Compare) ∷ (codes "!=", Compare) ∷ (codes "<=", Compare) ∷ (codes ">=", Compare) ∷ (codes "<<", Shift) ∷ (codes ">>", Shift) ∷ (codes "...", dots_word mode) ∷ (codes "<...", in_pattern mode DeepOpen) ∷ (codes "...>", in_pattern mode DeepClose) ∷ []
+long_marks mode = (codes ":=", Walrus) ∷ (codes "**", Power) ∷ (codes "//", Factor) ∷ (codes "==", Compare) ∷ (codes "!=", Compare) ∷ (codes "<=", Compare) ∷ (codes ">=", Compare) ∷ (codes "<<", Shift) ∷ (codes ">>", Shift) ∷ (codes "...", dots_word mode) ∷ (codes "<...", in_pattern mode DeepOpen) ∷ (codes "...>", in_pattern mode DeepClose) ∷ (codes "->", Arrow) ∷ (codes "+=", Augmented) ∷ (codes "-=", Augmented) ∷ (codes "*=", Augmented) ∷ (codes "/=", Augmented) ∷ (codes "%=", Augmented) ∷ (codes "@=", Augmented) ∷ (codes "&=", Augmented) ∷ (codes "|=", Augmented) ∷ (codes "^=", Augmented) ∷ (codes "//=", Augmented) ∷ (codes ">>=", Augmented) ∷ (codes "<<=", Augmented) ∷ (codes "**=", Augmented) ∷ []
 
 abbrev pub mark_word : Mode → List ℕ → Word
 mark_word mode (c ∷ []) = by_byte short_marks c
 mark_word mode text = by_text (long_marks mode) text
 
--- the keywords of expressions
+-- the keywords
 abbrev pub keywords : List (List ℕ × Word)
-keywords = (codes "in", In) ∷ (codes "is", Is) ∷ (codes "not", Not) ∷ (codes "and", And) ∷ (codes "or", Or) ∷ (codes "if", If) ∷ (codes "else", Else) ∷ (codes "None", Const) ∷ (codes "True", Const) ∷ (codes "False", Const) ∷ (codes "lambda", Lambda) ∷ (codes "for", For) ∷ (codes "async", Async) ∷ (codes "await", Await) ∷ (codes "yield", Yield) ∷ (codes "from", From) ∷ []
+keywords = (codes "in", In) ∷ (codes "is", Is) ∷ (codes "not", Not) ∷ (codes "and", And) ∷ (codes "or", Or) ∷ (codes "if", If) ∷ (codes "else", Else) ∷ (codes "None", Const) ∷ (codes "True", Const) ∷ (codes "False", Const) ∷ (codes "lambda", Lambda) ∷ (codes "for", For) ∷ (codes "async", Async) ∷ (codes "await", Await) ∷ (codes "yield", Yield) ∷ (codes "from", From) ∷ (codes "as", As) ∷ (codes "assert", Assert) ∷ (codes "break", Break) ∷ (codes "class", Class) ∷ (codes "continue", Continue) ∷ (codes "def", Def) ∷ (codes "del", Del) ∷ (codes "elif", Elif) ∷ (codes "except", Except) ∷ (codes "finally", Finally) ∷ (codes "global", Global) ∷ (codes "import", Import) ∷ (codes "nonlocal", Nonlocal) ∷ (codes "pass", Pass) ∷ (codes "raise", Raise) ∷ (codes "return", Return) ∷ (codes "try", Try) ∷ (codes "while", While) ∷ (codes "with", With) ∷ []
 
 -- a string whose content is `...` and that has no prefix but `u`
 abbrev pub dots_strings : List (List ℕ)
@@ -145,6 +172,10 @@ word_by mode lexed.Str text after = string_word mode text
 word_by mode lexed.Op text after = before_dots mode (mark_word mode text) after
 word_by mode lexed.Meta text after = in_pattern mode Meta
 word_by mode lexed.MetaDots text after = in_pattern mode MetaDots
+word_by mode lexed.Newline text after = Newline
+word_by mode lexed.Indent text after = Indent
+word_by mode lexed.Dedent text after = Dedent
+word_by mode lexed.End text after = End
 word_by mode _ text after = Other
 
 -- the word of a token before some others

@@ -15,8 +15,17 @@ mod run;
 mod strings;
 mod word;
 
+pub use build::{absent, empty_list, ident, leaf, node_of, one, over, text_at, three, two};
+pub use inside::items;
+pub use item::Item;
 pub use level::PyLevel;
-pub use run::read_py;
+pub use limits::{LIMIT, is_shallow, shallow_end};
+pub use look::{
+    end_before, is, is_comma, is_dots, is_name, start_at, starts_arg, starts_param,
+    starts_star, starts_test, word_at,
+};
+pub use run::{read_level, read_py};
+pub use word::Word;
 
 #[cfg(test)]
 mod tests;

@@ -22,37 +22,40 @@ use std::alloc::Global;
 /// How many steps deeper the reader may go: 500 for depth, 500 for brackets, and two.
 const ROOM: u32 = 1002;
 
-/// What a level reads from a place.
-fn at_level(
+/// Reads a level from an item on: its tree, and the number of the item behind it. The reader may go so many steps deeper.
+///
+/// This is the reader by the table itself: it asks for no limits, and not whether the run is closed.
+pub fn read_level(
     alloc: Global,
     items: &[Item<'_>],
     level: PyLevel,
+    room: u32,
     at: usize,
 ) -> Result<(Node, usize), ReadFault>
     requires { at ≤ length items.now }
     ensures within { IfOk result (λ x. x.1 ≤ length items.now) }
-    ensures gives { Gives reading.one result (reading.level items.now 1002 (level_at level) at) }
+    ensures gives { Gives reading.one result (reading.level items.now room (level_at level) at) }
 {
     match level {
-        PyLevel::Exprs => read::exprs(alloc, items, ROOM, at),
-        PyLevel::Star => read::star(alloc, items, ROOM, at),
-        PyLevel::Named => read::named(alloc, items, ROOM, at),
-        PyLevel::Test => read::test(alloc, items, ROOM, at),
-        PyLevel::Or => read::binary(alloc, items, Binary::Or, ROOM, at),
-        PyLevel::And => read::binary(alloc, items, Binary::And, ROOM, at),
-        PyLevel::Not => read::not(alloc, items, ROOM, at),
-        PyLevel::Cmp => read::cmp(alloc, items, ROOM, at),
-        PyLevel::Bor => read::binary(alloc, items, Binary::Bar, ROOM, at),
-        PyLevel::Unary => read::unary(alloc, items, ROOM, at),
-        PyLevel::Power => read::power(alloc, items, ROOM, at),
-        PyLevel::Await => read::awaited(alloc, items, ROOM, at),
-        PyLevel::Prim => read::prim(alloc, items, ROOM, at),
-        PyLevel::Atom => read::atom(alloc, items, ROOM, at),
-        PyLevel::Yield => read::yields(alloc, items, ROOM, at),
-        PyLevel::Targs => read::targs(alloc, items, ROOM, at),
-        PyLevel::Target => read::target(alloc, items, ROOM, at),
-        PyLevel::Params => read::params(alloc, items, ROOM, at),
-        PyLevel::Args => read::args(alloc, items, ROOM, at),
+        PyLevel::Exprs => read::exprs(alloc, items, room, at),
+        PyLevel::Star => read::star(alloc, items, room, at),
+        PyLevel::Named => read::named(alloc, items, room, at),
+        PyLevel::Test => read::test(alloc, items, room, at),
+        PyLevel::Or => read::binary(alloc, items, Binary::Or, room, at),
+        PyLevel::And => read::binary(alloc, items, Binary::And, room, at),
+        PyLevel::Not => read::not(alloc, items, room, at),
+        PyLevel::Cmp => read::cmp(alloc, items, room, at),
+        PyLevel::Bor => read::binary(alloc, items, Binary::Bar, room, at),
+        PyLevel::Unary => read::unary(alloc, items, room, at),
+        PyLevel::Power => read::power(alloc, items, room, at),
+        PyLevel::Await => read::awaited(alloc, items, room, at),
+        PyLevel::Prim => read::prim(alloc, items, room, at),
+        PyLevel::Atom => read::atom(alloc, items, room, at),
+        PyLevel::Yield => read::yields(alloc, items, room, at),
+        PyLevel::Targs => read::targs(alloc, items, room, at),
+        PyLevel::Target => read::target(alloc, items, room, at),
+        PyLevel::Params => read::params(alloc, items, room, at),
+        PyLevel::Args => read::args(alloc, items, room, at),
     }
 }
 
@@ -68,7 +71,7 @@ fn read_items(
     ensures only { (mode : mode_of) (n : node) (to : ℕ) → AreOf mode items.now → IsRunTree mode items.now level from n to → Gives (λ x. x) result (Some (n, to)) }
 {
     let shallow = &items[..shallow_end(items, from)];
-    let (node, end) = at_level(alloc, shallow, level, from)?;
+    let (node, end) = read_level(alloc, shallow, level, ROOM, from)?;
     if !is_shallow(&node, LIMIT) {
         return Err(ReadFault::NoTree);
     }
@@ -82,7 +85,7 @@ pub fn whole(alloc: Global, items: &[Item<'_>]) -> Result<Option<Node>, Memory>
     if shallow_end(items, 0) < items.len() {
         return Ok(None);
     }
-    match at_level(alloc, items, PyLevel::Exprs, 0) {
+    match read_level(alloc, items, PyLevel::Exprs, ROOM, 0) {
         Ok((node, end)) => {
             if end < items.len() {
                 return Ok(None);

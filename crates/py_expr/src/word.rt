@@ -7,10 +7,10 @@ use lexing::is_among;
 use node_tree::Mode;
 use py_lex::{PyToken, PyWord};
 
-/// What a token is for the grammar of expressions.
+/// What a token is for the grammar of expressions and of statements.
 #[derive(Clone, Copy, Debug, PartialEq, Eq)]
 pub enum Word {
-    /// What stands in no expression, and what stands behind the last token.
+    /// What stands in no line of the grammar, and what stands behind the last token.
     Other,
     Name,
     Meta,
@@ -45,7 +45,7 @@ pub enum Word {
     /// `*`
     Times,
     Slash,
-    /// `@`, `//` and `%`.
+    /// `//` and `%`.
     Factor,
     /// `+` and `-`.
     Sign,
@@ -75,6 +75,40 @@ pub enum Word {
     DeepOpen,
     /// The `...>` of a pattern.
     DeepClose,
+    /// `@`
+    At,
+    /// `;`
+    Semicolon,
+    /// `->`
+    Arrow,
+    /// `+=` and the like.
+    Augmented,
+    /// The end of a line.
+    Newline,
+    Indent,
+    Dedent,
+    /// The end of the text.
+    End,
+    // The keywords of statements.
+    As,
+    Assert,
+    Break,
+    Class,
+    Continue,
+    Def,
+    Del,
+    Elif,
+    Except,
+    Finally,
+    Global,
+    Import,
+    Nonlocal,
+    Pass,
+    Raise,
+    Return,
+    Try,
+    While,
+    With,
 }
 
 /// The word of a mark of one byte.
@@ -95,7 +129,7 @@ fn short_mark(byte: u8) -> Word
         b'*' => Word::Times,
         b'/' => Word::Slash,
         b'%' => Word::Factor,
-        b'@' => Word::Factor,
+        b'@' => Word::At,
         b'+' => Word::Sign,
         b'-' => Word::Sign,
         b'~' => Word::Tilde,
@@ -104,6 +138,7 @@ fn short_mark(byte: u8) -> Word
         b'|' => Word::Bar,
         b'<' => Word::Compare,
         b'>' => Word::Compare,
+        b';' => Word::Semicolon,
         _ => Word::Other,
     }
 }
@@ -134,6 +169,20 @@ fn long_mark(mode: Mode, text: &str) -> Word
             Mode::Text => Word::Other,
             Mode::Pattern => Word::DeepClose,
         },
+        "->" => Word::Arrow,
+        "+=" => Word::Augmented,
+        "-=" => Word::Augmented,
+        "*=" => Word::Augmented,
+        "/=" => Word::Augmented,
+        "%=" => Word::Augmented,
+        "@=" => Word::Augmented,
+        "&=" => Word::Augmented,
+        "|=" => Word::Augmented,
+        "^=" => Word::Augmented,
+        "//=" => Word::Augmented,
+        ">>=" => Word::Augmented,
+        "<<=" => Word::Augmented,
+        "**=" => Word::Augmented,
         _ => Word::Other,
     }
 }
@@ -169,6 +218,25 @@ fn keyword_word(text: &str) -> Word
         "await" => Word::Await,
         "yield" => Word::Yield,
         "from" => Word::From,
+        "as" => Word::As,
+        "assert" => Word::Assert,
+        "break" => Word::Break,
+        "class" => Word::Class,
+        "continue" => Word::Continue,
+        "def" => Word::Def,
+        "del" => Word::Del,
+        "elif" => Word::Elif,
+        "except" => Word::Except,
+        "finally" => Word::Finally,
+        "global" => Word::Global,
+        "import" => Word::Import,
+        "nonlocal" => Word::Nonlocal,
+        "pass" => Word::Pass,
+        "raise" => Word::Raise,
+        "return" => Word::Return,
+        "try" => Word::Try,
+        "while" => Word::While,
+        "with" => Word::With,
         _ => Word::Other,
     }
 }
@@ -290,6 +358,10 @@ pub fn word_of(mode: Mode, token: &PyToken, after: &[PyToken]) -> Word
         PyWord::Op => before_dots(mode, mark_word(mode, token.text.as_str()), after),
         PyWord::Meta => in_pattern(mode, Word::Meta),
         PyWord::MetaDots => in_pattern(mode, Word::MetaDots),
+        PyWord::Newline => Word::Newline,
+        PyWord::Indent => Word::Indent,
+        PyWord::Dedent => Word::Dedent,
+        PyWord::End => Word::End,
         _ => Word::Other,
     }
 }

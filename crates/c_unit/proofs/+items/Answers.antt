@@ -1,0 +1,24 @@
+use Rattle.std.proofs.Common.{◌≡◌, ◌+◌, ◌-◌, ◌∙◌, ◌++◌, suc, length, sym, arith, [], ◌∷◌}
+use Rattle.std.proofs.lemmas.Grind.{common_steps}
+use Rattle.c_unit.proofs.Rounds.{items_more, labelled_more, labelled_last}
+use Rattle.c_unit.proofs.+items.Goals as goal
+
+pub items::items-loop-turn-preserved : goal.items::items-loop-turn-preserved
+items::items-loop-turn-preserved t c = record {
+  within = c.in_ok-part.ensures.within;
+  turns = grind (arith, common_steps);
+  rest =
+      let less : suc (length c.args.tokens.now) - c.loop-turn.turn - 1 ≡ suc (length c.args.tokens.now) - (c.loop-turn.turn + 1) = omega arith in
+      let more : c.push.new.self.items ≡ c.loop-turn.parts.items ++ c.in_ok-part.part ∷ [] = c.in_ok-push.ensures.items in
+      c.loop-turn.invariant.rest ∙ items_more c.args.tokens.now c.args.room c.loop-turn.parts.items c.push.new.self.items c.in_ok-part.part (suc (length c.args.tokens.now) - c.loop-turn.turn) _ c.loop-turn.end c.in_ok-part.next (grind (arith, common_steps)) (sym c.if-not-starts_item.ensures) c.in_ok-part.ensures.gives more less;
+}
+
+pub items::labelled-loop-turn-preserved : goal.items::labelled-loop-turn-preserved
+items::labelled-loop-turn-preserved t c = record {
+  within = c.in_ok-part-2.ensures.within;
+  turns = grind (arith, common_steps);
+  rest =
+      let less : suc (length c.args.tokens.now) - c.loop-turn.turn - 1 ≡ suc (length c.args.tokens.now) - (c.loop-turn.turn + 1) = omega arith in
+      let more : c.push-2.new.self.items ≡ c.loop-turn.parts.items ++ c.in_ok-part-2.part ∷ [] = c.in_ok-push-2.ensures.items in
+      c.loop-turn.invariant.rest ∙ labelled_more c.args.tokens.now c.args.room c.loop-turn.parts.items c.push-2.new.self.items c.in_ok-part-2.part (suc (length c.args.tokens.now) - c.loop-turn.turn) _ c.loop-turn.end c.in_ok-part-2.next (grind (arith, common_steps)) (sym c.if-not-marks.ensures) c.in_ok-part-2.ensures.gives more less;
+}

@@ -1,0 +1,6 @@
+pub mod Passes
+pub mod Steps
+pub mod Rounds
+pub mod Curlies
+pub mod Alike
+pub mod Wholes

@@ -1,0 +1,5 @@
+pub mod Settling
+pub mod Table
+pub mod Sets
+pub mod Reading
+pub mod Units

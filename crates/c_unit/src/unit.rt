@@ -1,0 +1,69 @@
+//! From a text to the tree of its file.
+
+ghost use Rattle.std.specs.Prelude.{◌≡◌, ◌≤◌, List as list, length, IfOk, Some};
+ghost use Rattle.node_tree.specs.Gives.{Gives};
+ghost use Rattle.node_tree.specs.declared.node.Node.{Node as a_node};
+ghost use Rattle.c_lex.specs.declared.token.CToken.{CToken as c_token};
+ghost use Rattle.c_lex.specs.Lexing.{IsTokensOf};
+ghost use Rattle.c_expr.specs.Build.{nodes};
+ghost use Rattle.c_unit.specs.Units.{IsUnit};
+
+use crate::whole::{Whole, read_whole};
+use c_expr::{Part, classified};
+use c_lex::{CToken, c_tokens};
+use node_tree::{Kind, LexFault, List, Memory, Mode, Node, ReadFault, Span, Text};
+use std::alloc::Global;
+
+/// How deep an item of a file, or of a run, may be.
+pub const ITEM_DEPTH: u32 = 499;
+
+/// The tokens of a text.
+pub fn lexed(alloc: Global, text: &str, mode: Mode) -> Result<List<CToken>, ReadFault>
+    requires { length text.now ≤ 1000000 }
+    ensures given { IfOk result (λ l. IsTokensOf mode text.now l) }
+    ensures only { (ts : list c_token) → IsTokensOf mode text.now ts → Gives (λ l. l) result (Some ts) }
+{
+    match c_tokens(alloc, text, mode) {
+        Ok(all) => Ok(all),
+        Err(LexFault::Memory) => Err(ReadFault::Memory),
+        Err(LexFault::NoTokens) => Err(ReadFault::NoTree),
+    }
+}
+
+/// The nodes of some parts.
+#[tactic(auto, using(crate::proofs::Rounds::nodes_more))]
+pub fn nodes_of(alloc: Global, parts: Vec<Part>) -> Result<List<Node>, Memory>
+    ensures { IfOk result (λ ns. ns ≡ nodes parts.items) }
+{
+    let mut kids = Vec::with_capacity(alloc, parts.len())?;
+    for part in parts {
+        kids.push(part.node)?;
+    }
+    Ok(List::from_vec(kids))
+}
+
+/// Reads the tree of a file in C: a `Root`, which spans the whole text, over its items.
+///
+/// NoTree comes exactly where the text has no tokens, or no tree at most 500 deep spells them, or a token stands inside more
+/// than 500 open brackets.
+pub fn read_unit(alloc: Global, text: &str) -> Result<Node, ReadFault>
+    requires { length text.now ≤ 1000000 }
+    // What is read is the tree of the file.
+    ensures found { IfOk result (IsUnit text.now) }
+    // Each tree of the file is the one that is read, unless memory runs out. So there is at most one.
+    ensures only { (n : a_node) → IsUnit text.now n → Gives (λ m. m) result (Some n) }
+{
+    let all = lexed(alloc, text, Mode::Text)?;
+    let classed = classified(alloc, &all, Mode::Text)?;
+    let (parts, end) = read_whole(alloc, classed.as_slice(), Whole::FileItems, ITEM_DEPTH)?;
+    let span = Span {
+        from: 0,
+        to: text.len() as u32,
+    };
+    Ok(Node {
+        kind: Kind::Root,
+        text: Text::new(alloc),
+        kids: nodes_of(alloc, parts)?,
+        span,
+    })
+}

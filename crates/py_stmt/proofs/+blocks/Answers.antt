@@ -1,0 +1,84 @@
+use Rattle.std.proofs.Common.{arith, sym, refl, zero, suc, length, ◌∙◌, ◌-◌, ◌+◌, ◌++◌, ◌∷◌, []}
+use Rattle.node_tree.specs.declared.kind.Kind.TheVariants as k
+use Rattle.py_expr.specs.Build.{token_at, empty_list}
+use Rattle.py_stmt.specs.Table.{Stmt, StmtsTail, TryRest, DefRest, ClassRest}
+use Rattle.py_stmt.specs.Reading as reading
+use Rattle.py_stmt.specs.Reading.{level}
+use Rattle.py_stmt.proofs.Rounds as by
+use Rattle.py_stmt.proofs.Rounds.{chained_more, chained_end, chained_lost, along_turned}
+use Rattle.py_stmt.proofs.Forms.{passed_on}
+use Rattle.py_stmt.proofs.Suites.{gives_same, stmts_read, suite_line, suite_block, if_alone, if_more, branches_alone, branches_more, else_alone, else_more, while_read, while_none, for_rest_read, for_read, with_read, tried_over, def_over, class_over, over_read, over_lost}
+use Rattle.py_stmt.proofs.+blocks.Goals as goal
+
+pub blocks::statements-returns-clause-gives : goal.blocks::statements-returns-clause-gives
+blocks::statements-returns-clause-gives t c = gives_same reading.all c.more_statements.result _ _ (stmts_read c.args.items.now c.args.room c.args.at c.in_ok-kids.end c.in_ok-kids.kids (grind (arith, c.if-room-eq0.false)) c.in_ok-kids.ensures.gives) c.more_statements.ensures.gives
+
+pub blocks::more_statements-returns-then-not-starts_statement-clause-gives : goal.blocks::more_statements-returns-then-not-starts_statement-clause-gives
+blocks::more_statements-returns-then-not-starts_statement-clause-gives t c = chained_end c.args.items.now c.args.room Stmt StmtsTail (suc (length c.args.items.now) - c.loop-turn.turn) c.loop-turn.end _ c.loop-turn.kids by.statements c.loop-turn.invariant.rest (omega arith) (sym c.if-not-starts_statement.ensures)
+
+pub blocks::more_statements-returns-in_err-more-clause-gives : goal.blocks::more_statements-returns-in_err-more-clause-gives
+blocks::more_statements-returns-in_err-more-clause-gives t c = passed_on reading.all reading.all c.from_residual.result c.in_err-more.field-0.0 _ _ c.from_residual.ensures.1 c.in_err-more.ensures.gives (λ none. chained_lost c.args.items.now c.args.room Stmt StmtsTail (suc (length c.args.items.now) - c.loop-turn.turn) c.loop-turn.end _ c.loop-turn.kids by.statements c.loop-turn.invariant.rest (omega arith) (sym c.if-not-starts_statement.ensures) none)
+
+pub blocks::more_statements-loop-turn-preserved : goal.blocks::more_statements-loop-turn-preserved
+blocks::more_statements-loop-turn-preserved t c = record {
+  within = c.in_ok-more.ensures.within;
+  turns = omega arith;
+  rest = chained_more c.args.items.now c.args.room Stmt StmtsTail (suc (length c.args.items.now) - c.loop-turn.turn) _ c.loop-turn.end c.in_ok-more.next _ c.loop-turn.kids c.in_ok-more.more _ by.statements c.loop-turn.invariant.rest (omega arith) (omega arith) (sym c.if-not-starts_statement.ensures) c.in_ok-more.ensures.gives c.in_ok-append.ensures;
+}
+
+pub blocks::suite-returns-then-not-is-clause-gives : goal.blocks::suite-returns-then-not-is-clause-gives
+blocks::suite-returns-then-not-is-clause-gives t c = suite_line c.args.items.now c.args.room c.args.at c.in_ok-kids.end c.in_ok-kids.kids c.in_ok-plain.field-0 (grind (arith, c.if-room-eq0.false)) (sym c.if-not-is.ensures.test) c.in_ok-kids.ensures.gives c.in_ok-plain.ensures
+
+pub blocks::suite-returns-clause-gives : goal.blocks::suite-returns-clause-gives
+blocks::suite-returns-clause-gives t c = suite_block c.args.items.now c.args.room c.args.at c.in_ok-kids-2.end c.in_ok-kids-2.kids c.in_ok-plain-2.field-0 (grind (arith, c.if-room-eq0.false)) (sym c.if-not-is.ensures.test) (sym c.if-not-is-2.ensures.test) c.in_ok-kids-2.ensures.gives (sym c.if-not-is-3.ensures.test) c.in_ok-plain-2.ensures
+
+pub compound::if_statement-returns-then-not-starts_branches-clause-gives : goal.compound::if_statement-returns-then-not-starts_branches-clause-gives
+compound::if_statement-returns-then-not-starts_branches-clause-gives t c = if_alone c.args.items.now c.args.room c.args.at c.in_ok-kids.end c.in_ok-kids.kids c.in_ok-plain.field-0 (grind (arith, c.if-room-eq0.false)) (sym c.if-not-is.ensures.test) c.in_ok-kids.ensures.gives (sym c.if-not-starts_branches.ensures) c.in_ok-plain.ensures
+
+pub compound::if_statement-returns-clause-gives : goal.compound::if_statement-returns-clause-gives
+compound::if_statement-returns-clause-gives t c = if_more c.args.items.now c.args.room c.args.at c.in_ok-kids.end c.in_ok-other.end c.in_ok-kids.kids _ c.in_ok-other.other c.in_ok-plain-2.field-0 (grind (arith, c.if-room-eq0.false)) (sym c.if-not-is.ensures.test) c.in_ok-kids.ensures.gives (sym c.if-not-starts_branches.ensures) c.in_ok-other.ensures.gives c.in_ok-push.ensures.ok c.in_ok-plain-2.ensures
+
+pub compound::branches-returns-then-not-starts_branches-clause-gives : goal.compound::branches-returns-then-not-starts_branches-clause-gives
+compound::branches-returns-then-not-starts_branches-clause-gives t c = branches_alone c.args.items.now c.args.room c.args.at c.in_ok-kids.end c.in_ok-kids.kids c.in_ok-plain.field-0 (grind (arith, c.if-room-eq0.false)) (sym c.if-not-is.ensures.test) c.in_ok-kids.ensures.gives (sym c.if-not-starts_branches.ensures) c.in_ok-plain.ensures
+
+pub compound::branches-returns-clause-gives : goal.compound::branches-returns-clause-gives
+compound::branches-returns-clause-gives t c = branches_more c.args.items.now c.args.room c.args.at c.in_ok-kids.end c.in_ok-other.end c.in_ok-kids.kids _ c.in_ok-other.other c.in_ok-plain-2.field-0 (grind (arith, c.if-room-eq0.false)) (sym c.if-not-is.ensures.test) c.in_ok-kids.ensures.gives (sym c.if-not-starts_branches.ensures) c.in_ok-other.ensures.gives c.in_ok-push.ensures.ok c.in_ok-plain-2.ensures
+
+pub compound::some_else-returns-then-not-is-clause-gives : goal.compound::some_else-returns-then-not-is-clause-gives
+compound::some_else-returns-then-not-is-clause-gives t c = else_alone c.args.items.now c.args.room c.args.at c.args.kids (sym c.if-not-is.ensures.test)
+
+pub compound::some_else-returns-clause-gives : goal.compound::some_else-returns-clause-gives
+compound::some_else-returns-clause-gives t c = else_more c.args.items.now c.args.room c.args.at c.in_ok-block.end c.args.kids _ c.in_ok-block.block (sym c.if-not-is.ensures.test) c.in_ok-block.ensures.gives c.in_ok-push.ensures.ok
+
+pub compound::while_loop-returns-clause-gives : goal.compound::while_loop-returns-clause-gives
+compound::while_loop-returns-clause-gives t c = while_read c.args.items.now c.args.room c.args.at c.in_ok-kids.end c.in_ok-kids-2.end c.in_ok-kids.kids c.in_ok-kids-2.kids c.in_ok-plain.field-0 (grind (arith, c.if-room-eq0.false)) (sym c.if-not-is.ensures.test) c.in_ok-kids.ensures.gives c.in_ok-kids-2.ensures.gives c.in_ok-plain.ensures
+
+pub compound::while_loop-returns-in_err-kids-2-clause-gives : goal.compound::while_loop-returns-in_err-kids-2-clause-gives
+compound::while_loop-returns-in_err-kids-2-clause-gives t c = passed_on reading.one reading.all c.from_residual-in_err-kids-2.result c.in_err-kids-2.field-0.0 _ _ c.from_residual-in_err-kids-2.ensures.1 c.in_err-kids-2.ensures.gives (λ none. while_none c.args.items.now c.args.room c.args.at c.in_ok-kids.end c.in_ok-kids.kids (grind (arith, c.if-room-eq0.false)) (sym c.if-not-is.ensures.test) c.in_ok-kids.ensures.gives none)
+
+pub compound::for_rest-returns-clause-gives : goal.compound::for_rest-returns-clause-gives
+compound::for_rest-returns-clause-gives t c = gives_same reading.all c.some_else.result _ _ (for_rest_read c.args.items.now c.args.room c.args.at c.in_ok-target.end c.in_ok-iterable.end c.in_ok-block.end c.in_ok-target.target c.in_ok-iterable.iterable c.in_ok-block.block (grind (arith, c.if-room-eq0.false)) c.in_ok-target.ensures.gives (sym c.if-not-is.ensures.test) c.in_ok-iterable.ensures.gives c.in_ok-block.ensures.gives) (rw c.in_ok-kids.ensures at c.some_else.ensures.gives)
+
+pub compound::for_loop-returns-clause-gives : goal.compound::for_loop-returns-clause-gives
+compound::for_loop-returns-clause-gives t c = for_read c.args.items.now c.args.room c.args.at c.in_ok-kids.end c.in_ok-kids.kids c.in_ok-plain.field-0 (grind (arith, c.if-room-eq0.false)) (sym c.if-not-is.ensures.test) c.in_ok-kids.ensures.gives c.in_ok-plain.ensures
+
+pub compound::with_block-returns-clause-gives : goal.compound::with_block-returns-clause-gives
+compound::with_block-returns-clause-gives t c = with_read c.args.items.now c.args.room c.args.at c.in_ok-kids.end c.in_ok-kids.kids c.in_ok-plain.field-0 (grind (arith, c.if-room-eq0.false)) (sym c.if-not-is.ensures.test) c.in_ok-kids.ensures.gives c.in_ok-plain.ensures
+
+pub compound::tried-returns-clause-gives : goal.compound::tried-returns-clause-gives
+compound::tried-returns-clause-gives t c = tried_over c.args.items.now c.args.room c.args.at c.in_ok-block.end c.in_ok-block.block (grind (arith, c.if-room-eq0.false)) (sym c.if-not-is.ensures.test) c.in_ok-block.ensures.gives ∙ over_read c.args.items.now k.Try c.args.at c.in_ok-kids-2.end [] (c.in_ok-block.block ∷ []) c.in_ok-kids-2.kids c.in_ok-plain.field-0 (level c.args.items.now c.args.room TryRest c.in_ok-block.end) c.start_at-from.result c.start_at-from.ensures (rw c.in_ok-kids.ensures at c.in_ok-kids-2.ensures.gives) c.in_ok-plain.ensures
+
+pub compound::tried-returns-in_err-kids-2-clause-gives : goal.compound::tried-returns-in_err-kids-2-clause-gives
+compound::tried-returns-in_err-kids-2-clause-gives t c = passed_on reading.one reading.kids_alone c.from_residual-in_err-kids-2.result c.in_err-kids-2.field-0.0 _ _ c.from_residual-in_err-kids-2.ensures.1 (rw c.in_ok-kids.ensures at c.in_err-kids-2.ensures.gives) (λ none. tried_over c.args.items.now c.args.room c.args.at c.in_ok-block.end c.in_ok-block.block (grind (arith, c.if-room-eq0.false)) (sym c.if-not-is.ensures.test) c.in_ok-block.ensures.gives ∙ over_lost c.args.items.now k.Try c.args.at [] (c.in_ok-block.block ∷ []) (level c.args.items.now c.args.room TryRest c.in_ok-block.end) c.start_at-from.result none)
+
+pub definitions::function-returns-clause-gives : goal.definitions::function-returns-clause-gives
+definitions::function-returns-clause-gives t c = def_over c.args.items.now c.args.room c.args.at (grind (arith, c.if-room-eq0.false)) (sym c.if-not-is.ensures.test) ∙ over_read c.args.items.now k.FunctionDef c.args.at c.in_ok-kids-2.end [] (empty_list (token_at c.args.items.now c.args.at).span.from ∷ []) c.in_ok-kids-2.kids c.in_ok-plain.field-0 (level c.args.items.now c.args.room DefRest (c.args.at + 1)) (token_at c.args.items.now c.args.at).span.from refl (rw (c.in_ok-kids.ensures, c.empty_list.ensures, c.start_at-from.ensures) at c.in_ok-kids-2.ensures.gives) c.in_ok-plain.ensures
+
+pub definitions::function-returns-in_err-kids-2-clause-gives : goal.definitions::function-returns-in_err-kids-2-clause-gives
+definitions::function-returns-in_err-kids-2-clause-gives t c = passed_on reading.one reading.kids_alone c.from_residual-in_err-kids-2.result c.in_err-kids-2.field-0.0 _ _ c.from_residual-in_err-kids-2.ensures.1 (rw (c.in_ok-kids.ensures, c.empty_list.ensures, c.start_at-from.ensures) at c.in_err-kids-2.ensures.gives) (λ none. def_over c.args.items.now c.args.room c.args.at (grind (arith, c.if-room-eq0.false)) (sym c.if-not-is.ensures.test) ∙ over_lost c.args.items.now k.FunctionDef c.args.at [] (empty_list (token_at c.args.items.now c.args.at).span.from ∷ []) (level c.args.items.now c.args.room DefRest (c.args.at + 1)) (token_at c.args.items.now c.args.at).span.from none)
+
+pub definitions::class-returns-clause-gives : goal.definitions::class-returns-clause-gives
+definitions::class-returns-clause-gives t c = class_over c.args.items.now c.args.room c.args.at (grind (arith, c.if-room-eq0.false)) (sym c.if-not-is.ensures.test) ∙ over_read c.args.items.now k.ClassDef c.args.at c.in_ok-kids-2.end [] (empty_list (token_at c.args.items.now c.args.at).span.from ∷ []) c.in_ok-kids-2.kids c.in_ok-plain.field-0 (level c.args.items.now c.args.room ClassRest (c.args.at + 1)) (token_at c.args.items.now c.args.at).span.from refl (rw (c.in_ok-kids.ensures, c.empty_list.ensures, c.start_at-from.ensures) at c.in_ok-kids-2.ensures.gives) c.in_ok-plain.ensures
+
+pub definitions::class-returns-in_err-kids-2-clause-gives : goal.definitions::class-returns-in_err-kids-2-clause-gives
+definitions::class-returns-in_err-kids-2-clause-gives t c = passed_on reading.one reading.kids_alone c.from_residual-in_err-kids-2.result c.in_err-kids-2.field-0.0 _ _ c.from_residual-in_err-kids-2.ensures.1 (rw (c.in_ok-kids.ensures, c.empty_list.ensures, c.start_at-from.ensures) at c.in_err-kids-2.ensures.gives) (λ none. class_over c.args.items.now c.args.room c.args.at (grind (arith, c.if-room-eq0.false)) (sym c.if-not-is.ensures.test) ∙ over_lost c.args.items.now k.ClassDef c.args.at [] (empty_list (token_at c.args.items.now c.args.at).span.from ∷ []) (level c.args.items.now c.args.room ClassRest (c.args.at + 1)) (token_at c.args.items.now c.args.at).span.from none)

@@ -1,0 +1,9 @@
+pub mod Passes
+pub mod Among
+pub mod Colons
+pub mod Ends
+pub mod Steps
+pub mod Rounds
+pub mod Forms
+pub mod Orders
+pub mod Suites

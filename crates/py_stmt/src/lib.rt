@@ -1,0 +1,17 @@
+//! Python's statements: from tokens to the tree of a module, and to that of a pattern.
+//!
+//! The grammar is a table over the levels of expressions (`specs/Table.antt`), a row for each line of it.
+#![tactic(auto)]
+
+mod annotated;
+mod blocks;
+mod build;
+mod compound;
+mod definitions;
+mod expression;
+mod imports;
+mod items;
+mod line;
+mod look;
+mod series;
+mod simple;
