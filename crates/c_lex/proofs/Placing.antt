@@ -2,7 +2,7 @@
 use Rattle.std.proofs.Common.{◌≡◌, ℕ, ◌+◌, ◌≤◌, ◌==◌, Bool, true, false, List, [], ◌∷◌, ◌++◌, length, drop, refl, sym, ap, ◌∙◌, subst, arith, append_assoc, eqb-true, length-append}
 use Rattle.std.specs.Prelude.{encode_utf8, encode_utf8_all, if◌then◌else◌, Option, Some, None, IfSome}
 use Rattle.std.specs.Str.{chars, all_scalars, IsUtf8, IsCharBoundary}
-use Rattle.std.proofs.lemmas.List.{drop_at, drop-drop, append-nil}
+use Rattle.std.proofs.lemmas.List.{drop_at, drop-drop}
 use Rattle.std.proofs.lemmas.Str.{encodes-append, encodes-chars, scalars-chars, length-encode, chars-encodes, IsUtf8-drop, IsCharBoundary-from_drop}
 use Rattle.lexing.specs.Reading.{Lexeme, Turn, reader, Reads}
 use Rattle.lexing.specs.Mark.{past_mark, mark_len}
