@@ -22,7 +22,7 @@ use Rattle.c_expr.specs.Table.{Level, Comma, CommaTail, Assign, AssignMore, Cond
 use Rattle.c_expr.specs.Build.{token_at, source}
 use Rattle.c_expr.specs.Sets.{sets, ranks}
 use Rattle.c_expr.specs.Spells.{ArePlaced}
-use Rattle.c_expr.specs.Places.{TokensLie, AreTokensIn}
+use Rattle.c_lex.specs.Places.{TokensLie, AreTokensIn}
 use Rattle.c_expr.specs.Runs.{level_of, IsTree}
 use Rattle.c_expr.proofs.Passes.{pass}
 use Rattle.c_expr.proofs.Spans.{spans_lie}

@@ -6,4 +6,3 @@ pub mod Build
 pub mod Reading
 pub mod Spells
 pub mod Runs
-pub mod Places

@@ -2,3 +2,4 @@ pub mod Keywords
 pub mod Classes
 pub mod Tokens
 pub mod Lexing
+pub mod Places

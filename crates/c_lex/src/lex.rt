@@ -5,6 +5,7 @@ ghost use Rattle.std.specs.Str.{chars};
 ghost use Rattle.lexing.specs.Automaton.{Accepts};
 ghost use Rattle.c_lex.specs.Tokens.{rules};
 ghost use Rattle.c_lex.specs.Lexing as spec;
+ghost use Rattle.c_lex.specs.Places.{AreTokensIn};
 
 use crate::progress::{Progress, keep, step};
 use crate::table::{COLUMNS, ROWS, STARTS, WIDTH};
@@ -27,10 +28,12 @@ fn automaton(mode: Mode, fresh: bool) -> Automaton<'static>
 
 /// The tokens of a text, of which there is one list at most.
 ///
-/// In a pattern, metavariables and the marks `<...` and `...>` are tokens too.
+/// In a pattern, metavariables and the marks `<...` and `...>` are tokens too. The tokens lie in the text one behind the
+/// other, the last of them is the text's end, and no span cuts a character.
 pub fn c_tokens(alloc: Global, text: &str, mode: Mode) -> Result<List<CToken>, LexFault>
     requires { length text.now ≤ 1000000 }
     ensures given { IfOk result (λ l. spec.IsTokensOf mode text.now l) }
+    ensures placed { IfOk result (AreTokensIn text.now) }
     ensures only { (ts : List CToken) → spec.IsTokensOf mode text.now ts → spec.Gives ts result }
 {
     let mut tokens = List::new(alloc);

@@ -10,6 +10,7 @@ use Rattle.node_tree.specs.declared.fault.LexFault.TheVariants.{Memory, NoTokens
 use Rattle.c_lex.specs.Lexing.{c_language, first, Turns, Gives}
 use Rattle.c_lex.specs.declared.progress.Progress.{Progress}
 use Rattle.c_lex.specs.declared.token.CToken.{CToken}
+use Rattle.c_lex.proofs.Placing.{placed}
 use Rattle.c_lex.proofs.lex.c_tokens.Goals as goal
 
 pub lexemes-init : goal.lexemes-init
@@ -52,3 +53,6 @@ returns-clause-given c = given c.lexemes.invariant.read c.lexemes-test.ensures r
 
 pub returns-clause-only : goal.returns-clause-only
 returns-clause-only c = only c.lexemes.invariant.read c.lexemes-test.ensures refl c.in_ok-keep.ensures
+
+pub returns-clause-placed : goal.returns-clause-placed
+returns-clause-placed c = placed c.args.mode c.args.text.now _ c.utf8.text (given c.lexemes.invariant.read c.lexemes-test.ensures refl c.in_ok-keep.ensures)
