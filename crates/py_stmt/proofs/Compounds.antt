@@ -1,5 +1,5 @@
 -- What the parts of compound statements read: blocks behind a colon, else parts, handlers, and what follows the block of a try statement.
-use Rattle.std.proofs.Common.{◌≡◌, ℕ, zero, suc, ◌+◌, ◌<◌, List, [], ◌∷◌, ◌++◌, refl, ap, sym, ◌∙◌, add-one, eqb, true, false, Option, Some, None}
+use Rattle.std.proofs.Common.{◌≡◌, ℕ, zero, suc, ◌+◌, ◌<◌, List, [], ◌∷◌, ◌++◌, refl, ap, ◌∙◌, add-one, eqb, true, false, Option, Some, None}
 use Rattle.std.specs.Prelude.{Result, Ok, Err}
 use Rattle.node_tree.specs.Gives.{Gives}
 use Rattle.node_tree.specs.declared.fault.ReadFault.{ReadFault}
