@@ -7,3 +7,4 @@ pub mod Rounds
 pub mod Forms
 pub mod Orders
 pub mod Suites
+pub mod Compounds
