@@ -41,7 +41,7 @@ first_lies text n ns h = some_left (Within text) (pre_of n) (pre_all ns) (divide
 rest_lie : (text : List ℕ) (n : Node) (ns : List Node) → AllLieIn text (n ∷ ns) → AllLieIn text ns
 rest_lie text n ns h = some_right (Within text) (pre_of n) (pre_all ns) (divided text n ns h)
 
-both_lie : (text : List ℕ) (xs ys : List Node) → AllLieIn text xs → AllLieIn text ys → AllLieIn text (xs ++ ys)
+pub both_lie : (text : List ℕ) (xs ys : List Node) → AllLieIn text xs → AllLieIn text ys → AllLieIn text (xs ++ ys)
 both_lie text [] ys h g = g
 both_lie text (x ∷ xs) ys h g = more_lie text x (xs ++ ys) (first_lies text x xs h) (both_lie text xs ys (rest_lie text x xs h) g)
 

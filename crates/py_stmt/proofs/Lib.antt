@@ -7,3 +7,7 @@ pub mod Rounds
 pub mod Forms
 pub mod Orders
 pub mod Suites
+pub mod Filled
+pub mod Depths
+pub mod Spans
+pub mod Wholes
