@@ -11,3 +11,5 @@ pub mod Filled
 pub mod Depths
 pub mod Spans
 pub mod Wholes
+pub mod Modules
+pub mod Patterns

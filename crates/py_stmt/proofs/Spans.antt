@@ -18,7 +18,7 @@ use Rattle.grammar.proofs.Checked.{is_grammar}
 use Rattle.py_expr.specs.declared.item.Item.{Item}
 use Rattle.py_expr.specs.Parts.{Part, whole, lacking, call, more, clauses, display, sign, bounds, node, nodes_of, wholes}
 use Rattle.py_expr.specs.Build.{token_at, end_item, absent, empty_list}
-use Rattle.py_expr.proofs.SpanBuilders.{over_lies, at_place, both_lie, Lie, nodes_lie}
+use Rattle.py_expr.proofs.SpanBuilders.{first_lies, kids_lie, over_lies, at_place, both_lie, Lie, nodes_lie}
 use Rattle.py_expr.proofs.Spans.{ItemsLie, item_lies, After, keeps as known}
 use Rattle.py_stmt.specs.Table.{Level, Builder, Value_of, Statement, Item_of, Headed, Head, Valued, Several, Listing, Dotting, table, grammar}
 use Rattle.py_stmt.specs.Build.{is_layout, code_end, end_from, filled, written, arity, absents, padded, told, statement, is_dots, unless_dots, item, valued, several, listing, dotted, dotting, alone, build, source}
@@ -53,7 +53,7 @@ module _ (text : List ℕ) (to : ℕ) (ts : List Item) (utf8 : IsUtf8 text) (lie
   ends zero le = IsCharBoundary-start text utf8
   ends (suc n) le = one_of text (is_layout (token_at ts n).word) (code_end ts n) (token_at ts n).span.to (ends n (omega (arith, le))) (item_lies text 0 to ts n lie (omega (arith, le))).1.ends
 
-  stands : (i j : ℕ) → j ≤ length ts → LiesIn text (record { from = (token_at ts i).span.from; to = end_from ts i j })
+  pub stands : (i j : ℕ) → j ≤ length ts → LiesIn text (record { from = (token_at ts i).span.from; to = end_from ts i j })
   stands i j le = record {
     ordered = omega arith;
     begins = begins i;

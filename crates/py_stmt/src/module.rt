@@ -6,9 +6,9 @@ ghost use Rattle.node_tree.specs.Gives.{Gives};
 ghost use Rattle.node_tree.specs.Spans.{SpansLieIn};
 ghost use Rattle.py_stmt.specs.Modules.{IsModule};
 
-use crate::whole::read_statements;
+use crate::whole::{lexed, read_items};
 use node_tree::{Kind, Mode, Node, ReadFault};
-use py_expr::{LIMIT, is_shallow, over};
+use py_expr::{LIMIT, is_shallow, items, over};
 use std::alloc::Global;
 
 /// Reads the tree of a module in Python: a `Root`, which spans the whole text, over its statements.
@@ -24,7 +24,9 @@ pub fn read_module(alloc: Global, text: &str) -> Result<Node, ReadFault>
     // Each tree of the module is the one that is read, unless memory runs out. So there is at most one.
     ensures only { (n : a_node) → IsModule text.now n → Gives (λ m. m) result (Some n) }
 {
-    let statements = read_statements(alloc, text, Mode::Text)?;
+    let all = lexed(alloc, text, Mode::Text)?;
+    let items = items(alloc, Mode::Text, all.as_slice(), LIMIT)?;
+    let statements = read_items(alloc, items.as_slice())?;
     let root = over(alloc, Kind::Root, 0, text.len() as u32, statements);
     if !is_shallow(&root, LIMIT) {
         return Err(ReadFault::NoTree);

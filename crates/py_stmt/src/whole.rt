@@ -1,20 +1,22 @@
 //! The statements that a whole text is.
 
-ghost use Rattle.std.specs.Prelude.{◌≤◌, List as list, length, IfOk, Some, All};
+ghost use Rattle.std.specs.Prelude.{◌≤◌, List as list, length, IfOk, Some};
 ghost use Rattle.node_tree.specs.declared.node.Node.{Node as a_node};
 ghost use Rattle.node_tree.specs.Gives.{Gives};
-ghost use Rattle.node_tree.specs.Spans.{SpansLieIn};
 ghost use Rattle.grammar.specs.Rule.{ref, opt};
 ghost use Rattle.py_expr.specs.Parts.{depth_nodes};
 ghost use Rattle.py_stmt.specs.Reading as reading;
 ghost use Rattle.py_stmt.specs.Table.{File, Stmts};
-ghost use Rattle.py_stmt.specs.Modules.{AreStatements, AreStatementsOf};
+ghost use Rattle.py_stmt.specs.Modules.{AreStatements};
+ghost use Rattle.py_lex.specs.declared.token.PyToken.{PyToken as token};
+ghost use Rattle.py_lex.specs.Lexing.{IsTokensOf};
+ghost use Rattle.py_lex.specs.Places.{AreTokensIn};
 
 use crate::blocks::statements;
 use crate::look::starts_statement;
 use node_tree::{LexFault, List, Mode, Node, ReadFault};
-use py_expr::{Item, LIMIT, Word, is, items, shallow_end};
-use py_lex::tokens;
+use py_expr::{Item, Word, is, shallow_end};
+use py_lex::{PyToken, tokens};
 use std::alloc::Global;
 
 /// How many steps deeper the reader may go: 501 for depth, 500 for brackets, and two.
@@ -61,7 +63,7 @@ fn file(
 }
 
 /// The statements that all items are, unless one is too deep.
-fn read_items(alloc: Global, items: &[Item<'_>]) -> Result<List<Node>, ReadFault>
+pub fn read_items(alloc: Global, items: &[Item<'_>]) -> Result<List<Node>, ReadFault>
     ensures found { IfOk result (λ ns. depth_nodes ns ≤ 501 → AreStatements items.now ns) }
     ensures only { (ns : list a_node) → AreStatements items.now ns → Gives (λ m. m) result (Some ns) }
 {
@@ -75,18 +77,16 @@ fn read_items(alloc: Global, items: &[Item<'_>]) -> Result<List<Node>, ReadFault
     Ok(kids)
 }
 
-/// The statements that a text is, unless one is too deep.
-pub fn read_statements(alloc: Global, text: &str, mode: Mode) -> Result<List<Node>, ReadFault>
+/// The tokens of a text.
+pub fn lexed(alloc: Global, text: &str, mode: Mode) -> Result<List<PyToken>, ReadFault>
     requires { length text.now ≤ 1000000 }
-    ensures found { IfOk result (λ ns. depth_nodes ns ≤ 501 → AreStatementsOf mode text.now ns) }
-    ensures placed { IfOk result (λ ns. depth_nodes ns ≤ 501 → All (SpansLieIn text.now) ns) }
-    ensures only { (ns : list a_node) → AreStatementsOf mode text.now ns → Gives (λ m. m) result (Some ns) }
+    ensures given { IfOk result (IsTokensOf mode text.now) }
+    ensures placed { IfOk result (AreTokensIn text.now) }
+    ensures only { (ts : list token) → IsTokensOf mode text.now ts → Gives (λ l. l) result (Some ts) }
 {
-    let all = match tokens(alloc, text, mode) {
-        Ok(all) => all,
-        Err(LexFault::Memory) => return Err(ReadFault::Memory),
-        Err(LexFault::NoTokens) => return Err(ReadFault::NoTree),
-    };
-    let items = items(alloc, mode, all.as_slice(), LIMIT)?;
-    read_items(alloc, items.as_slice())
+    match tokens(alloc, text, mode) {
+        Ok(all) => Ok(all),
+        Err(LexFault::Memory) => Err(ReadFault::Memory),
+        Err(LexFault::NoTokens) => Err(ReadFault::NoTree),
+    }
 }
