@@ -74,9 +74,10 @@ pub fn read_py_pattern(alloc: Global, text: &str) -> Result<(Shape, Node), ReadF
     ensures only { (s : a_shape) (n : a_node) → IsPattern text.now s n → Gives (λ x. x) result (Some (s, n)) }
 {
     let all = lexed(alloc, text, Mode::Pattern)?;
-    let items = items(alloc, Mode::Pattern, all.as_slice(), LIMIT)?;
-    let statements = read_items(alloc, items.as_slice())?;
-    let (shape, tree) = shaped(alloc, items.as_slice(), statements)?;
+    let seen = items(alloc, Mode::Pattern, all.as_slice(), LIMIT)?;
+    let items = seen.as_slice();
+    let statements = read_items(alloc, items)?;
+    let (shape, tree) = shaped(alloc, items, statements)?;
     if !is_shallow(&tree, LIMIT) {
         return Err(ReadFault::NoTree);
     }
