@@ -1,6 +1,6 @@
 -- What statements are as a pattern, and where the trees of modules and patterns lie.
-use Rattle.std.proofs.Common.{◌≡◌, ℕ, zero, ◌-◌, ◌≤◌, List, [], ◌∷◌, length, refl, sym, ap, ◌∙◌, arith, Option, Some, None}
-use Rattle.std.specs.Prelude.{All}
+use Rattle.std.proofs.Common.{◌≡◌, ℕ, zero, ◌-◌, ◌<◌, ◌≤◌, List, [], ◌∷◌, ◌++◌, length, length-append, get_or, refl, sym, ap, ◌∙◌, arith, Bool, Option, Some, None}
+use Rattle.std.specs.Prelude.{All, IsTrue, true, false}
 use Rattle.std.specs.Str.{IsUtf8}
 use Rattle.std.proofs.lemmas.Str.{IsCharBoundary-start, IsCharBoundary-end}
 use Rattle.std.proofs.lemmas.List.Elements.{All-head}
@@ -34,6 +34,44 @@ one_shape is ns s t n m (expression p) (expression q) = rw (same_expression ns n
 one_shape is ns s t n m (expression p) (run none e) = absurd (none n p)
 one_shape is ns s t n m (run none e) (expression q) = absurd (none m q)
 one_shape is ns s t n m (run none e) (run none' e') = rw (e, e') refl
+
+-- ---- one statement with one kid
+
+pub one_item : (xs : List Node) (x : Node) → 1 ≤ length xs → length xs < 2 → x ≡ get_or xs 0 x → xs ≡ x ∷ []
+one_item [] x some few e = absurd (omega (arith, some))
+one_item (y ∷ []) x some few e = ap (λ (z : Node). z ∷ []) (sym e)
+one_item (y ∷ z ∷ ys) x some few e = absurd (omega (arith, few))
+
+one_kid : (xs : List Node) → length xs ≡ 1 → (x : Node) × (xs ≡ x ∷ [])
+one_kid [] e = absurd (omega (arith, e))
+one_kid (x ∷ []) e = (x, refl)
+one_kid (x ∷ y ∷ ys) e = absurd (omega (arith, e))
+
+pub is_expression : (ns : List Node) (n : Node) → ns ≡ n ∷ [] → kind_of n ≡ k.ExprStmt → length (kids_of n) ≡ 1 → (tree : Node) × IsExpression ns tree
+is_expression ns n one kind few = let kid : _ = one_kid (kids_of n) few in (kid.0, record { statement = n; one = one; kind = kind; kid = kid.1 })
+
+pub has_one_kid : (ns : List Node) (n tree : Node) → ns ≡ n ∷ [] → IsExpression ns tree → length (kids_of n) ≡ 1
+has_one_kid ns n tree one p =
+    let same : p.statement ≡ n = same_head p.statement n (sym p.one ∙ one) in
+    ap length (rw same at p.kid)
+
+-- no statements are an expression that were tested so
+pub not_expression : (b : Bool) (ns ms : List Node) (tree : Node) → b ≡ false → ms ≡ ns → (((x : Node) × IsExpression ms x) → IsTrue b) → IsExpression ns tree → ⊥
+not_expression b ns ms tree off same test p =
+    let yes : b ≡ true = test (tree, rw same p) in
+    cc
+
+last_one : (front : List Node) (a b : Node) → b ∷ [] ≡ front ++ a ∷ [] → a ≡ b
+last_one [] a b e = cc
+last_one (y ∷ ys) a b e = absurd (omega (arith, ap length e, length-append ys (a ∷ [])))
+
+-- what is taken from the end of the statements, and of the kids of that, is the expression
+pub taken : (ns ms front rest : List Node) (n tree : Node) → ms ≡ ns → (x : Node) × IsExpression ms x → ns ≡ front ++ n ∷ [] → kids_of n ≡ rest ++ tree ∷ [] → IsExpression ns tree
+taken ns ms front rest n tree same (x, q) is kids =
+    let p : IsExpression ns x = rw same at q in
+    let one : n ≡ p.statement = last_one front n p.statement (sym p.one ∙ is) in
+    let first : tree ≡ x = last_one rest tree x (sym p.kid ∙ (ap kids_of (sym one) ∙ kids)) in
+    record { statement = p.statement; one = p.one; kind = p.kind; kid = p.kid ∙ ap (λ (z : Node). z ∷ []) (sym first) }
 
 -- ---- spans
 
