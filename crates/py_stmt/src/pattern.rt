@@ -22,7 +22,14 @@ fn block(alloc: Global, items: &[Item<'_>], statements: List<Node>) -> Result<No
     if statements.is_empty() {
         return Ok(over(alloc, Kind::Block, 0, 0, statements));
     }
-    plain(alloc, items, Kind::Block, 0, items.len().saturating_sub(1), statements)
+    plain(
+        alloc,
+        items,
+        Kind::Block,
+        0,
+        items.len().saturating_sub(1),
+        statements,
+    )
 }
 
 /// Whether statements are one, which is an expression.

@@ -125,22 +125,46 @@ fn reads_simple_statements(rt: HostRuntime) -> Result<(), Fail> {
         ("yield a", "Root[ExprStmt[Yield[Name(a)]]]"),
         ("x = y = 1", "Root[Assign[Name(x) Name(y) Number(1)]]"),
         ("x += yield", "Root[AugAssign(+=)[Name(x) Yield[Absent]]]"),
-        ("x.a: int = 3", "Root[AnnAssign[Attr(.)[Name(x) Id(a)] Name(int) Number(3)]]"),
+        (
+            "x.a: int = 3",
+            "Root[AnnAssign[Attr(.)[Name(x) Id(a)] Name(int) Number(3)]]",
+        ),
         ("x: int", "Root[AnnAssign[Name(x) Name(int) Absent]]"),
-        ("return; return 1, 2", "Root[Return[Absent] Return[Tuple[Number(1) Number(2)]]]"),
+        (
+            "return; return 1, 2",
+            "Root[Return[Absent] Return[Tuple[Number(1) Number(2)]]]",
+        ),
         ("del a, b", "Root[Del[Tuple[Name(a) Name(b)]]]"),
         ("pass; break; continue", "Root[Pass Break Continue]"),
-        ("raise; raise a", "Root[Raise[Absent Absent] Raise[Name(a) Absent]]"),
+        (
+            "raise; raise a",
+            "Root[Raise[Absent Absent] Raise[Name(a) Absent]]",
+        ),
         ("raise a from b", "Root[Raise[Name(a) Name(b)]]"),
-        ("assert a; assert a, b", "Root[Assert[Name(a) Absent] Assert[Name(a) Name(b)]]"),
-        ("global a, b\nnonlocal c", "Root[Global[Id(a) Id(b)] Nonlocal[Id(c)]]"),
-        ("import a.b as c, d", "Root[Import[Alias[Id(a.b) Id(c)] Alias[Id(d) Absent]]]"),
+        (
+            "assert a; assert a, b",
+            "Root[Assert[Name(a) Absent] Assert[Name(a) Name(b)]]",
+        ),
+        (
+            "global a, b\nnonlocal c",
+            "Root[Global[Id(a) Id(b)] Nonlocal[Id(c)]]",
+        ),
+        (
+            "import a.b as c, d",
+            "Root[Import[Alias[Id(a.b) Id(c)] Alias[Id(d) Absent]]]",
+        ),
         (
             "from ...a import (b as c, d,)",
             "Root[FromImport(...)[Id(a) List[Alias[Id(b) Id(c)] Alias[Id(d) Absent]]]]",
         ),
-        ("from . import *", "Root[FromImport(.)[Absent List[Alias[Id(*) Absent]]]]"),
-        ("from .... import a", "Root[FromImport(....)[Absent List[Alias[Id(a) Absent]]]]"),
+        (
+            "from . import *",
+            "Root[FromImport(.)[Absent List[Alias[Id(*) Absent]]]]",
+        ),
+        (
+            "from .... import a",
+            "Root[FromImport(....)[Absent List[Alias[Id(a) Absent]]]]",
+        ),
     ];
     all_modules(&rt, rt.alloc(), false, &rows)
 }
@@ -184,7 +208,10 @@ fn reads_compound_statements(rt: HostRuntime) -> Result<(), Fail> {
             "class A(b, c=1): pass",
             "Root[ClassDef[List Id(A) List[Name(b) Keyword[Id(c) Number(1)]] Block[Pass]]]",
         ),
-        ("@a\n@b\nclass A: pass", "Root[ClassDef[List[Name(a) Name(b)] Id(A) List Block[Pass]]]"),
+        (
+            "@a\n@b\nclass A: pass",
+            "Root[ClassDef[List[Name(a) Name(b)] Id(A) List Block[Pass]]]",
+        ),
         (
             "def f(a, *b, c: int = 1, **d) -> e: pass",
             "Root[FunctionDef[List Id(f) List[Param[Id(a) Absent Absent] Param(*)[Id(b) Absent Absent] Param[Id(c) Name(int) Number(1)] Param(**)[Id(d) Absent Absent]] Name(e) Block[Pass]]]",
@@ -244,7 +271,10 @@ fn reads_patterns(rt: HostRuntime) -> Result<(), Fail> {
     ];
     all_patterns(&rt, rt.alloc(), false, &rows)?;
     let rows = [
-        ("# c\n(a)\nb;\n", "run Block 4..9[ExprStmt 4..7[Name(a) 5..6] ExprStmt 8..9[Name(b) 8..9]]"),
+        (
+            "# c\n(a)\nb;\n",
+            "run Block 4..9[ExprStmt 4..7[Name(a) 5..6] ExprStmt 8..9[Name(b) 8..9]]",
+        ),
         ("\n", "run Block 0..0"),
         ("(a)", "expression Name(a) 1..2"),
     ];
@@ -320,9 +350,19 @@ fn reads_a_depth_of_500(rt: HostRuntime) -> Result<(), Fail> {
 fn reads_many_brackets(rt: HostRuntime) -> Result<(), Fail> {
     let alloc = rt.alloc();
     let front = repeated(alloc, "", "(", 150, "a")?;
-    assert!(rt; is_module(alloc, repeated(alloc, front.as_str(), ")", 150, "")?.as_str())?);
+    assert!(rt;
+        is_module(
+            alloc,
+            repeated(alloc, front.as_str(), ")", 150, "")?.as_str()
+        )?
+    );
     let front = repeated(alloc, "", "(", 501, "a")?;
-    assert!(rt; !is_module(alloc, repeated(alloc, front.as_str(), ")", 501, "")?.as_str())?);
+    assert!(rt;
+        !is_module(
+            alloc,
+            repeated(alloc, front.as_str(), ")", 501, "")?.as_str()
+        )?
+    );
     Ok(())
 }
 
@@ -331,7 +371,12 @@ fn reads_and_refuses_long_texts(rt: HostRuntime) -> Result<(), Fail> {
     let alloc = rt.alloc();
     assert!(rt; is_module(alloc, repeated(alloc, "", "a\n", 5_000, "")?.as_str())?);
     assert!(rt; !is_module(alloc, repeated(alloc, "", "-", 20_000, "a")?.as_str())?);
-    assert!(rt; !is_module(alloc, repeated(alloc, "if a: b\n", "elif a: b\n", 5_000, "")?.as_str())?);
+    assert!(rt;
+        !is_module(
+            alloc,
+            repeated(alloc, "if a: b\n", "elif a: b\n", 5_000, "")?.as_str()
+        )?
+    );
     assert!(rt; !is_module(alloc, repeated(alloc, "", "lambda: ", 5_000, "a")?.as_str())?);
     Ok(())
 }
