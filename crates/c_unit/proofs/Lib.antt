@@ -4,3 +4,4 @@ pub mod Rounds
 pub mod Curlies
 pub mod Alike
 pub mod Wholes
+pub mod Placing

@@ -218,6 +218,7 @@ fn refuses_files(rt: HostRuntime) -> Result<(), Fail> {
         ("}", "none"),
         ("int f() { } }", "none"),
         ("int f() {", "none"),
+        ("int main( {", "none"),
         ("int a, ;", "none"),
         ("if (a) x();", "none"),
         ("/* int x;", "none"),
@@ -375,6 +376,14 @@ fn tells_declarations(rt: HostRuntime) -> Result<(), Fail> {
             "If[Name(a) Block[ExprStmt[Binary(*)[Name(T) Name(b)]]] Absent]",
         ),
         ("T * const p;", "none"),
+        (
+            "g((T)a);",
+            "ExprStmt[Call[Name(g) List[Cast[TypeName[TypeSpec(T) Absent] Name(a)]]]]",
+        ),
+        (
+            "printf(\"%\" PRIu64 \"\\n\", va_arg(p, int));",
+            "ExprStmt[Call[Name(printf) List[StrJoin[Str(\"%\") Name(PRIu64) Str(\"\\n\")] Call[Name(va_arg) List[Name(p) TypeName[TypeSpec(int) Absent]]]]]]",
+        ),
     ];
     all_items(&rt, rt.alloc(), &rows)
 }
