@@ -5,3 +5,5 @@ pub mod Curlies
 pub mod Alike
 pub mod Wholes
 pub mod Placing
+pub mod Patterns
+pub mod Pieces
