@@ -4,3 +4,6 @@ pub mod Rounds
 pub mod Curlies
 pub mod Alike
 pub mod Wholes
+pub mod Placing
+pub mod Patterns
+pub mod Pieces
