@@ -19,6 +19,6 @@ items::labelled-loop-turn-preserved t c = record {
   turns = grind (arith, common_steps);
   rest =
       let less : suc (length c.args.tokens.now) - c.loop-turn.turn - 1 ≡ suc (length c.args.tokens.now) - (c.loop-turn.turn + 1) = omega arith in
-      let more : c.push-2.new.self.items ≡ c.loop-turn.parts.items ++ c.in_ok-part-2.part ∷ [] = c.in_ok-push-2.ensures.items in
-      c.loop-turn.invariant.rest ∙ labelled_more c.args.tokens.now c.args.room c.loop-turn.parts.items c.push-2.new.self.items c.in_ok-part-2.part (suc (length c.args.tokens.now) - c.loop-turn.turn) _ c.loop-turn.end c.in_ok-part-2.next (grind (arith, common_steps)) (sym c.if-not-marks.ensures) c.in_ok-part-2.ensures.gives more less;
+      let more : c.push-in-loop-turn.new.self.items ≡ c.loop-turn.parts.items ++ c.in_ok-part-2.part ∷ [] = c.in_ok-push-2.ensures.items in
+      c.loop-turn.invariant.rest ∙ labelled_more c.args.tokens.now c.args.room c.loop-turn.parts.items c.push-in-loop-turn.new.self.items c.in_ok-part-2.part (suc (length c.args.tokens.now) - c.loop-turn.turn) _ c.loop-turn.end c.in_ok-part-2.next (grind (arith, common_steps)) (sym c.if-not-marks.ensures) c.in_ok-part-2.ensures.gives more less;
 }
