@@ -1,7 +1,7 @@
 use Rattle.std.proofs.Common.{◌≡◌, ◌+◌, ◌-◌, ◌∙◌, ◌++◌, suc, length, sym, arith, [], ◌∷◌}
 use Rattle.std.proofs.lemmas.Grind.{common_steps}
 use Rattle.c_unit.proofs.Rounds.{items_more, labelled_more, labelled_last}
-use Rattle.c_unit.proofs.Pieces.{if_read, while_read, do_read}
+use Rattle.c_unit.proofs.Nested.{if_read, while_read, do_read}
 use Rattle.c_unit.proofs.+items.Goals as goal
 
 pub items::items-loop-turn-preserved : goal.items::items-loop-turn-preserved

@@ -1,4 +1,4 @@
--- Where the parts of a level are read, so is the level.
+-- Where the parts of a statement that holds others are read, so is the statement.
 use Rattle.std.proofs.Common.{◌≡◌, ℕ, zero, suc, ◌-◌, ◌+◌, ◌<◌, add-one, List, [], ◌∷◌, ◌++◌, refl, ◌∙◌, Some, true}
 use Rattle.std.specs.Prelude.{eqb}
 use Rattle.std.proofs.lemmas.List.{append-nil}
@@ -11,9 +11,9 @@ use Rattle.c_expr.specs.declared.part.Part.{Part}
 use Rattle.c_expr.specs.Words.{class}
 use Rattle.c_expr.specs.Table.{Builder, Over}
 use Rattle.c_expr.specs.Build.{token_at, start_of, span_between, absent, over, padded, cut, cut_built}
-use Rattle.c_unit.specs.Table.{Row, tok, condition, else_part, some_expression, Sub, If, While, DoWhile, Return}
+use Rattle.c_unit.specs.Table.{Row, tok, condition, else_part, Sub, If, While, DoWhile}
 use Rattle.c_unit.specs.Reading.{level, row}
-use Rattle.c_unit.proofs.Steps.{if_step, while_step, do_step, return_step}
+use Rattle.c_unit.proofs.Steps.{if_step, while_step, do_step}
 
 -- ---- rows
 
@@ -53,8 +53,3 @@ do_read ts room i a b p q found h mark body loops test close made =
     let inner : _ = row_seq ts room (deep Sub) (tok w.While · condition · tok w.Semicolon) (i + 1) a (b + 1) (p ∷ []) (q ∷ []) body (row_after ts room w.While (condition · tok w.Semicolon) a (b + 1) (q ∷ []) loops last) in
     let all : _ = row_after ts room w.Do (deep Sub · tok w.While · condition · tok w.Semicolon) i (b + 1) (p ∷ q ∷ []) mark inner in
     rw made (do_step ts room i h ∙ row_make ts room (Over kinds.DoWhile 0) (tok w.Do · deep Sub · tok w.While · condition · tok w.Semicolon) i (b + 1) (p ∷ q ∷ []) all)
-
-pub return_read : (ts : List Token) (room i a : ℕ) (r found : Part) (os : List Part) → zero < room → eqb (class w.Return) (class (token_at ts i).word) ≡ true → row ts room some_expression (i + 1) ≡ Some (os, a) → eqb (class w.Semicolon) (class (token_at ts a).word) ≡ true → padded (start_of ts i) 1 os ≡ r ∷ [] → found ≡ cut (over kinds.Return [] (span_between ts i (a + 1)) (r ∷ [])) → level ts room Return i ≡ Some (found ∷ [], a + 1)
-return_read ts room i a r found os h mark value close kid made =
-    let all : _ = row_after ts room w.Return (some_expression · tok w.Semicolon) i (a + 1) os mark (row_closed ts room some_expression w.Semicolon (i + 1) a os value close) in
-    rw made (return_step ts room i h ∙ row_make ts room (Over kinds.Return 1) (tok w.Return · some_expression · tok w.Semicolon) i (a + 1) os all ∙ rw kid refl)
