@@ -1,5 +1,5 @@
 -- Where the parts of a statement that holds others are read, so is the statement.
-use Rattle.std.proofs.Common.{◌≡◌, ℕ, zero, suc, ◌-◌, ◌+◌, ◌<◌, add-one, List, [], ◌∷◌, ◌++◌, refl, ◌∙◌, Some, true}
+use Rattle.std.proofs.Common.{◌≡◌, ℕ, zero, ◌-◌, ◌+◌, ◌<◌, add-one, List, [], ◌∷◌, ◌++◌, refl, ◌∙◌, Some, true}
 use Rattle.std.specs.Prelude.{eqb}
 use Rattle.std.proofs.lemmas.List.{append-nil}
 use Rattle.node_tree.specs.declared.kind.Kind.TheVariants as kinds

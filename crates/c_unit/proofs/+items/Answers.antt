@@ -1,6 +1,6 @@
 use Rattle.std.proofs.Common.{◌≡◌, ◌+◌, ◌-◌, ◌∙◌, ◌++◌, suc, length, sym, arith, [], ◌∷◌}
 use Rattle.std.proofs.lemmas.Grind.{common_steps}
-use Rattle.c_unit.proofs.Rounds.{items_more, labelled_more, labelled_last}
+use Rattle.c_unit.proofs.Rounds.{items_more, labelled_more}
 use Rattle.c_unit.proofs.Nested.{if_read, while_read, do_read}
 use Rattle.c_unit.proofs.+items.Goals as goal
 
