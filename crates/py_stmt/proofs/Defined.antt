@@ -1,5 +1,5 @@
 -- Definitions, of which each part is known by its words that count, its kids and its end.
-use Rattle.std.proofs.Common.{◌≡◌, ℕ, zero, suc, ◌+◌, ◌<◌, List, [], ◌∷◌, ◌++◌, refl, ap, ◌∙◌, add-one, append_assoc, true, false, Option, Some, None}
+use Rattle.std.proofs.Common.{◌≡◌, ℕ, zero, suc, ◌+◌, ◌<◌, List, [], ◌∷◌, ◌++◌, refl, ap, ◌∙◌, add-one, append_assoc, true, Option, Some, None}
 use Rattle.node_tree.specs.declared.node.Node.{Node}
 use Rattle.grammar.specs.Rule.{has, ref, ◌·◌}
 use Rattle.grammar.specs.Reader.{◌>>=◌}
@@ -9,7 +9,7 @@ use Rattle.py_expr.specs.Parts.{Part, whole}
 use Rattle.py_expr.specs.Build.{token_at, leaf_of, ident_kind}
 use Rattle.py_expr.specs.Table.{names}
 use Rattle.py_stmt.specs.Table as rows
-use Rattle.py_stmt.specs.Table.{DefRest, Parameters, ClassRest, Bases, table}
+use Rattle.py_stmt.specs.Table.{DefRest, Parameters, ClassRest, Bases}
 use Rattle.py_stmt.specs.Reading.{level, row, heads, body, returns, kids_behind}
 use Rattle.py_stmt.proofs.Steps.{level_row}
 use Rattle.py_stmt.proofs.Forms.{headed}

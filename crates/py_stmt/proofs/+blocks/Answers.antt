@@ -1,11 +1,12 @@
-use Rattle.std.proofs.Common.{arith, sym, refl, zero, suc, length, ◌∙◌, ◌-◌, ◌+◌, ◌++◌, ◌∷◌, []}
+use Rattle.std.proofs.Common.{arith, sym, refl, ap, zero, suc, length, ◌∙◌, ◌-◌, ◌+◌, ◌++◌, ◌∷◌, []}
 use Rattle.node_tree.specs.declared.kind.Kind.TheVariants as k
+use Rattle.grammar.specs.Rule.{ref}
 use Rattle.py_expr.specs.Build.{token_at, empty_list}
-use Rattle.py_stmt.specs.Table.{Stmt, StmtsTail, TryRest, DefRest, ClassRest}
+use Rattle.py_stmt.specs.Table.{Stmt, StmtsTail, TryRest, DefRest, ClassRest, looped}
 use Rattle.py_stmt.specs.Reading as reading
 use Rattle.py_stmt.specs.Reading.{level}
 use Rattle.py_stmt.proofs.Rounds as by
-use Rattle.py_stmt.proofs.Rounds.{chained_more, chained_end, chained_lost, along_turned}
+use Rattle.py_stmt.proofs.Rounds.{chained_more, chained_end, chained_lost, along_turned, statements_rest}
 use Rattle.py_stmt.proofs.Forms.{passed_on}
 use Rattle.py_stmt.proofs.Suites.{gives_same, stmts_read, suite_line, suite_block, if_alone, if_more, branches_alone, branches_more, else_alone, else_more, while_read, while_none, for_rest_read, for_read, with_read, tried_over, def_over, class_over, waited_for, waited_with, waited_over, decorated_async, decorated_def, decorated_class, over_read, over_lost}
 use Rattle.py_stmt.proofs.Defined.{class_rest_read, def_rest_read, def_rest_no_body}
@@ -24,8 +25,23 @@ pub blocks::more_statements-loop-turn-preserved : goal.blocks::more_statements-l
 blocks::more_statements-loop-turn-preserved t c = record {
   within = c.in_ok-more.ensures.within;
   turns = omega arith;
-  rest = chained_more c.args.items.now c.args.room Stmt StmtsTail (suc (length c.args.items.now) - c.loop-turn.turn) _ c.loop-turn.end c.in_ok-more.next _ c.loop-turn.kids c.in_ok-more.more _ by.statements c.loop-turn.invariant.rest (omega arith) (omega arith) (sym c.if-not-starts_statement.ensures) c.in_ok-more.ensures.gives c.in_ok-append.ensures;
+  rest = chained_more c.args.items.now c.args.room Stmt StmtsTail (suc (length c.args.items.now) - c.loop-turn.turn) _ c.loop-turn.end c.in_ok-more.next _ c.loop-turn.kids c.in_ok-more.more _ by.statements c.loop-turn.invariant.rest (omega arith) (omega arith) (sym c.if-not-starts_statement.ensures) c.in_ok-more.ensures.gives c.in_ok-kids.ensures;
 }
+
+pub blocks::more_statements-loop-turn-init : goal.blocks::more_statements-loop-turn-init
+blocks::more_statements-loop-turn-init t c = record {
+  within = c.requires.here;
+  turns = omega arith;
+  rest = ap (reading.along c.args.kids) (statements_rest c.args.items.now c.args.room c.args.at (suc (length c.args.items.now) - zero) (omega arith));
+}
+
+pub blocks::more_statements-returns-clause-gives : goal.blocks::more_statements-returns-clause-gives
+blocks::more_statements-returns-clause-gives t c = elim c.loop-turn-test.branch [
+  | goal.blocks::more_statements-else-loop-turn-test w ↦ along_turned c.args.items.now c.args.room StmtsTail (looped (ref Stmt)) (suc (length c.args.items.now) - c.loop-turn.turn) c.loop-turn.end _ c.loop-turn.kids c.loop-turn.invariant.rest (omega arith)
+  | goal.blocks::more_statements-then-loop-turn-test+else-not-starts_statement+in_ok-more+in_ok-kids+else-turn-turn-end w ↦ along_turned c.args.items.now c.args.room StmtsTail (looped (ref Stmt)) zero w.in_ok-more.next _ (c.loop-turn.kids ++ w.in_ok-more.more)
+      (chained_more c.args.items.now c.args.room Stmt StmtsTail (suc (length c.args.items.now) - c.loop-turn.turn) zero c.loop-turn.end w.in_ok-more.next _ c.loop-turn.kids w.in_ok-more.more (c.loop-turn.kids ++ w.in_ok-more.more) by.statements c.loop-turn.invariant.rest (omega arith) (omega arith) (sym w.if-not-starts_statement.ensures) w.in_ok-more.ensures.gives refl)
+      refl
+]
 
 pub blocks::suite-returns-then-not-is-clause-gives : goal.blocks::suite-returns-then-not-is-clause-gives
 blocks::suite-returns-then-not-is-clause-gives t c = suite_line c.args.items.now c.args.room c.args.at c.in_ok-kids.end c.in_ok-kids.kids c.in_ok-plain.field-0 (grind (arith, c.if-room-eq0.false)) (sym c.if-not-is.ensures.test) c.in_ok-kids.ensures.gives c.in_ok-plain.ensures
