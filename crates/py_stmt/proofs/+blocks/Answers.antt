@@ -30,7 +30,7 @@ blocks::more_statements-loop-turn-preserved t c = record {
 
 pub blocks::more_statements-loop-turn-init : goal.blocks::more_statements-loop-turn-init
 blocks::more_statements-loop-turn-init t c = record {
-  within = c.requires.here;
+  within = omega arith;
   turns = omega arith;
   rest = ap (reading.along c.args.kids) (statements_rest c.args.items.now c.args.room c.args.at (suc (length c.args.items.now) - zero) (omega arith));
 }
