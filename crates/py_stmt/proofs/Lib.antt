@@ -1,6 +1,7 @@
 pub mod Passes
 pub mod Among
 pub mod Colons
+pub mod Defined
 pub mod Ends
 pub mod Steps
 pub mod Rounds

@@ -10,7 +10,7 @@ use crate::build::{plain, statement};
 use crate::compound::{body, for_rest, with_rest};
 use crate::expression::expression;
 use crate::items::{bases, decorators, parameters};
-use node_tree::{Kind, List, Node, ReadFault, Text};
+use node_tree::{Kind, List, Node, ReadFault};
 use py_expr::{Item, PyLevel, Word, absent, empty_list, ident, is, is_name, one, start_at, text_at};
 use std::alloc::Global;
 
