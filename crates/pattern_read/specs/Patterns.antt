@@ -23,9 +23,13 @@ pub record IsJsonValue (text : List ℕ) (value : Node) : Type 0 where
   pub tree : IsTreeOf modes.Pattern text root
   pub kids : kids_of root ≡ value ∷ []
 
--- The text has this shape and tree as a pattern of the language: a JSON pattern is one value.
+-- a pattern of JSON is one value
+abbrev pub IsJsonPattern : List ℕ → Shape → Node → Type 0
+IsJsonPattern text shape tree = (shape ≡ Expr) × IsJsonValue text tree
+
+-- the text has this shape and tree as a pattern of the language
 abbrev pub IsPatternTree : Lang → List ℕ → Shape → Node → Type 0
-IsPatternTree langs.Json text shape tree = (shape ≡ Expr) × IsJsonValue text tree
+IsPatternTree langs.Json text shape tree = IsJsonPattern text shape tree
 IsPatternTree langs.Python text shape tree = python.IsPattern text shape tree
 IsPatternTree langs.C text shape tree = c.IsPattern text shape tree
 IsPatternTree _ text shape tree = ⊥

@@ -5,7 +5,7 @@ ghost use Rattle.node_tree.specs.declared.node.Node.{Node as node};
 ghost use Rattle.node_tree.specs.declared.view.Pattern.{Pattern as a_pattern};
 ghost use Rattle.node_tree.specs.Gives.{Gives};
 ghost use Rattle.node_tree.specs.declared.view.Shape.{Shape as a_shape};
-ghost use Rattle.pattern_read.specs.Patterns.{IsPatternOf, IsFault, IsJsonValue, IsTextOf, GivesPattern, is_only_dots as spec_only_dots};
+ghost use Rattle.pattern_read.specs.Patterns.{IsPatternOf, IsFault, IsJsonPattern, IsTextOf, GivesPattern, is_only_dots as spec_only_dots};
 
 use crate::dots::{are_all_dots, are_dots_placed, is_dots};
 use crate::fault::PatternFault;
@@ -16,16 +16,16 @@ use py_stmt::read_py_pattern;
 use std::alloc::Global;
 
 // The one value of a JSON pattern.
-fn json_value(alloc: Global, text: &str) -> Result<Node, ReadFault>
+fn json_pattern(alloc: Global, text: &str) -> Result<(Shape, Node), ReadFault>
     requires { length text.now ≤ 1000000 }
-    ensures value { IfOk result (IsJsonValue text.now) }
-    ensures only { (value : node) → IsJsonValue text.now value → Gives (λ n. n) result (Some value) }
+    ensures value { IfOk result (λ x. IsJsonPattern text.now x.0 x.1) }
+    ensures only { (shape : a_shape) (value : node) → IsJsonPattern text.now shape value → Gives (λ x. x) result (Some (shape, value)) }
 {
     let mut root = read_json(alloc, text, Mode::Pattern)?;
     let Some(value) = root.kids.pop() else {
         return Err(ReadFault::NoTree);
     };
-    Ok(value)
+    Ok((Shape::Expr, value))
 }
 
 // The shape and the tree of a pattern, be its dots well placed or not.
@@ -37,7 +37,7 @@ fn pattern_tree(alloc: Global, lang: Lang, text: &str) -> Result<(Shape, Node), 
         return Err(ReadFault::NoTree);
     }
     match lang {
-        Lang::Json => Ok((Shape::Expr, json_value(alloc, text)?)),
+        Lang::Json => json_pattern(alloc, text),
         Lang::Python => read_py_pattern(alloc, text),
         Lang::C => read_c_pattern(alloc, text),
         Lang::Regex => Err(ReadFault::NoTree),
