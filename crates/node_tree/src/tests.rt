@@ -71,3 +71,17 @@ fn stops_at_each_block(rt: HostRuntime) -> Result<(), Fail> {
     assert!(rt; places.as_slice() == [0, 3].as_slice());
     Ok(())
 }
+
+#[test]
+fn counts_lines_and_columns_from_one(rt: HostRuntime) -> Result<(), Fail> {
+    let places = Places::of(rt.alloc(), b"ab\r\nc\n\nd")?;
+    let place = |line, col, offset| Place { line, col, offset };
+    assert!(rt; places.place(0) == place(1, 1, 0));
+    assert!(rt; places.place(3) == place(1, 4, 3));
+    assert!(rt; places.place(4) == place(2, 1, 4));
+    assert!(rt; places.place(6) == place(3, 1, 6));
+    assert!(rt; places.place(8) == place(4, 2, 8));
+    let empty = Places::of(rt.alloc(), b"")?;
+    assert!(rt; empty.place(0) == place(1, 1, 0));
+    Ok(())
+}

@@ -7,3 +7,10 @@ pub mod Rounds
 pub mod Forms
 pub mod Orders
 pub mod Suites
+pub mod Compounds
+pub mod Filled
+pub mod Depths
+pub mod Spans
+pub mod Wholes
+pub mod Modules
+pub mod Patterns

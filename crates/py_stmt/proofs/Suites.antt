@@ -206,7 +206,7 @@ decorated_class ts room i j l h list first second mark = decorated_class_by ts r
 
 -- ---- parts in a row, as words that count and kids
 
-two_heads : (from : ℕ) (P : Option (List Part × ℕ)) (B : ℕ → Option (List Part × ℕ)) → headed from (◌>>=◌ {B = List Part × ℕ} P (λ p. ◌>>=◌ {B = List Part × ℕ} (B p.1) (λ b. Some (p.0 ++ b.0, b.1)))) ≡ ◌>>=◌ {B = List ℕ × List Node × ℕ} (headed from P) (λ p. ◌>>=◌ {B = List ℕ × List Node × ℕ} (headed from (B p.2)) (λ b. Some (p.0 ++ b.0, p.1 ++ b.1, b.2)))
+pub two_heads : (from : ℕ) (P : Option (List Part × ℕ)) (B : ℕ → Option (List Part × ℕ)) → headed from (◌>>=◌ {B = List Part × ℕ} P (λ p. ◌>>=◌ {B = List Part × ℕ} (B p.1) (λ b. Some (p.0 ++ b.0, b.1)))) ≡ ◌>>=◌ {B = List ℕ × List Node × ℕ} (headed from P) (λ p. ◌>>=◌ {B = List ℕ × List Node × ℕ} (headed from (B p.2)) (λ b. Some (p.0 ++ b.0, p.1 ++ b.1, b.2)))
 two_heads from None B = refl
 two_heads from (Some p) B = last (B p.1)
   where
@@ -214,6 +214,6 @@ two_heads from (Some p) B = last (B p.1)
     last None = refl
     last (Some b) = rw (written_append p.0 b.0, filled_append from p.0 b.0) refl
 
-one_head : (from : ℕ) (x : Node) (o : Option (List Part × ℕ)) → headed from (◌>>=◌ {B = List Part × ℕ} o (λ y. Some (whole x ∷ y.0, y.1))) ≡ ◌>>=◌ {B = List ℕ × List Node × ℕ} (headed from o) (λ y. Some (y.0, x ∷ y.1, y.2))
+pub one_head : (from : ℕ) (x : Node) (o : Option (List Part × ℕ)) → headed from (◌>>=◌ {B = List Part × ℕ} o (λ y. Some (whole x ∷ y.0, y.1))) ≡ ◌>>=◌ {B = List ℕ × List Node × ℕ} (headed from o) (λ y. Some (y.0, x ∷ y.1, y.2))
 one_head from x None = refl
 one_head from x (Some y) = refl

@@ -410,6 +410,7 @@ fn handlers(
 
 /// Further handlers, behind some.
 #[cycle(blocks)]
+#[tactic(auto, using(crate::proofs::Rounds::handlers_rest))]
 fn more_handlers(
     alloc: Global,
     items: &[Item<'_>],

@@ -13,5 +13,14 @@ mod imports;
 mod items;
 mod line;
 mod look;
+mod module;
+mod pattern;
 mod series;
 mod simple;
+mod whole;
+
+pub use module::read_module;
+pub use pattern::read_py_pattern;
+
+#[cfg(test)]
+mod tests;

@@ -1,13 +1,17 @@
-use Rattle.std.proofs.Common.{arith, sym, refl, zero, suc, length, ◌∙◌, ◌-◌, ◌+◌, ◌++◌, ◌∷◌, []}
+use Rattle.std.proofs.Common.{arith, sym, refl, true, false, zero, suc, length, ◌∙◌, ◌-◌, ◌+◌, ◌++◌, ◌∷◌, []}
 use Rattle.node_tree.specs.declared.kind.Kind.TheVariants as k
+use Rattle.grammar.specs.Rule.{ref}
+use Rattle.py_expr.specs.declared.word.Word.TheVariants as words
+use Rattle.py_expr.specs.Words.{class}
 use Rattle.py_expr.specs.Build.{token_at, empty_list}
-use Rattle.py_stmt.specs.Table.{Stmt, StmtsTail, TryRest, DefRest, ClassRest}
+use Rattle.py_stmt.specs.Table.{Stmt, StmtsTail, Handler, HandlersTail, TryRest, DefRest, ClassRest, looped}
 use Rattle.py_stmt.specs.Reading as reading
 use Rattle.py_stmt.specs.Reading.{level}
 use Rattle.py_stmt.proofs.Rounds as by
-use Rattle.py_stmt.proofs.Rounds.{chained_more, chained_end, chained_lost, along_turned}
-use Rattle.py_stmt.proofs.Forms.{passed_on}
+use Rattle.py_stmt.proofs.Rounds.{chained_more, chained_end, chained_lost, along_turned, has_one}
+use Rattle.py_stmt.proofs.Forms.{passed_on, collected_some, collected_none}
 use Rattle.py_stmt.proofs.Suites.{gives_same, stmts_read, suite_line, suite_block, if_alone, if_more, branches_alone, branches_more, else_alone, else_more, while_read, while_none, for_rest_read, for_read, with_read, tried_over, def_over, class_over, over_read, over_lost}
+use Rattle.py_stmt.proofs.Compounds.{body_read, branches_else, else_read, finally_read, else_kid, handlers_read, handler_read, handler_none, handler_open, try_finally, try_no_else, try_no_finally, handled_alone, handled_finally, handled_none, handled_no_else, handled_no_finally}
 use Rattle.py_stmt.proofs.+blocks.Goals as goal
 
 pub blocks::statements-returns-clause-gives : goal.blocks::statements-returns-clause-gives
@@ -31,6 +35,21 @@ blocks::suite-returns-then-not-is-clause-gives t c = suite_line c.args.items.now
 
 pub blocks::suite-returns-clause-gives : goal.blocks::suite-returns-clause-gives
 blocks::suite-returns-clause-gives t c = suite_block c.args.items.now c.args.room c.args.at c.in_ok-kids-2.end c.in_ok-kids-2.kids c.in_ok-plain-2.field-0 (grind (arith, c.if-room-eq0.false)) (sym c.if-not-is.ensures.test) (sym c.if-not-is-2.ensures.test) c.in_ok-kids-2.ensures.gives (sym c.if-not-is-3.ensures.test) c.in_ok-plain-2.ensures
+
+pub compound::body-returns-clause-gives : goal.compound::body-returns-clause-gives
+compound::body-returns-clause-gives t c = gives_same reading.one c.suite.result _ _ (body_read c.args.items.now c.args.room c.args.at (sym c.if-not-is.ensures.test)) c.suite.ensures.gives
+
+pub compound::branches-returns-then-not-is-clause-gives : goal.compound::branches-returns-then-not-is-clause-gives
+compound::branches-returns-then-not-is-clause-gives t c = gives_same reading.one c.else_part.result _ _ (branches_else c.args.items.now c.args.room c.args.at (grind (arith, c.if-room-eq0.false)) (sym c.if-not-is.ensures.test)) c.else_part.ensures.gives
+
+pub compound::else_part-returns-clause-gives : goal.compound::else_part-returns-clause-gives
+compound::else_part-returns-clause-gives t c = gives_same reading.one c.body.result _ _ (else_read c.args.items.now c.args.room c.args.at (grind (arith, c.if-room-eq0.false)) (sym c.if-not-is.ensures.test)) c.body.ensures.gives
+
+pub compound::finally_part-returns-clause-gives : goal.compound::finally_part-returns-clause-gives
+compound::finally_part-returns-clause-gives t c = gives_same reading.one c.body.result _ _ (finally_read c.args.items.now c.args.room c.args.at (grind (arith, c.if-room-eq0.false)) (sym c.if-not-is.ensures.test)) c.body.ensures.gives
+
+pub compound::else_or_absent-returns-clause-gives : goal.compound::else_or_absent-returns-clause-gives
+compound::else_or_absent-returns-clause-gives t c = else_kid c.args.items.now c.args.room c.args.from c.args.at c.else_part.result (sym c.if-not-is.ensures.test) c.else_part.ensures.gives
 
 pub compound::if_statement-returns-then-not-starts_branches-clause-gives : goal.compound::if_statement-returns-then-not-starts_branches-clause-gives
 compound::if_statement-returns-then-not-starts_branches-clause-gives t c = if_alone c.args.items.now c.args.room c.args.at c.in_ok-kids.end c.in_ok-kids.kids c.in_ok-plain.field-0 (grind (arith, c.if-room-eq0.false)) (sym c.if-not-is.ensures.test) c.in_ok-kids.ensures.gives (sym c.if-not-starts_branches.ensures) c.in_ok-plain.ensures
@@ -70,6 +89,66 @@ compound::tried-returns-clause-gives t c = tried_over c.args.items.now c.args.ro
 
 pub compound::tried-returns-in_err-kids-2-clause-gives : goal.compound::tried-returns-in_err-kids-2-clause-gives
 compound::tried-returns-in_err-kids-2-clause-gives t c = passed_on reading.one reading.kids_alone c.from_residual-in_err-kids-2.result c.in_err-kids-2.field-0.0 _ _ c.from_residual-in_err-kids-2.ensures.1 (rw c.in_ok-kids.ensures at c.in_err-kids-2.ensures.gives) (λ none. tried_over c.args.items.now c.args.room c.args.at c.in_ok-block.end c.in_ok-block.block (grind (arith, c.if-room-eq0.false)) (sym c.if-not-is.ensures.test) c.in_ok-block.ensures.gives ∙ over_lost c.args.items.now k.Try c.args.at [] (c.in_ok-block.block ∷ []) (level c.args.items.now c.args.room TryRest c.in_ok-block.end) c.start_at-from.result none)
+
+pub compound::handlers-returns-in_err-kids-2-clause-gives : goal.compound::handlers-returns-in_err-kids-2-clause-gives
+compound::handlers-returns-in_err-kids-2-clause-gives t c = passed_on reading.one reading.all c.from_residual-in_err-kids-2.result c.in_err-kids-2.field-0.0 _ _ c.from_residual-in_err-kids-2.ensures.1 (rw c.in_ok-kids.ensures at c.in_err-kids-2.ensures.gives) (λ none. handlers_read c.args.items.now c.args.room c.args.at c.in_ok-first.end c.in_ok-first.first (grind (arith, c.if-room-eq0.false)) c.in_ok-first.ensures.gives ∙ collected_none c.args.items.now k.List c.args.at _ none)
+
+pub compound::handlers-returns-clause-gives : goal.compound::handlers-returns-clause-gives
+compound::handlers-returns-clause-gives t c = handlers_read c.args.items.now c.args.room c.args.at c.in_ok-first.end c.in_ok-first.first (grind (arith, c.if-room-eq0.false)) c.in_ok-first.ensures.gives ∙ collected_some c.args.items.now k.List c.args.at c.in_ok-kids-2.end _ c.in_ok-kids-2.kids _ refl (rw c.in_ok-kids.ensures at c.in_ok-kids-2.ensures.gives) c.in_ok-plain.ensures
+
+pub compound::more_handlers-returns-then-not-is-clause-gives : goal.compound::more_handlers-returns-then-not-is-clause-gives
+compound::more_handlers-returns-then-not-is-clause-gives t c = chained_end c.args.items.now c.args.room Handler HandlersTail (suc (length c.args.items.now) - c.loop-turn.turn) c.loop-turn.end _ c.loop-turn.kids by.handlers c.loop-turn.invariant.rest (omega arith) (has_one (class words.Except) _ false (sym c.if-not-is.ensures.test))
+
+pub compound::more_handlers-returns-in_err-kid-clause-gives : goal.compound::more_handlers-returns-in_err-kid-clause-gives
+compound::more_handlers-returns-in_err-kid-clause-gives t c = passed_on reading.all reading.one c.from_residual.result c.in_err-kid.field-0.0 _ _ c.from_residual.ensures.1 c.in_err-kid.ensures.gives (λ none. chained_lost c.args.items.now c.args.room Handler HandlersTail (suc (length c.args.items.now) - c.loop-turn.turn) c.loop-turn.end _ c.loop-turn.kids by.handlers c.loop-turn.invariant.rest (omega arith) (has_one (class words.Except) _ true (sym c.if-not-is.ensures.test)) none)
+
+pub compound::more_handlers-loop-turn-preserved : goal.compound::more_handlers-loop-turn-preserved
+compound::more_handlers-loop-turn-preserved t c = record {
+  within = c.in_ok-kid.ensures.within;
+  turns = omega arith;
+  rest = chained_more c.args.items.now c.args.room Handler HandlersTail (suc (length c.args.items.now) - c.loop-turn.turn) _ c.loop-turn.end c.in_ok-kid.next _ c.loop-turn.kids (c.in_ok-kid.kid ∷ []) _ by.handlers c.loop-turn.invariant.rest (omega arith) (omega arith) (has_one (class words.Except) _ true (sym c.if-not-is.ensures.test)) c.in_ok-kid.ensures.gives c.in_ok-push.ensures.ok;
+}
+
+pub compound::more_handlers-returns-clause-gives : goal.compound::more_handlers-returns-clause-gives
+compound::more_handlers-returns-clause-gives t c = elim c.loop-turn-test.branch [
+  | goal.compound::more_handlers-else-loop-turn-test w ↦ along_turned c.args.items.now c.args.room HandlersTail (looped (ref Handler)) (suc (length c.args.items.now) - c.loop-turn.turn) c.loop-turn.end _ c.loop-turn.kids c.loop-turn.invariant.rest (omega arith)
+  | goal.compound::more_handlers-then-loop-turn-test+else-not-is+in_ok-kid+in_ok-push+else-turn-turn-end w ↦ along_turned c.args.items.now c.args.room HandlersTail (looped (ref Handler)) zero w.in_ok-kid.next _ (c.loop-turn.kids ++ w.in_ok-kid.kid ∷ [])
+      (chained_more c.args.items.now c.args.room Handler HandlersTail (suc (length c.args.items.now) - c.loop-turn.turn) zero c.loop-turn.end w.in_ok-kid.next _ c.loop-turn.kids (w.in_ok-kid.kid ∷ []) (c.loop-turn.kids ++ w.in_ok-kid.kid ∷ []) by.handlers c.loop-turn.invariant.rest (omega arith) (omega arith) (has_one (class words.Except) _ true (sym w.if-not-is.ensures.test)) w.in_ok-kid.ensures.gives refl)
+      refl
+]
+
+pub compound::handler-returns-in_err-kind-clause-gives : goal.compound::handler-returns-in_err-kind-clause-gives
+compound::handler-returns-in_err-kind-clause-gives t c = passed_on reading.one reading.two_kids c.from_residual.result c.in_err-kind.field-0.0 _ _ c.from_residual.ensures.1 (rw c.start_at.ensures at c.in_err-kind.ensures.gives) (λ none. handler_none c.args.items.now c.args.room c.args.at (grind (arith, c.if-room-eq0.false)) (sym c.if-not-is.ensures.test) none)
+
+pub compound::handler-returns-in_err-block-clause-gives : goal.compound::handler-returns-in_err-block-clause-gives
+compound::handler-returns-in_err-block-clause-gives t c = passed_on reading.one reading.one c.from_residual-in_err-block.result c.in_err-block.field-0.0 _ _ c.from_residual-in_err-block.ensures.1 c.in_err-block.ensures.gives (λ none. handler_open c.args.items.now c.args.room c.args.at c.in_ok-kind.end (c.in_ok-kind.kind ∷ c.in_ok-kind.name ∷ []) (grind (arith, c.if-room-eq0.false)) (sym c.if-not-is.ensures.test) (rw c.start_at.ensures at c.in_ok-kind.ensures.gives) none)
+
+pub compound::handler-returns-clause-gives : goal.compound::handler-returns-clause-gives
+compound::handler-returns-clause-gives t c = handler_read c.args.items.now c.args.room c.args.at c.in_ok-kind.end c.in_ok-block.end c.in_ok-kind.kind c.in_ok-kind.name c.in_ok-block.block c.in_ok-plain.field-0 (grind (arith, c.if-room-eq0.false)) (sym c.if-not-is.ensures.test) (rw c.start_at.ensures at c.in_ok-kind.ensures.gives) c.in_ok-block.ensures.gives (rw c.in_ok-kids.ensures at c.in_ok-plain.ensures)
+
+pub compound::try_rest-returns-in_err-other-clause-gives : goal.compound::try_rest-returns-in_err-other-clause-gives
+compound::try_rest-returns-in_err-other-clause-gives t c = passed_on reading.kids_alone reading.one_kid c.from_residual-in_err-other.result c.in_err-other.field-0.0 _ _ c.from_residual-in_err-other.ensures.1 c.in_err-other.ensures.gives (λ none. try_no_else c.args.items.now c.args.room c.args.from c.args.at c.args.kids c.args.kids c.args.kids (grind (arith, c.if-room-eq0.false)) (sym c.if-not-is.ensures.test) none)
+
+pub compound::try_rest-returns-in_err-last-clause-gives : goal.compound::try_rest-returns-in_err-last-clause-gives
+compound::try_rest-returns-in_err-last-clause-gives t c = passed_on reading.kids_alone reading.one c.from_residual-in_err-last.result c.in_err-last.field-0.0 _ _ c.from_residual-in_err-last.ensures.1 c.in_err-last.ensures.gives (λ none. try_no_finally c.args.items.now c.args.room c.args.from c.args.at c.args.kids c.args.kids c.args.kids (grind (arith, c.if-room-eq0.false)) c.in_ok-other.end c.in_ok-other.other (sym c.if-not-is.ensures.test) c.in_ok-other.ensures.gives none)
+
+pub compound::try_rest-returns-then-not-is-clause-gives : goal.compound::try_rest-returns-then-not-is-clause-gives
+compound::try_rest-returns-then-not-is-clause-gives t c = try_finally c.args.items.now c.args.room c.args.from c.args.at c.args.kids _ _ (grind (arith, c.if-room-eq0.false)) c.in_ok-other.end c.in_ok-last.end _ c.in_ok-other.other c.in_ok-last.last (sym c.if-not-is.ensures.test) c.in_ok-other.ensures.gives c.in_ok-last.ensures.gives (rw c.empty_list.ensures at c.in_ok-push.ensures.ok) c.in_ok-push-2.ensures.ok c.in_ok-push-3.ensures.ok
+
+pub compound::try_rest-returns-in_err-list-clause-gives : goal.compound::try_rest-returns-in_err-list-clause-gives
+compound::try_rest-returns-in_err-list-clause-gives t c = passed_on reading.kids_alone reading.one c.from_residual-in_err-list.result c.in_err-list.field-0.0 _ _ c.from_residual-in_err-list.ensures.1 c.in_err-list.ensures.gives (λ none. handled_none c.args.items.now c.args.room c.args.from c.args.at c.args.kids c.args.kids c.args.kids (grind (arith, c.if-room-eq0.false)) (sym c.if-not-is.ensures.test) none)
+
+pub compound::try_rest-returns-in_err-other-2-clause-gives : goal.compound::try_rest-returns-in_err-other-2-clause-gives
+compound::try_rest-returns-in_err-other-2-clause-gives t c = passed_on reading.kids_alone reading.one_kid c.from_residual-in_err-other-2.result c.in_err-other-2.field-0.0 _ _ c.from_residual-in_err-other-2.ensures.1 c.in_err-other-2.ensures.gives (λ none. handled_no_else c.args.items.now c.args.room c.args.from c.args.at c.args.kids c.args.kids c.args.kids (grind (arith, c.if-room-eq0.false)) c.in_ok-list.end c.in_ok-list.list (sym c.if-not-is.ensures.test) c.in_ok-list.ensures.gives none)
+
+pub compound::try_rest-returns-then-not-is-2-clause-gives : goal.compound::try_rest-returns-then-not-is-2-clause-gives
+compound::try_rest-returns-then-not-is-2-clause-gives t c = handled_alone c.args.items.now c.args.room c.args.from c.args.at c.args.kids _ _ (grind (arith, c.if-room-eq0.false)) c.in_ok-list.end c.in_ok-other-2.end c.in_ok-list.list c.in_ok-other-2.other (sym c.if-not-is.ensures.test) c.in_ok-list.ensures.gives c.in_ok-other-2.ensures.gives (sym c.if-not-is-2.ensures.test) c.in_ok-push-4.ensures.ok c.in_ok-push-5.ensures.ok
+
+pub compound::try_rest-returns-in_err-last-2-clause-gives : goal.compound::try_rest-returns-in_err-last-2-clause-gives
+compound::try_rest-returns-in_err-last-2-clause-gives t c = passed_on reading.kids_alone reading.one c.from_residual-in_err-last-2.result c.in_err-last-2.field-0.0 _ _ c.from_residual-in_err-last-2.ensures.1 c.in_err-last-2.ensures.gives (λ none. handled_no_finally c.args.items.now c.args.room c.args.from c.args.at c.args.kids c.args.kids c.args.kids (grind (arith, c.if-room-eq0.false)) c.in_ok-list.end c.in_ok-other-2.end c.in_ok-list.list c.in_ok-other-2.other (sym c.if-not-is.ensures.test) c.in_ok-list.ensures.gives c.in_ok-other-2.ensures.gives (sym c.if-not-is-2.ensures.test) none)
+
+pub compound::try_rest-returns-clause-gives : goal.compound::try_rest-returns-clause-gives
+compound::try_rest-returns-clause-gives t c = handled_finally c.args.items.now c.args.room c.args.from c.args.at c.args.kids _ _ (grind (arith, c.if-room-eq0.false)) c.in_ok-list.end c.in_ok-other-2.end c.in_ok-last-2.end _ c.in_ok-list.list c.in_ok-other-2.other c.in_ok-last-2.last (sym c.if-not-is.ensures.test) c.in_ok-list.ensures.gives c.in_ok-other-2.ensures.gives (sym c.if-not-is-2.ensures.test) c.in_ok-last-2.ensures.gives c.in_ok-push-4.ensures.ok c.in_ok-push-5.ensures.ok c.in_ok-push-6.ensures.ok
 
 pub definitions::function-returns-clause-gives : goal.definitions::function-returns-clause-gives
 definitions::function-returns-clause-gives t c = def_over c.args.items.now c.args.room c.args.at (grind (arith, c.if-room-eq0.false)) (sym c.if-not-is.ensures.test) ∙ over_read c.args.items.now k.FunctionDef c.args.at c.in_ok-kids-2.end [] (empty_list (token_at c.args.items.now c.args.at).span.from ∷ []) c.in_ok-kids-2.kids c.in_ok-plain.field-0 (level c.args.items.now c.args.room DefRest (c.args.at + 1)) (token_at c.args.items.now c.args.at).span.from refl (rw (c.in_ok-kids.ensures, c.empty_list.ensures, c.start_at-from.ensures) at c.in_ok-kids-2.ensures.gives) c.in_ok-plain.ensures
