@@ -18,6 +18,7 @@ use Rattle.grammar.specs.Renamed.{renamed}
 use Rattle.grammar.proofs.Checked.{is_grammar}
 use Rattle.c_lex.specs.declared.token.CToken.{CToken}
 use Rattle.c_lex.specs.Places.{AreTokensIn}
+use Rattle.c_expr.specs.declared.word.Token.{Token}
 use Rattle.c_expr.specs.declared.part.Part.{Part}
 use Rattle.c_expr.specs.Words.{class, token_of}
 use Rattle.c_expr.specs.Table as e
@@ -115,14 +116,19 @@ over_lies text kind ps span lies h =
 
 -- ---- files and patterns
 
-pub unit_lies : (text : List ℕ) (ts : List CToken) (mode : Mode) (ps : List Part) (end : ℕ) → IsUtf8 text → AreTokensIn text ts → IsAll File (map (token_of mode) ts) ps end → SpansLieIn text (node k.Root [] (nodes ps) (record { from = 0; to = length text }))
-unit_lies text ts mode ps end utf8 lie a = over_lies text k.Root ps (record { from = 0; to = length text }) (record { ordered = omega arith; begins = IsCharBoundary-start text utf8; ends = IsCharBoundary-end text }) (parts_lie text ts lie mode File ps end a)
+pub unit_lies : (text : List ℕ) (ts : List CToken) (mode : Mode) (us : List Token) (ps : List Part) (end : ℕ) (written : List ℕ) (kids : List Node) → IsUtf8 text → AreTokensIn text ts → us ≡ map (token_of mode) ts → IsAll File us ps end → written ≡ [] → kids ≡ nodes ps → SpansLieIn text (node k.Root written kids (record { from = 0; to = length text }))
+unit_lies text ts mode us ps end written kids utf8 lie words a no_text all_kids =
+    rw (no_text, all_kids)
+    (over_lies text k.Root ps (record { from = 0; to = length text }) (record { ordered = omega arith; begins = IsCharBoundary-start text utf8; ends = IsCharBoundary-end text }) (parts_lie text ts lie mode File ps end (subst (λ (vs : List Token). IsAll File vs ps end) words a)))
 
 run_lies : (text : List ℕ) (ts : List CToken) (mode : Mode) (l : Level) (block : Node) → AreTokensIn text ts → IsRun l (map (token_of mode) ts) block → SpansLieIn text block
 run_lies text ts mode l block lie r =
     subst (λ (n : Node). SpansLieIn text n) (sym r.is_block) (over_lies text k.Block r.items (span_between (map (token_of mode) ts) 0 r.end) (block_span text ts lie mode l r.items r.end r.all) (parts_lie text ts lie mode l r.items r.end r.all))
 
-pub pattern_lies : (text : List ℕ) (ts : List CToken) (mode : Mode) (shape : Shape) (tree : Node) → AreTokensIn text ts → IsPatternOf (map (token_of mode) ts) shape tree → SpansLieIn text tree
-pattern_lies text ts mode shape tree lie (expression h) = (parts_lie text ts lie mode (Expression e.Comma) (record { node = tree; depth = h.depth } ∷ []) h.end h.all).0
-pattern_lies text ts mode shape tree lie (items none h) = run_lies text ts mode Items tree lie h
-pattern_lies text ts mode shape tree lie (file_items none others h) = run_lies text ts mode File tree lie h
+pub pattern_lies : (text : List ℕ) (ts : List CToken) (mode : Mode) (us : List Token) (shape : Shape) (tree : Node) → AreTokensIn text ts → us ≡ map (token_of mode) ts → IsPatternOf us shape tree → SpansLieIn text tree
+pattern_lies text ts mode us shape tree lie words h = by shape tree (subst (λ (vs : List Token). IsPatternOf vs shape tree) words h)
+  where
+    by : (shape : Shape) (tree : Node) → IsPatternOf (map (token_of mode) ts) shape tree → SpansLieIn text tree
+    by shape tree (expression h) = (parts_lie text ts lie mode (Expression e.Comma) (record { node = tree; depth = h.depth } ∷ []) h.end h.all).0
+    by shape tree (items none h) = run_lies text ts mode Items tree lie h
+    by shape tree (file_items none others h) = run_lies text ts mode File tree lie h

@@ -3,21 +3,20 @@ use Rattle.std.proofs.Common.{◌≡◌, ℕ, zero, suc, ◌<◌, ◌≤◌, Lis
 use Rattle.std.specs.Prelude.{eqb, Result}
 use Rattle.node_tree.specs.declared.fault.ReadFault.{ReadFault}
 use Rattle.node_tree.specs.Gives.{Gives}
-use Rattle.grammar.specs.Rule.{has, Derives, outside, d_make}
+use Rattle.grammar.specs.Rule.{has}
 use Rattle.grammar.specs.Reader.{read_level}
 use Rattle.grammar.proofs.Theorem.{read_piece, piece_read}
 use Rattle.c_expr.specs.declared.word.Word.TheVariants.{End}
 use Rattle.c_expr.specs.declared.word.Token.{Token}
 use Rattle.c_expr.specs.declared.part.Part.{Part}
 use Rattle.c_expr.specs.Words.{class}
-use Rattle.c_expr.specs.Table.{Comma, Chain}
-use Rattle.c_expr.specs.Build.{token_at, tallest, built, source, cut_source}
+use Rattle.c_expr.specs.Build.{token_at, tallest, source, cut_source}
 use Rattle.c_expr.specs.Reading.{round_at}
 use Rattle.c_expr.proofs.Depths.{deepens}
 use Rattle.c_unit.proofs.Alike.{levels_alike, cut_reads, uncut_reads}
 use Rattle.c_unit.specs.declared.whole.Whole.{Whole}
 use Rattle.c_unit.specs.declared.whole.Whole.TheVariants as wholes
-use Rattle.c_unit.specs.Table.{Level, Expression, table, grammar}
+use Rattle.c_unit.specs.Table.{Level, grammar}
 use Rattle.c_unit.specs.Sets.{sets, ranks}
 use Rattle.c_unit.specs.Reading.{level}
 use Rattle.c_unit.specs.Units.{level_of, IsAll}
@@ -64,10 +63,6 @@ is_end ts end h = same (class End) (class (token_at ts end).word) h
   where
     same : (a b : ℕ) → eqb a b ≡ true → b ≡ a
     same a b e = grind arith
-
--- an expression is one part
-pub one_expression : (ts : List Token) (ps : List Part) (i j : ℕ) → Derives (source ts) table outside (table (Expression Comma)) ps i j → (p : Part) × (ps ≡ p ∷ [])
-one_expression ts ps i j (d_make ys d e) = (built ts Chain i j ys, e)
 
 -- ---- what a reading gives, against what all tokens are
 

@@ -13,8 +13,8 @@ returns-then-room-eq0-clause-gives c = grafted_nowhere c.args.from c.args.base _
 pub returns-in_err-vars-clause-gives : goal.returns-in_err-vars-clause-gives
 returns-in_err-vars-clause-gives c =
     let h : _ =
-        fails_too one c.in_err-vars.field-0.0 _ (grafting c.args.from c.args.base (level c.args.tokens.now c.args.room Declared c.args.at)) c.in_err-vars.ensures.gives
-        (λ none. grafted_nowhere c.args.from c.args.base _ (declared_fails c.args.tokens.now c.args.room c.args.at (grind (arith, c.if-room-eq0.false)) none))
+    fails_too one c.in_err-vars.field-0.0 _ (grafting c.args.from c.args.base (level c.args.tokens.now c.args.room Declared c.args.at)) c.in_err-vars.ensures.gives
+    (λ none. grafted_nowhere c.args.from c.args.base _ (declared_fails c.args.tokens.now c.args.room c.args.at (grind (arith, c.if-room-eq0.false)) none))
     in
     search (rules, h)
 

@@ -12,16 +12,16 @@ returns-then-room-eq0-clause-gives c = grafted_nowhere c.args.from c.args.base _
 pub returns-in_err-name-clause-gives : goal.returns-in_err-name-clause-gives
 returns-in_err-name-clause-gives c =
     let h : _ =
-        fails_too one c.in_err-name.field-0.0 _ (grafting c.args.from c.args.base (level c.args.tokens.now c.args.room Function c.args.at)) c.in_err-name.ensures.gives
-        (λ none. grafted_nowhere c.args.from c.args.base _ (function_unnamed c.args.tokens.now c.args.room c.args.at (grind (arith, c.if-room-eq0.false)) none))
+    fails_too one c.in_err-name.field-0.0 _ (grafting c.args.from c.args.base (level c.args.tokens.now c.args.room Function c.args.at)) c.in_err-name.ensures.gives
+    (λ none. grafted_nowhere c.args.from c.args.base _ (function_unnamed c.args.tokens.now c.args.room c.args.at (grind (arith, c.if-room-eq0.false)) none))
     in
     search (rules, h)
 
 pub returns-in_err-body-clause-gives : goal.returns-in_err-body-clause-gives
 returns-in_err-body-clause-gives c =
     let h : _ =
-        fails_too one c.in_err-body.field-0.0 _ (grafting c.args.from c.args.base (level c.args.tokens.now c.args.room Function c.args.at)) c.in_err-body.ensures.gives
-        (λ none. grafted_nowhere c.args.from c.args.base _ (function_fails c.args.tokens.now c.args.room c.args.at c.in_ok-name.end c.in_ok-name.name (grind (arith, c.if-room-eq0.false)) c.in_ok-name.ensures.gives none))
+    fails_too one c.in_err-body.field-0.0 _ (grafting c.args.from c.args.base (level c.args.tokens.now c.args.room Function c.args.at)) c.in_err-body.ensures.gives
+    (λ none. grafted_nowhere c.args.from c.args.base _ (function_fails c.args.tokens.now c.args.room c.args.at c.in_ok-name.end c.in_ok-name.name (grind (arith, c.if-room-eq0.false)) c.in_ok-name.ensures.gives none))
     in
     search (rules, h)
 
