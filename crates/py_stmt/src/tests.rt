@@ -94,10 +94,7 @@ fn reads_where_nodes_stand(rt: HostRuntime) -> Result<(), Fail> {
     let rows = [
         ("", "Root 0..0"),
         ("\n# a\n", "Root 0..5"),
-        (
-            "\u{feff}a",
-            "Root 0..4[ExprStmt 3..4[Name(a) 3..4]]",
-        ),
+        ("\u{feff}a", "Root 0..4[ExprStmt 3..4[Name(a) 3..4]]"),
         (
             "é = 1",
             "Root 0..6[Assign 0..6[Name(é) 0..2 Number(1) 5..6]]",
