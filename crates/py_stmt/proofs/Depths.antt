@@ -9,7 +9,7 @@ use Rattle.grammar.specs.Rule.{Deepens}
 use Rattle.grammar.proofs.Facts.{true_false}
 use Rattle.py_expr.specs.declared.item.Item.{Item}
 use Rattle.py_expr.specs.Parts.{Part, whole, lacking, call, more, clauses, display, sign, bounds, node, nodes_of, depth_nodes, depth_all}
-use Rattle.py_expr.specs.Build.{token_at, source as known_source}
+use Rattle.py_expr.specs.Build.{token_at}
 use Rattle.py_expr.specs.Table as e
 use Rattle.py_expr.proofs.Depths.{node_depth, nodes_left, nodes_right, deepens as known}
 use Rattle.py_stmt.specs.Table.{Builder, Value_of, Statement, Item_of, Headed, Head, Valued, Several, Listing, Dotting, strong}

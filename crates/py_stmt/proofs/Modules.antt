@@ -1,5 +1,5 @@
 -- What the items of a text's tokens are is what the text is.
-use Rattle.std.proofs.Common.{◌≡◌, ℕ, suc, ◌+◌, ◌≤◌, List, [], ◌∷◌, length, refl, sym, ap, ◌∙◌, subst, arith, Option, Some, None, Err}
+use Rattle.std.proofs.Common.{◌≡◌, ℕ, ◌≤◌, List, [], ◌∷◌, length, sym, subst, arith, Option, Some, None, Err}
 use Rattle.std.specs.Prelude.{All, true, leb}
 use Rattle.std.specs.Str.{IsUtf8}
 use Rattle.node_tree.specs.declared.node.Node.{Node}
@@ -19,13 +19,12 @@ use Rattle.py_expr.specs.declared.item.Item.{Item}
 use Rattle.py_expr.specs.Items.{AreItems}
 use Rattle.py_expr.specs.Insides.{HasNodes}
 use Rattle.py_expr.specs.Parts.{node, depth_nodes}
-use Rattle.py_expr.specs.Build.{token_at}
 use Rattle.py_expr.proofs.Depths.{node_depth}
 use Rattle.py_expr.proofs.Spans.{text_items_lie}
 use Rattle.py_stmt.specs.Table.{File}
 use Rattle.py_stmt.specs.Modules.{AreItemsOf, AreStatements, IsModule, block, IsShape, expression, run, IsPattern}
 use Rattle.py_stmt.proofs.Forms.{some_same}
-use Rattle.py_stmt.proofs.Patterns.{root_lies, shape_lies, one_shape}
+use Rattle.py_stmt.proofs.Patterns.{root_lies, shape_lies}
 use Rattle.py_stmt.proofs.Spans.{spelled_lie}
 
 -- a text that was refused has no tokens

@@ -1,5 +1,5 @@
 -- What statements are as a pattern, and where the trees of modules and patterns lie.
-use Rattle.std.proofs.Common.{◌≡◌, ℕ, zero, ◌-◌, ◌<◌, ◌≤◌, List, [], ◌∷◌, ◌++◌, length, length-append, get_or, refl, sym, ap, ◌∙◌, arith, Bool, Option, Some, None}
+use Rattle.std.proofs.Common.{◌≡◌, ℕ, ◌-◌, ◌<◌, ◌≤◌, List, [], ◌∷◌, ◌++◌, length, length-append, get_or, refl, sym, ap, ◌∙◌, arith, Bool, Option, Some}
 use Rattle.std.specs.Prelude.{All, IsTrue, true, false}
 use Rattle.std.specs.Str.{IsUtf8}
 use Rattle.std.proofs.lemmas.Str.{IsCharBoundary-start, IsCharBoundary-end}
@@ -7,7 +7,6 @@ use Rattle.std.proofs.lemmas.List.Elements.{All-head}
 use Rattle.node_tree.specs.declared.node.Node.{Node}
 use Rattle.node_tree.specs.declared.kind.Kind.TheVariants as k
 use Rattle.node_tree.specs.declared.view.Shape.{Shape}
-use Rattle.node_tree.specs.declared.view.Shape.TheVariants as shapes
 use Rattle.node_tree.specs.Spans.{SpansLieIn}
 use Rattle.node_tree.specs.Tree.{kind_of, kids_of}
 use Rattle.node_tree.proofs.SpanLaws.{none_lie}

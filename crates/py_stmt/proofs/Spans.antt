@@ -1,6 +1,6 @@
 -- The spans of statements lie in each text in which their tokens lie.
-use Rattle.std.proofs.Common.{◌≡◌, ℕ, zero, suc, ◌-◌, ◌<◌, ◌≤◌, List, [], ◌∷◌, ◌++◌, length, refl, arith, Bool, true, false, inl, inr, ◌⊎◌}
-use Rattle.std.specs.Prelude.{All, max, if◌then◌else◌, None}
+use Rattle.std.proofs.Common.{◌≡◌, ℕ, zero, suc, ◌-◌, ◌<◌, ◌≤◌, List, [], ◌∷◌, ◌++◌, length, arith, Bool, true, false, inl, inr, ◌⊎◌}
+use Rattle.std.specs.Prelude.{All, max, if◌then◌else◌}
 use Rattle.std.specs.Str.{IsUtf8, IsCharBoundary}
 use Rattle.std.proofs.lemmas.Str.{IsCharBoundary-start}
 use Rattle.std.proofs.lemmas.List.{get_or_past}
@@ -18,7 +18,7 @@ use Rattle.grammar.proofs.Checked.{is_grammar}
 use Rattle.py_expr.specs.declared.item.Item.{Item}
 use Rattle.py_expr.specs.Parts.{Part, whole, lacking, call, more, clauses, display, sign, bounds, node, nodes_of, wholes}
 use Rattle.py_expr.specs.Build.{token_at, end_item, absent, empty_list}
-use Rattle.py_expr.proofs.SpanBuilders.{first_lies, kids_lie, over_lies, at_place, both_lie, Lie, nodes_lie}
+use Rattle.py_expr.proofs.SpanBuilders.{over_lies, at_place, both_lie, Lie, nodes_lie}
 use Rattle.py_expr.proofs.Spans.{ItemsLie, item_lies, After, keeps as known}
 use Rattle.py_stmt.specs.Table.{Level, Builder, Value_of, Statement, Item_of, Headed, Head, Valued, Several, Listing, Dotting, table, grammar}
 use Rattle.py_stmt.specs.Build.{is_layout, code_end, end_from, filled, written, arity, absents, padded, told, statement, is_dots, unless_dots, item, valued, several, listing, dotted, dotting, alone, build, source}

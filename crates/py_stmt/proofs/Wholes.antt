@@ -12,7 +12,7 @@ use Rattle.py_expr.specs.declared.item.Item.{Item}
 use Rattle.py_expr.specs.declared.word.Word.TheVariants as w
 use Rattle.py_expr.specs.Words.{class}
 use Rattle.py_expr.specs.Build.{token_at}
-use Rattle.py_expr.specs.Parts.{Part, whole, wholes, depth_nodes, depth_all}
+use Rattle.py_expr.specs.Parts.{Part, wholes, depth_nodes, depth_all}
 use Rattle.py_expr.specs.Reading.{round_at}
 use Rattle.py_stmt.specs.Table.{File, Stmts, table, grammar}
 use Rattle.py_stmt.specs.Build.{source}

@@ -1,4 +1,4 @@
-//! Python's statements: from tokens to the tree of a module, and to that of a pattern.
+//! Python's statements: from a text to the tree of its module, and to the pattern that it is.
 //!
 //! The grammar is a table over the levels of expressions (`specs/Table.antt`), a row for each line of it.
 #![tactic(auto)]

@@ -94,6 +94,11 @@ fn reads_where_nodes_stand(rt: HostRuntime) -> Result<(), Fail> {
     let rows = [
         ("", "Root 0..0"),
         ("\n# a\n", "Root 0..5"),
+        ("\u{feff}a", "Root 0..4[ExprStmt 3..4[Name(a) 3..4]]"),
+        (
+            "é = 1",
+            "Root 0..6[Assign 0..6[Name(é) 0..2 Number(1) 5..6]]",
+        ),
         (
             "@d\nasync def f(a): pass\ndef g(): return 1\n",
             "Root 0..42[FunctionDef(async) 0..23[List 0..2[Name(d) 1..2] Id(f) 13..14 List 15..16[Param 15..16[Id(a) 15..16 Absent 15..15 Absent 15..15]] Absent 0..0 Block 19..23[Pass 19..23]] FunctionDef 24..41[List 24..24 Id(g) 28..29 List 24..24 Absent 24..24 Block 33..41[Return 33..41[Number(1) 40..41]]]]",

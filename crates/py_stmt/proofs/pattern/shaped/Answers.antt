@@ -1,4 +1,3 @@
-use Rattle.std.proofs.Common.{sym}
 use Rattle.node_tree.specs.declared.view.Shape.TheVariants as shapes
 use Rattle.py_stmt.specs.Modules.{expression, run}
 use Rattle.py_stmt.proofs.Patterns.{not_expression, taken, one_shape}
