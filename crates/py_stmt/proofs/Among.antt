@@ -1,6 +1,6 @@
 -- Whether a class is among those of some words.
 use Rattle.std.proofs.Common.{◌≡◌, ℕ, List, [], ◌∷◌, ◌++◌, refl, Bool, true, false, eqb}
-use Rattle.std.specs.Prelude.{map, ◌||◌}
+use Rattle.std.specs.Prelude.{◌||◌}
 use Rattle.grammar.specs.Rule.{has}
 
 step : (b c e : Bool) → (b || c) ≡ false → (c ≡ false → e ≡ false) → (b || e) ≡ false

@@ -21,7 +21,7 @@ use Rattle.py_expr.specs.Table.{names}
 use Rattle.py_stmt.specs.declared.series.Series.TheVariants as series_of
 use Rattle.py_stmt.specs.Table.{Expression, Value, Alias, Dotted, Aliases, MoreAliases, Origin, Imported, FromImport, Import, Raise, Annotated, Evaluated, Simple, Line, WithItem, WithItems, Decorator, Decorators, Caught, points, table}
 use Rattle.py_stmt.specs.Table as rows
-use Rattle.py_stmt.specs.Build.{end_from, statement, padded, absents, arity, filled, written, pointed}
+use Rattle.py_stmt.specs.Build.{end_from, statement, padded, arity, filled, written, pointed}
 use Rattle.py_stmt.specs.Sets.{sets}
 use Rattle.py_stmt.specs.Reading.{level, row, along, found, further, further_parts, further_points, more_aliases, more_simples, declared, marked, assigned, caught_name, heads, behind, pointed_behind, are_signs, optional}
 use Rattle.py_stmt.proofs.Steps.{level_row}

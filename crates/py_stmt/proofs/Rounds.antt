@@ -2,7 +2,7 @@
 use Rattle.std.proofs.Common.{◌≡◌, ℕ, zero, suc, ◌+◌, ◌-◌, ◌<◌, List, [], ◌∷◌, ◌++◌, length, refl, ap, sym, ◌∙◌, arith, append_assoc, eqb, true, false, Bool, Option, Some, None, cond}
 use Rattle.std.proofs.lemmas.List.{append-nil}
 use Rattle.node_tree.specs.declared.node.Node.{Node}
-use Rattle.grammar.specs.Rule.{Rule, ref, word, rep, has}
+use Rattle.grammar.specs.Rule.{ref, word, rep, has}
 use Rattle.grammar.specs.Reader.{read, choice, turns, ◌>>=◌}
 use Rattle.grammar.proofs.Rounds.{turn, turned}
 use Rattle.py_expr.specs.declared.item.Item.{Item}

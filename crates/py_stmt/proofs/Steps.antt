@@ -1,16 +1,14 @@
 -- The reader of a level, one step.
-use Rattle.std.proofs.Common.{◌≡◌, ℕ, zero, suc, ◌-◌, ◌<◌, ◌≤◌, List, [], ◌∷◌, ◌++◌, length, refl, ap, ◌∙◌, sym, arith, Option, Some, None}
-use Rattle.grammar.specs.Reader.{read, choice, turns, ◌>>=◌}
+use Rattle.std.proofs.Common.{◌≡◌, ℕ, zero, suc, ◌<◌, List, length, refl, arith, None}
 use Rattle.grammar.proofs.Stable.{room_step}
 use Rattle.grammar.proofs.Renamed.{same_reading}
 use Rattle.py_expr.specs.declared.item.Item.{Item}
-use Rattle.py_expr.specs.Parts.{Part}
 use Rattle.py_expr.specs.Build.{source as known_source}
 use Rattle.py_expr.specs.Table as e
 use Rattle.py_expr.specs.Sets as es
 use Rattle.py_expr.specs.Reading as known
 use Rattle.py_expr.proofs.Passes.{pass as known_pass}
-use Rattle.py_stmt.specs.Table.{Level, Expression, Value_of, Row, table, grammar, Value, Stmts, Stmt, Line, Simple, Worded, Naming, Global, Nonlocal, Annotated, Evaluated, Return, Delete, Raise, Assert, Import, Alias, Dotted, FromImport, Origin, Imported, Aliases, MoreAliases, Suite, Compound, If, Branches, ElsePart, While, For, ForRest, With, WithRest, WithItems, WithItem, Try, TryRest, Handlers, Handler, Caught, FinallyPart, Def, DefRest, Parameters, Class, ClassRest, Bases, Async, AsyncRest, Decorated, Decorators, Decorator, DecoratedRest}
+use Rattle.py_stmt.specs.Table.{Level, Expression, Value_of, table, grammar, Value, Stmts, Stmt, Line, Simple, Worded, Naming, Global, Nonlocal, Annotated, Evaluated, Return, Delete, Raise, Assert, Import, Alias, Dotted, FromImport, Origin, Imported, Aliases, MoreAliases, Suite, Compound, If, Branches, ElsePart, While, For, ForRest, With, WithRest, WithItems, WithItem, Try, TryRest, Handlers, Handler, Caught, FinallyPart, Def, DefRest, Parameters, Class, ClassRest, Bases, Async, AsyncRest, Decorated, Decorators, Decorator, DecoratedRest}
 use Rattle.py_stmt.specs.Build.{source}
 use Rattle.py_stmt.specs.Sets.{sets, ranks}
 use Rattle.py_stmt.specs.Reading.{level, row}

@@ -1,5 +1,5 @@
 -- What compound statements read in parts.
-use Rattle.std.proofs.Common.{◌≡◌, ℕ, zero, suc, ◌+◌, ◌-◌, ◌<◌, List, [], ◌∷◌, ◌++◌, length, refl, ap, sym, ◌∙◌, arith, add-one, append_assoc, eqb, true, false, Bool, Option, Some, None, cond}
+use Rattle.std.proofs.Common.{◌≡◌, ℕ, zero, suc, ◌+◌, ◌-◌, ◌<◌, List, [], ◌∷◌, ◌++◌, refl, ap, ◌∙◌, arith, add-one, eqb, true, false, Option, Some, None}
 use Rattle.std.specs.Prelude.{Result}
 use Rattle.std.proofs.lemmas.List.{append-nil}
 use Rattle.node_tree.specs.Gives.{Gives}
@@ -7,22 +7,21 @@ use Rattle.node_tree.specs.declared.fault.ReadFault.{ReadFault}
 use Rattle.node_tree.specs.declared.node.Node.{Node}
 use Rattle.node_tree.specs.declared.kind.Kind.{Kind}
 use Rattle.node_tree.specs.declared.kind.Kind.TheVariants as k
-use Rattle.grammar.specs.Rule.{has, ref, opt}
+use Rattle.grammar.specs.Rule.{has}
 use Rattle.grammar.specs.Reader.{◌>>=◌}
 use Rattle.py_expr.specs.declared.item.Item.{Item}
 use Rattle.py_expr.specs.declared.word.Word.TheVariants as w
 use Rattle.py_expr.specs.Words.{class}
-use Rattle.py_expr.specs.Parts.{Part, whole, wholes, node, nodes_of}
-use Rattle.py_expr.specs.Build.{token_at, leaf_of, ident_kind, empty_list}
+use Rattle.py_expr.specs.Parts.{Part, whole, wholes, node}
+use Rattle.py_expr.specs.Build.{token_at, empty_list}
 use Rattle.py_expr.specs.Table as e
 use Rattle.py_expr.specs.Table.{names}
-use Rattle.py_stmt.specs.Table as rows
-use Rattle.py_stmt.specs.Table.{Expression, Line, Stmts, Stmt, Suite, If, Branches, ElsePart, While, For, ForRest, With, WithRest, Try, TryRest, Handlers, Handler, Caught, FinallyPart, Def, DefRest, Parameters, Class, ClassRest, Bases, Async, AsyncRest, Decorated, Decorators, DecoratedRest, table}
+use Rattle.py_stmt.specs.Table.{Expression, Line, Stmts, Stmt, Suite, If, Branches, ElsePart, While, For, ForRest, With, WithRest, Try, TryRest, Def, DefRest, Class, ClassRest, Async, AsyncRest, Decorated, Decorators, DecoratedRest}
 use Rattle.py_stmt.specs.Build.{end_from, statement, padded, filled, written}
 use Rattle.py_stmt.specs.Sets.{sets}
-use Rattle.py_stmt.specs.Reading.{level, row, along, more_statements, more_handlers, heads, body, condition, some_else, else_or_absent, returns, kids_behind}
+use Rattle.py_stmt.specs.Reading.{level, along, more_statements, body, condition, some_else, kids_behind}
 use Rattle.py_stmt.proofs.Steps.{level_row}
-use Rattle.py_stmt.proofs.Forms.{filled_wholes, written_wholes, written_append, filled_append, some_same, collected, headed}
+use Rattle.py_stmt.proofs.Forms.{filled_wholes, written_wholes, written_append, filled_append, some_same, headed}
 
 -- what gives the one gives the other
 pub gives_same : {X W : Type 0} (v : X → W) (r : Result X ReadFault) (a b : Option W) → a ≡ b → Gives v r b → Gives v r a

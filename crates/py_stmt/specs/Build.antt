@@ -9,7 +9,7 @@ use Rattle.py_expr.specs.declared.item.Item.{Item}
 use Rattle.py_expr.specs.declared.word.Word.{Word}
 use Rattle.py_expr.specs.declared.word.Word.TheVariants as w
 use Rattle.py_expr.specs.Words.{class}
-use Rattle.py_expr.specs.Parts.{Part, whole, lacking, call, more, clauses, display, sign, bounds, node, nodes_of}
+use Rattle.py_expr.specs.Parts.{Part, whole, lacking, more, clauses, display, sign, node, nodes_of}
 use Rattle.py_expr.specs.Build.{token_at, leaf, absent, empty_list, build as build_expression}
 use Rattle.py_expr.specs.Table.{Leaf}
 use Rattle.py_stmt.specs.Table.{Builder, Value_of, Statement, Item_of, Headed, Head, Valued, Several, Listing, Dotting}

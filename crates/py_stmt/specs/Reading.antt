@@ -1,9 +1,9 @@
 -- What the reader by the table gives, in the forms of the functions that read.
-use Rattle.std.specs.Prelude.{ℕ, suc, length, ◌-◌, Bool, true, false, List, [], ◌∷◌, ◌++◌, Option, Some, None, eqb}
+use Rattle.std.specs.Prelude.{ℕ, suc, length, ◌-◌, Bool, true, false, List, [], ◌∷◌, ◌++◌, Option, Some, None}
 use Rattle.node_tree.specs.declared.node.Node.{Node}
 use Rattle.node_tree.specs.declared.kind.Kind.{Kind}
 use Rattle.node_tree.specs.declared.kind.Kind.TheVariants as k
-use Rattle.grammar.specs.Rule.{ref, mark, word, opt, rep, make, has, ◌·◌}
+use Rattle.grammar.specs.Rule.{ref, word, opt, rep, make, has, ◌·◌}
 use Rattle.grammar.specs.Reader.{read, read_level, choice, ◌>>=◌}
 use Rattle.py_expr.specs.declared.item.Item.{Item}
 use Rattle.py_expr.specs.declared.word.Word.{Word}
@@ -11,7 +11,7 @@ use Rattle.py_expr.specs.declared.word.Word.TheVariants as w
 use Rattle.py_expr.specs.declared.level.PyLevel.{PyLevel}
 use Rattle.py_expr.specs.Runs.{level_at}
 use Rattle.py_expr.specs.Words.{class}
-use Rattle.py_expr.specs.Parts.{Part, whole, more, wholes, nodes_of}
+use Rattle.py_expr.specs.Parts.{Part, whole, wholes}
 use Rattle.py_expr.specs.Build.{token_at}
 use Rattle.py_expr.specs.Table as expressions
 use Rattle.py_stmt.specs.declared.series.Series.{Series}

@@ -1,10 +1,9 @@
 -- The sets and ranks of the table, which the check of the table goes by. tools/table_sets.py makes them of expressions; these are theirs, and those of statements beside them.
-use Rattle.std.specs.Prelude.{ℕ, ◌+◌, Bool, true, false, List, [], ◌∷◌}
+use Rattle.std.specs.Prelude.{ℕ, Bool, true, false, List, [], ◌∷◌}
 use Rattle.grammar.specs.Sets.{Sets}
 use Rattle.grammar.specs.Check.{Ranks}
 use Rattle.py_expr.specs.declared.word.Word.TheVariants as w
 use Rattle.py_expr.specs.Words.{class}
-use Rattle.py_expr.specs.Table as expressions
 use Rattle.py_expr.specs.Sets as known
 use Rattle.py_stmt.specs.Table.{Level, Expression, File, Stmts, StmtsTail, Stmt, Line, LineTail, Simple, Worded, Naming, Value, ValuesTail, Evaluated, Annotated, Return, Delete, Raise, Assert, Global, Nonlocal, NamesTail, Import, AliasesTail, Alias, Dotted, DottedTail, FromImport, Origin, DotsTail, Imported, Aliases, MoreAliases, MoreAliasesTail, Suite, Compound, If, Branches, ElsePart, While, For, ForRest, With, WithRest, WithItems, WithItemsTail, WithItem, Try, TryRest, Handlers, HandlersTail, Handler, Caught, FinallyPart, Def, DefRest, Parameters, Class, ClassRest, Bases, Async, AsyncRest, Decorated, Decorators, DecoratorsTail, Decorator, DecoratedRest, Builder, strong}
 

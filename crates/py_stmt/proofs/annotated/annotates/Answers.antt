@@ -1,4 +1,4 @@
-use Rattle.std.proofs.Common.{arith, sym, zero, ◌-◌, ◌+◌, ◌∙◌}
+use Rattle.std.proofs.Common.{arith, sym, zero, ◌-◌, ◌∙◌}
 use Rattle.py_stmt.specs.Table as table
 use Rattle.py_stmt.proofs.Colons.{opened, went, stopped, closed, inside, ended}
 use Rattle.py_stmt.proofs.annotated.annotates.Goals as goal

@@ -1,4 +1,4 @@
-use Rattle.std.proofs.Common.{arith, sym, refl, zero, suc, length, ◌∙◌, ◌-◌, ◌+◌, ◌++◌, ◌∷◌, []}
+use Rattle.std.proofs.Common.{arith, refl, ◌∙◌}
 use Rattle.node_tree.specs.declared.kind.Kind.TheVariants as k
 use Rattle.py_stmt.specs.Reading as reading
 use Rattle.py_stmt.proofs.Forms.{aliases_read, collected_some, collected_none, passed_on}

@@ -1,4 +1,4 @@
-use Rattle.std.proofs.Common.{arith, sym, refl, zero, suc, length, ◌∙◌, ◌-◌, ◌+◌, ◌++◌, ◌∷◌, []}
+use Rattle.std.proofs.Common.{arith, sym}
 use Rattle.py_stmt.proofs.Forms.{from_read}
 use Rattle.py_stmt.proofs.imports.from_import.Goals as goal
 

@@ -1,4 +1,4 @@
-use Rattle.std.proofs.Common.{arith, sym, refl, zero, suc, length, ◌∙◌, ◌-◌, ◌+◌, ◌++◌, ◌∷◌, []}
+use Rattle.std.proofs.Common.{arith, sym, ◌∙◌}
 use Rattle.node_tree.specs.declared.kind.Kind.TheVariants as k
 use Rattle.py_stmt.specs.Reading as reading
 use Rattle.py_stmt.proofs.Forms.{import_read, stated_some, stated_none, passed_on}

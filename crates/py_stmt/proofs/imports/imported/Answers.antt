@@ -1,5 +1,4 @@
-use Rattle.std.proofs.Common.{arith, sym, refl, zero, suc, length, ◌∙◌, ◌-◌, ◌+◌, ◌++◌, ◌∷◌, []}
-use Rattle.node_tree.specs.declared.kind.Kind.TheVariants as k
+use Rattle.std.proofs.Common.{arith, sym}
 use Rattle.py_stmt.specs.Reading as reading
 use Rattle.py_stmt.proofs.Forms.{imported_read, imported_lost, passed_on}
 use Rattle.py_stmt.proofs.imports.imported.Goals as goal

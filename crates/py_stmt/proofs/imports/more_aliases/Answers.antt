@@ -1,4 +1,4 @@
-use Rattle.std.proofs.Common.{arith, sym, refl, zero, suc, length, ◌-◌, ◌+◌, ◌++◌, ◌∷◌, [], true}
+use Rattle.std.proofs.Common.{arith, sym, refl, zero, suc, length, ◌-◌, ◌++◌, ◌∷◌, []}
 use Rattle.py_expr.specs.Table.{commas}
 use Rattle.py_stmt.specs.Table as rows
 use Rattle.py_stmt.specs.Table.{Alias, MoreAliasesTail}

@@ -1,4 +1,4 @@
-use Rattle.std.proofs.Common.{◌≡◌, suc, length, ◌≤◌, ◌-◌, [], ◌∷◌}
+use Rattle.std.proofs.Common.{◌≡◌, suc, length, ◌≤◌, ◌-◌}
 use Rattle.py_expr.specs.Table.{commas}
 use Rattle.py_stmt.specs.Table as rows
 use Rattle.py_stmt.specs.Table.{MoreAliasesTail, Alias}

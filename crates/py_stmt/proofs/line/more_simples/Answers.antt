@@ -1,4 +1,4 @@
-use Rattle.std.proofs.Common.{arith, sym, refl, zero, suc, length, ◌-◌, ◌+◌, ◌++◌, ◌∷◌, [], true, false}
+use Rattle.std.proofs.Common.{arith, sym, refl, zero, suc, length, ◌-◌, ◌++◌, ◌∷◌, [], true, false}
 use Rattle.py_expr.specs.Words.{class}
 use Rattle.py_expr.specs.declared.word.Word.TheVariants as words
 use Rattle.py_stmt.specs.Table as rows

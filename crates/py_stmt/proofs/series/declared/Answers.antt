@@ -1,5 +1,4 @@
-use Rattle.std.proofs.Common.{arith, sym, refl, zero, suc, length, ◌∙◌, ◌-◌, ◌+◌, ◌++◌, ◌∷◌, []}
-use Rattle.node_tree.specs.declared.kind.Kind.TheVariants as k
+use Rattle.std.proofs.Common.{sym, refl, ◌∙◌, ◌+◌}
 use Rattle.py_stmt.specs.Reading as reading
 use Rattle.py_stmt.proofs.Forms.{declared_read, stated_some, stated_none, passed_on}
 use Rattle.py_stmt.proofs.series.declared.Goals as goal

@@ -1,4 +1,4 @@
-use Rattle.std.proofs.Common.{arith, sym, refl, zero, suc, length, ◌-◌, ◌+◌, ◌++◌, ◌∷◌, []}
+use Rattle.std.proofs.Common.{arith, sym, refl, zero, suc, length, ◌-◌, ◌++◌, ◌∷◌, []}
 use Rattle.py_stmt.specs.Table.{looped}
 use Rattle.py_stmt.specs.Reading.{row_of, tail_of}
 use Rattle.py_stmt.proofs.Rounds.{series_more, along_turned}

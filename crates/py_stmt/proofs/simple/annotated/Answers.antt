@@ -1,6 +1,4 @@
-use Rattle.std.proofs.Common.{arith, sym, refl, zero, suc, length, ◌∙◌, ◌-◌, ◌+◌, ◌++◌, ◌∷◌, []}
-use Rattle.node_tree.specs.declared.kind.Kind.TheVariants as k
-use Rattle.py_stmt.specs.Reading as reading
+use Rattle.std.proofs.Common.{arith, sym}
 use Rattle.py_stmt.proofs.Forms.{annotated_read}
 use Rattle.py_stmt.proofs.simple.annotated.Goals as goal
 
