@@ -1,0 +1,5 @@
+pub mod Figures
+pub mod Counts
+pub mod Options
+pub mod Sets
+pub mod Parts
