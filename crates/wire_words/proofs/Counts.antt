@@ -11,13 +11,13 @@ pub count_append : {X : Type 0} (p : X → Bool) (xs ys : List X) → count_by p
 count_append p xs ys = sum_by-append (λ x. cond (p x) 1 0) xs ys
 
 pub count_yes : {X : Type 0} (p : X → Bool) (x : X) (xs : List X) → p x ≡ true → count_by p (x ∷ xs) ≡ 1 + count_by p xs
-count_yes p x xs h = ap (λ (b : Bool). cond b 1 0 + count_by p xs) h
+count_yes p x xs h = count_append p (x ∷ []) xs ∙ ap (λ (b : Bool). 0 + cond b 1 0 + count_by p xs) h
 
 pub count_no : {X : Type 0} (p : X → Bool) (x : X) (xs : List X) → p x ≡ false → count_by p (x ∷ xs) ≡ 0 + count_by p xs
-count_no p x xs h = ap (λ (b : Bool). cond b 1 0 + count_by p xs) h
+count_no p x xs h = count_append p (x ∷ []) xs ∙ ap (λ (b : Bool). 0 + cond b 1 0 + count_by p xs) h
 
 count_more : {X : Type 0} (p : X → Bool) (x : X) (xs : List X) → count_by p xs ≤ count_by p (x ∷ xs)
-count_more p x xs = omega arith
+count_more p x xs = let e = count_append p (x ∷ []) xs in omega arith
 
 -- what stands there is counted
 pub counted : {X : Type 0} (p : X → Bool) (xs : List X) (x : X) → Contains xs x → p x ≡ true → 1 ≤ count_by p xs

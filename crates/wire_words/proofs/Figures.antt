@@ -78,8 +78,8 @@ written r (d ∷ ds) n parses some bare = numeral r n parses some
         tell (suc k) h = absurd (h (omega arith))
     numeral : {E : Type 0} (r : Result ℕ E) (n : ℕ) → ParsesUnsigned 64 10 (d ∷ ds) r → Some n ≡ result_ok r → d ∷ ds ≡ decimal n
     numeral (Err e) n parses some = absurd cc
-    numeral (Ok m) n parses some =
+    numeral {E = E} (Ok m) n parses some =
         let same : n ≡ m = cc in
-        let h = parse_plain own 64 (d ∷ ds) (Ok m) parses (λ p. bare (inl (omega arith, p))) in
+        let h = parse_plain own {E = E} 64 (d ∷ ds) (Ok m) parses (λ p. bare (inl (omega arith, p))) in
         let back = decimal-digits_value own (d ∷ ds) h.0.0 h.0.1 small h.0.2 in
         sym back ∙ ap decimal (sym h.1 ∙ sym same)

@@ -3,3 +3,4 @@ pub mod Counts
 pub mod Options
 pub mod Sets
 pub mod Parts
+pub mod Agree

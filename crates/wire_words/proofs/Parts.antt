@@ -1,5 +1,5 @@
 -- The words around the options.
-use Rattle.std.proofs.Common.{◌≡◌, ◌≢◌, ℕ, Bool, true, false, not, ◌&&◌, eqb, List, [], ◌∷◌, ◌++◌, map, length, get_or, ◌<◌, ◌≤◌, arith, eq-eqb, sym, ap, ◌∙◌, refl, Option, None, Some}
+use Rattle.std.proofs.Common.{◌≡◌, ◌≢◌, ℕ, zero, suc, ◌==◌, Bool, true, false, not, ◌&&◌, eqb, List, [], ◌∷◌, ◌++◌, map, length, get_or, ◌<◌, ◌≤◌, arith, eq-eqb, sym, ap, ◌∙◌, refl, Option, None, Some}
 use Rattle.std.specs.Prelude.{IfNone}
 use lib.Pointwise.{pointwise}
 use Rattle.std.proofs.lemmas.Bool.{eqb-true}
@@ -48,9 +48,9 @@ same_parts command xs ys x y words a b = let t : xs ++ (x ∷ []) ≡ ys ++ (y �
 
 -- a word alone that isn't the flag is no option
 pub lone : (flag word : List ℕ) (words : List (List ℕ)) (c : Choice) (rest : List (List ℕ)) → words ≡ word ∷ [] → word ≢ flag → words ≡ choice_words flag c ++ rest → ⊥
-lone flag word words Flag rest e no f = no cc
-lone flag word words (Most n) rest e no f = absurd cc
-lone flag word words (Config path) rest e no f = absurd cc
+lone flag word words Flag rest e other f = other cc
+lone flag word words (Most n) rest e other f = absurd cc
+lone flag word words (Config path) rest e other f = absurd cc
 
 -- what holds at None
 pub if_none : {T : Type 0} (o : Option T) (P : Type 0) → P → IfNone o P
@@ -81,3 +81,10 @@ same_reads xs ys e = ap (pointwise eqb xs) (sym e) ∙ itself xs
 pub no_words : {X : Type 0} (f : X → List ℕ) (xs : List X) → map f xs ≡ [] → length xs ≡ 0
 no_words f [] e = refl
 no_words f (x ∷ xs) e = absurd cc
+
+pub not_empty : (n : ℕ) (b : Bool) → b ≡ false → b ≡ (n == 0) → n ≡ 0 → ⊥
+not_empty zero b f e z = absurd cc
+not_empty (suc n) b f e z = absurd (omega arith)
+
+pub at_none : (n : ℕ) (b : Bool) → b ≡ true → b ≡ (n == 0) → n ≡ 0
+at_none n b t e = eqb-true n 0 (sym e ∙ t)

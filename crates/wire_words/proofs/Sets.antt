@@ -22,23 +22,23 @@ last_one : (cs : List Choice) (c : Choice) → Contains (cs ++ (c ∷ [])) c
 last_one cs c = Contains-append_right cs (c ∷ []) c (0, omega arith, refl)
 
 unchanged : (p : Choice → Bool) (cs : List Choice) (c : Choice) → p c ≡ false → count_by p (cs ++ (c ∷ [])) ≡ count_by p cs
-unchanged p cs c no = count_append p cs (c ∷ []) ∙ none p cs c no
+unchanged p cs c isnt = count_append p cs (c ∷ []) ∙ none p cs c isnt
   where
     none : (p : Choice → Bool) (cs : List Choice) (c : Choice) → p c ≡ false → count_by p cs + count_by p (c ∷ []) ≡ count_by p cs
-    none p cs c no = rw no (omega arith)
+    none p cs c isnt = rw isnt (omega arith)
 
 one_more : (p : Choice → Bool) (cs : List Choice) (c : Choice) → p c ≡ true → count_by p cs ≡ 0 → count_by p (cs ++ (c ∷ [])) ≡ 1
-one_more p cs c yes zeros = count_append p cs (c ∷ []) ∙ rw (zeros, yes) refl
+one_more p cs c does zeros = count_append p cs (c ∷ []) ∙ rw (zeros, does) refl
 
 keep : {T : Type 0} (p : Choice → Bool) (Q : T → Choice) (cs : List Choice) (c : Choice) (o : Option T) → p c ≡ false → Kept p Q cs o → Kept p Q (cs ++ (c ∷ [])) o
-keep p Q cs c None no k = unchanged p cs c no ∙ k
-keep p Q cs c (Some x) no k = (unchanged p cs c no ∙ k.0, Contains-append_left cs (c ∷ []) (Q x) k.1)
+keep p Q cs c None isnt k = unchanged p cs c isnt ∙ k
+keep p Q cs c (Some x) isnt k = (unchanged p cs c isnt ∙ k.0, Contains-append_left cs (c ∷ []) (Q x) k.1)
 
 keep_flag : (cs : List Choice) (c : Choice) (b : Bool) → is_flag c ≡ false → IsFlag cs b → IsFlag (cs ++ (c ∷ [])) b
-keep_flag cs c false no k = unchanged is_flag cs c no ∙ k
-keep_flag cs c true no k = (unchanged is_flag cs c no ∙ k.0, Contains-append_left cs (c ∷ []) Flag k.1)
+keep_flag cs c false isnt k = unchanged is_flag cs c isnt ∙ k
+keep_flag cs c true isnt k = (unchanged is_flag cs c isnt ∙ k.0, Contains-append_left cs (c ∷ []) Flag k.1)
 
-no_flag : (cs : List Choice) (b : Bool) → not b ≡ true → IsFlag cs b → count_by is_flag cs ≡ 0
+no_flag : (cs : List Choice) (b : Bool) → b ≡ false → IsFlag cs b → count_by is_flag cs ≡ 0
 no_flag cs false h k = k
 no_flag cs true h k = absurd cc
 
@@ -46,7 +46,7 @@ no_value : {T : Type 0} (p : Choice → Bool) (Q : T → Choice) (cs : List Choi
 no_value p Q cs None e k = k
 no_value p Q cs (Some x) e k = absurd cc
 
-pub with_flag : (cs : List Choice) (c : Choice) (t : Taken) → c ≡ Flag → not t.flag ≡ true → Tells cs t → Tells (cs ++ (c ∷ [])) (record { flag = true; most = t.most; config = t.config })
+pub with_flag : (cs : List Choice) (c : Choice) (t : Taken) → c ≡ Flag → t.flag ≡ false → Tells cs t → Tells (cs ++ (c ∷ [])) (record { flag = true; most = t.most; config = t.config })
 with_flag cs c t e h k = record {
   flag = (one_more is_flag cs c (ap is_flag e) (no_flag cs t.flag h k.flag), subst (λ (d : Choice). Contains (cs ++ (c ∷ [])) d) e (last_one cs c));
   most = keep is_most Most cs c t.most (ap is_most e) k.most;

@@ -14,7 +14,7 @@ returns-then-n-gt-MOST_FINDINGS-clause-none c = λ n small e.
     let s = same_number c.parse.result c.args.word.now c.in_ok-n.n c.parse.ensures.value.0 c.in_ok-n.ensures.value n small e in omega arith
 
 bare : (b : Bool) (ws word : List ℕ) → b ≡ false → (IsPadding ws → b ≡ true) → ws ≡ word → IsPadding word → ⊥
-bare b ws word no back e p = let h : b ≡ true = back (subst IsPadding (sym e) p) in absurd cc
+bare b ws word f back e p = let h : b ≡ true = back (subst IsPadding (sym e) p) in absurd cc
 
 pub returns-clause-some : goal.returns-clause-some
 returns-clause-some c = (omega arith, written c.parse.result c.args.word.now c.in_ok-n.n c.parse.ensures.value.0 c.in_ok-n.ensures.value

@@ -11,4 +11,4 @@ returns-in_err-value-clause-none c = if_none c.from_residual-in_err-value.result
     e)
   where
     other : (xs ys : List ℕ) (b : Bool) → b ≡ false → b ≡ pointwise eqb xs ys → xs ≡ ys → ⊥
-    other xs ys b no e same = let h = same_reads xs ys same in absurd cc
+    other xs ys b f e same = let h = same_reads xs ys same in absurd cc

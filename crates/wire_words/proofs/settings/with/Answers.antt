@@ -4,13 +4,9 @@ use Rattle.wire_words.specs.Settings.{chosen}
 use Rattle.wire_words.proofs.Sets.{with_flag, with_most, with_config}
 use Rattle.wire_words.proofs.settings.with.Goals as goal
 
-nothing : {T : Type 0} (o : Option T) (b : Bool) → b ≡ true → is_some o ≡ not b → None ≡ o
-nothing None b yes e = refl
-nothing (Some x) b yes e = absurd (apart b yes e)
-  where
-    apart : (b : Bool) → b ≡ true → true ≡ not b → ⊥
-    apart true yes e = absurd cc
-    apart false yes e = absurd cc
+nothing : {T : Type 0} (o : Option T) → is_some o ≡ not true → None ≡ o
+nothing None e = refl
+nothing (Some x) e = absurd cc
 
 pub returns-in-Flag-clause-some : goal.returns-in-Flag-clause-some
 returns-in-Flag-clause-some c = λ cs k.
@@ -20,9 +16,9 @@ returns-in-Flag-clause-some c = λ cs k.
 pub returns-in-Most-clause-some : goal.returns-in-Most-clause-some
 returns-in-Most-clause-some c = λ cs k.
     let e : chosen c.args.setting ≡ Most c.in-Most.most = cc (ap chosen c.in-Most.is) in
-    with_most cs (chosen c.args.setting) c.args.taken c.in-Most.most e (nothing c.args.taken.most c.is_none.result c.if-is_none.true c.is_none.ensures) k
+    with_most cs (chosen c.args.setting) c.args.taken c.in-Most.most e (nothing c.args.taken.most c.if-is_none.ensures) k
 
 pub returns-in-Config-clause-some : goal.returns-in-Config-clause-some
 returns-in-Config-clause-some c = λ cs k.
     let e : chosen c.args.setting ≡ Config c.in-Config.path.now = cc (ap chosen c.in-Config.is) in
-    with_config cs (chosen c.args.setting) c.args.taken c.in-Config.path e (nothing c.args.taken.config c.is_none-2.result c.if-is_none-2.true c.is_none-2.ensures) k
+    with_config cs (chosen c.args.setting) c.args.taken c.in-Config.path e (nothing c.args.taken.config c.if-is_none-2.ensures) k
