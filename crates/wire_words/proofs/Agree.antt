@@ -2,7 +2,6 @@
 use Rattle.std.proofs.Common.{◌≡◌, ◌≢◌, ◌⊎◌, ◌↔◌, inl, inr, ℕ, ◌+◌, ◌≤◌, Bool, true, false, List, [], ◌∷◌, ◌++◌, codes, sym, ap, ◌∙◌, subst, arith, refl, Option, None, Some}
 use Rattle.std.specs.Prelude.{Contains, count_by, IsTrue, MatchOption}
 use Rattle.std.specs.Borrow.{Bor}
-use Rattle.std.specs.Option.{unwrap_or}
 use Rattle.node_tree.specs.declared.view.Lang.{Lang}
 use Rattle.node_tree.specs.declared.view.Lang.TheVariants as langs
 use Rattle.wire_words.specs.Words.{lang_word, IsMatched, AreMatchWords}
@@ -13,7 +12,6 @@ use Rattle.wire_words.specs.declared.settings.Taken.{Taken}
 use Rattle.wire_words.proofs.Counts.{counted, single}
 use Rattle.wire_words.proofs.Options.{same_choices}
 use Rattle.wire_words.proofs.Parts.{same_parts}
-use Rattle.wire_words.proofs.Sets.{told_flag}
 
 same_lang : (l m : Lang) → IsMatched l → IsMatched m → lang_word l ≡ lang_word m → l ≡ m
 same_lang langs.Json langs.Json a b e = refl
@@ -60,10 +58,10 @@ same_job command flag w words t u a b =
     let s = same_parts command a.options b.options t.prefix u.prefix words a.are b.are in
     let cs = same_choices flag w b.options a.choices b.choices (subst (λ (o : List (List ℕ)). AreChoices flag o a.choices) s.0 a.chosen) b.chosen in
     same_task t u
-      (same_bool (Contains a.choices Flag) t.flag u.flag a.flag_of (subst (λ (l : List Choice). IsTrue u.flag ↔ Contains l Flag) (sym cs) b.flag_of))
-      (same_most a.choices t.most u.most a.chosen.once a.most (subst (λ (l : List Choice). IsMost l u.most) (sym cs) b.most))
-      (same_config a.choices t.config u.config a.chosen.once a.config (subst (λ (l : List Choice). Contains l (Config u.config)) (sym cs) b.config))
-      s.1
+    (same_bool (Contains a.choices Flag) t.flag u.flag a.flag_of (subst (λ (l : List Choice). IsTrue u.flag ↔ Contains l Flag) (sym cs) b.flag_of))
+    (same_most a.choices t.most u.most a.chosen.once a.most (subst (λ (l : List Choice). IsMost l u.most) (sym cs) b.most))
+    (same_config a.choices t.config u.config a.chosen.once a.config (subst (λ (l : List Choice). Contains l (Config u.config)) (sym cs) b.config))
+    s.1
 
 pub error_word : IsFlagWord (codes "--error")
 error_word = record { not_max = λ e. cc; not_config = λ e. cc }
@@ -84,37 +82,7 @@ agree words (Scanning t) (Matching m q) a b = absurd (apart words _ _ a.are b.ar
     apart words xs ys e f = cc
 agree words (Scanning t) (Scanning u) a b = ap Scanning (same_job (codes "scan") (codes "--error") error_word words t u a b)
 
--- what is kept of the options gives the task
-told_most : (cs : List Choice) (o : Option ℕ) → MatchOption o (count_by is_most cs ≡ 0) (λ n. (count_by is_most cs ≡ 1) × Contains cs (Most n)) → IsMost cs (unwrap_or o 50000)
-told_most cs None k = inr (k, refl)
-told_most cs (Some n) k = inl k.1
-
-told_config : (cs : List Choice) (o : Option (Bor (List ℕ))) (path : Bor (List ℕ)) → MatchOption o (count_by is_config cs ≡ 0) (λ p. (count_by is_config cs ≡ 1) × Contains cs (Config p.now)) → o ≡ Some path → Contains cs (Config path.now)
-told_config cs None path k e = absurd cc
-told_config cs (Some p) path k e = let same : p ≡ path = cc in subst (λ (q : Bor (List ℕ)). Contains cs (Config q.now)) same k.1
-
-pub job_words : (command flag : List ℕ) (words options : List (List ℕ)) (prefix : List ℕ) (t : Taken) (path : Bor (List ℕ)) → words ≡ command ∷ (options ++ (prefix ∷ []))
-    → (cs : List Choice) × AreChoices flag options cs × Tells cs t → t.config ≡ Some path → IsPrefix prefix
-    → AreJobWords command flag words (record { flag = t.flag; most = unwrap_or t.most 50000; config = path.now; prefix = prefix })
-job_words command flag words options prefix t path e (cs, a, k) c p = record {
-  options = options;
-  choices = cs;
-  are = e;
-  chosen = a;
-  flag_of = told_flag cs t.flag k.flag;
-  most = told_most cs t.most k.most;
-  config = told_config cs t.config path k.config c;
-  prefix = p;
-}
-
--- words with another last word, or other options, are none
-pub no_prefix : (command flag : List ℕ) (words options : List (List ℕ)) (prefix : List ℕ) → words ≡ command ∷ (options ++ (prefix ∷ [])) → (IsPrefix prefix → ⊥) → (u : Task) → AreJobWords command flag words u → ⊥
-no_prefix command flag words options prefix e other u a = let s = same_parts command a.options options u.prefix prefix words a.are e in other (subst IsPrefix s.1 a.prefix)
-
-pub no_options : (command flag : List ℕ) (words options : List (List ℕ)) (prefix : List ℕ) → words ≡ command ∷ (options ++ (prefix ∷ [])) → ((cs : List Choice) → AreChoices flag options cs → ⊥) → (u : Task) → AreJobWords command flag words u → ⊥
-no_options command flag words options prefix e other u a =
-    let s = same_parts command a.options options u.prefix prefix words a.are e in other a.choices (subst (λ (o : List (List ℕ)). AreChoices flag o a.choices) s.0 a.chosen)
-
+-- where `--config` doesn't stand among the options, the words are none
 pub no_config : (command flag : List ℕ) → IsFlagWord flag → (words options : List (List ℕ)) (prefix : List ℕ) (t : Taken) → words ≡ command ∷ (options ++ (prefix ∷ [])) → (cs : List Choice) × AreChoices flag options cs × Tells cs t → t.config ≡ None → (u : Task) → AreJobWords command flag words u → ⊥
 no_config command flag w words options prefix t e (cs, b, k) none u a =
     let s = same_parts command a.options options u.prefix prefix words a.are e in

@@ -20,6 +20,7 @@ begins n small = decimal_by_steps Begins one more n small
   where
     one : (n : ℕ) → n < 10 → Begins n ((48 + n) ∷ [])
     one n lt = record { first = 48 + n; rest = []; is = refl; low = omega arith; nonzero = λ h. omega arith; alone = λ h. refl }
+
     more : (n : ℕ) (ds : List ℕ) → 10 ≤ n → Begins (n / 10) ds → Begins n (ds ++ ((48 + n % 10) ∷ []))
     more n ds ge b = record {
       first = b.first;
@@ -40,8 +41,10 @@ not_padded n word small e p = apart n word (begins n (omega arith)) e p
   where
     first_is : (word rest : List ℕ) (d : ℕ) → word ≡ d ∷ rest → get_or word 0 0 ≡ d
     first_is word rest d e = ap (λ (l : List ℕ). get_or l 0 0) e
+
     length_is : (word rest : List ℕ) (d : ℕ) → word ≡ d ∷ rest → rest ≡ [] → length word ≡ 1
     length_is word rest d e f = ap length e ∙ ap (λ (l : List ℕ). length (d ∷ l)) f
+
     apart : (n : ℕ) (word : List ℕ) → Begins n (decimal n) → word ≡ decimal n → IsPadding word → ⊥
     apart n word b e (inl (some, plus)) = let f = first_is word b.rest b.first (e ∙ b.is) in let low = b.low in omega arith
     apart zero word b e (inr (two, zeros)) = let f = length_is word b.rest b.first (e ∙ b.is) (b.alone (omega arith)) in omega arith
@@ -76,6 +79,7 @@ written r (d ∷ ds) n parses some bare = numeral r n parses some
         tell : (k : ℕ) → (0 < k → ⊥) → suc k ≡ 1
         tell zero h = refl
         tell (suc k) h = absurd (h (omega arith))
+
     numeral : {E : Type 0} (r : Result ℕ E) (n : ℕ) → ParsesUnsigned 64 10 (d ∷ ds) r → Some n ≡ result_ok r → d ∷ ds ≡ decimal n
     numeral (Err e) n parses some = absurd cc
     numeral {E = E} (Ok m) n parses some =

@@ -78,6 +78,7 @@ once cs t k = record {
     flags : (cs : List Choice) (b : Bool) → IsFlag cs b → count_by is_flag cs ≤ 1
     flags cs true k = let a = k.0 in omega arith
     flags cs false k = omega arith
+
     values : {T : Type 0} (p : Choice → Bool) (Q : T → Choice) (cs : List Choice) (o : Option T) → Kept p Q cs o → count_by p cs ≤ 1
     values p Q cs None k = omega arith
     values p Q cs (Some x) k = let a = k.0 in omega arith
@@ -127,8 +128,3 @@ none_twice flag w words left rest t c s g e twice ds a = let f = after flag w wo
     stuck cs k (d ∷ more) are e2 g2 =
         let same = (same_first flag w d c (choices_words flag more) rest (g2 0 d (omega arith)) g (sym e2 ∙ e)).0 in
         twice cs more k (subst (λ (l : List Choice). AreOnce l) (are ∙ ap (λ (x : Choice). cs ++ (x ∷ more)) same) a.once)
-
--- what is told of the flag
-pub told_flag : (cs : List Choice) (b : Bool) → IsFlag cs b → IsTrue b ↔ Contains cs Flag
-told_flag cs true k = (λ h. k.1, λ h. refl)
-told_flag cs false k = (λ h. absurd cc, λ h. let c = counted is_flag cs Flag h refl in absurd (omega arith))

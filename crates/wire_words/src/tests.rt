@@ -16,9 +16,13 @@ fn parted(alloc: Global, line: &str) -> Result<Vec<String>, AllocError> {
 fn asks(alloc: Global, line: &str, command: Command) -> Result<bool, AllocError> {
     let words = parted(alloc, line)?;
     Ok(match (read_words(&words), command) {
-        (Some(Command::Match(lang, pattern)), Command::Match(other, text)) => lang == other && pattern == text,
+        (Some(Command::Match(lang, pattern)), Command::Match(other, text)) => lang == other
+            && pattern == text,
         (Some(Command::Scan(job)), Command::Scan(other)) => {
-            job.flag == other.flag && job.most == other.most && job.config == other.config && job.prefix == other.prefix
+            job.flag == other.flag
+                && job.most == other.most
+                && job.config == other.config
+                && job.prefix == other.prefix
         }
         _ => false,
     })
@@ -37,7 +41,13 @@ fn scan<'w>(flag: bool, most: u64, config: &'w str, prefix: &'w str) -> Command<
 fn tells_languages_and_patterns(rt: HostRuntime) -> Result<(), Fail> {
     let alloc = rt.alloc();
     assert!(rt; asks(alloc, "match json 1", Command::Match(Lang::Json, "1"))?);
-    assert!(rt; asks(alloc, "match python f($X)", Command::Match(Lang::Python, "f($X)"))?);
+    assert!(rt;
+        asks(
+            alloc,
+            "match python f($X)",
+            Command::Match(Lang::Python, "f($X)")
+        )?
+    );
     assert!(rt; asks(alloc, "match c --max", Command::Match(Lang::C, "--max"))?);
     Ok(())
 }
@@ -45,13 +55,55 @@ fn tells_languages_and_patterns(rt: HostRuntime) -> Result<(), Fail> {
 #[test]
 fn tells_options_in_any_order(rt: HostRuntime) -> Result<(), Fail> {
     let alloc = rt.alloc();
-    assert!(rt; asks(alloc, "scan --config r.yaml src", scan(false, 50_000, "r.yaml", "src"))?);
-    assert!(rt; asks(alloc, "scan --config r.yaml --max 3 src", scan(false, 3, "r.yaml", "src"))?);
-    assert!(rt; asks(alloc, "scan --error --max 50000 --config a/b .", scan(true, 50_000, "a/b", "."))?);
-    assert!(rt; asks(alloc, "scan --max 0 --config r.yaml --error a/b", scan(true, 0, "r.yaml", "a/b"))?);
-    assert!(rt; asks(alloc, "scan --config --error src", scan(false, 50_000, "--error", "src"))?);
-    assert!(rt; asks(alloc, "scan --error --config --error --error", scan(true, 50_000, "--error", "--error"))?);
-    assert!(rt; asks(alloc, "scan --config --config --config", scan(false, 50_000, "--config", "--config"))?);
+    assert!(rt;
+        asks(
+            alloc,
+            "scan --config r.yaml src",
+            scan(false, 50_000, "r.yaml", "src")
+        )?
+    );
+    assert!(rt;
+        asks(
+            alloc,
+            "scan --config r.yaml --max 3 src",
+            scan(false, 3, "r.yaml", "src")
+        )?
+    );
+    assert!(rt;
+        asks(
+            alloc,
+            "scan --error --max 50000 --config a/b .",
+            scan(true, 50_000, "a/b", ".")
+        )?
+    );
+    assert!(rt;
+        asks(
+            alloc,
+            "scan --max 0 --config r.yaml --error a/b",
+            scan(true, 0, "r.yaml", "a/b")
+        )?
+    );
+    assert!(rt;
+        asks(
+            alloc,
+            "scan --config --error src",
+            scan(false, 50_000, "--error", "src")
+        )?
+    );
+    assert!(rt;
+        asks(
+            alloc,
+            "scan --error --config --error --error",
+            scan(true, 50_000, "--error", "--error")
+        )?
+    );
+    assert!(rt;
+        asks(
+            alloc,
+            "scan --config --config --config",
+            scan(false, 50_000, "--config", "--config")
+        )?
+    );
     Ok(())
 }
 

@@ -17,5 +17,8 @@ bare : (b : Bool) (ws word : List ℕ) → b ≡ false → (IsPadding ws → b �
 bare b ws word f back e p = let h : b ≡ true = back (subst IsPadding (sym e) p) in absurd cc
 
 pub returns-clause-some : goal.returns-clause-some
-returns-clause-some c = (omega arith, written c.parse.result c.args.word.now c.in_ok-n.n c.parse.ensures.value.0 c.in_ok-n.ensures.value
-    (bare c.is_padded.result c.as_bytes.result.now c.args.word.now c.if-is_padded.false c.is_padded.ensures.1 c.as_bytes.ensures.value))
+returns-clause-some c = (
+  omega arith,
+  written c.parse.result c.args.word.now c.in_ok-n.n c.parse.ensures.value.0 c.in_ok-n.ensures.value
+      (bare c.is_padded.result c.as_bytes.result.now c.args.word.now c.if-is_padded.false c.is_padded.ensures.1 c.as_bytes.ensures.value),
+)

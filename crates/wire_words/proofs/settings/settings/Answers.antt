@@ -27,4 +27,4 @@ returns-in_err-taken-clause-none c = if_none c.from_residual-in_err-taken.result
 pub returns-clause-some : goal.returns-clause-some
 returns-clause-some c = at_end c.args.flag.now (map string_bytes c.args.words.now) c.settings.taken
     (subst (λ (l : List (String Global)). SoFar c.args.flag.now (map string_bytes c.args.words.now) (map string_bytes l) c.settings.taken)
-      (empty_of _ (at_none _ _ c.settings-test.false c.is_empty.ensures)) c.settings.invariant)
+    (empty_of _ (at_none _ _ c.settings-test.false c.is_empty.ensures)) c.settings.invariant)
