@@ -1,0 +1,4 @@
+pub mod Words
+pub mod Choices
+pub mod Settings
+pub mod Commands

@@ -1,0 +1,25 @@
+//! What a run is asked for.
+
+use node_tree::Lang;
+
+/// What a command over a folder is to do.
+#[derive(Clone, Copy, PartialEq, Eq, Debug, Drop)]
+pub struct Job<'w> {
+    /// Whether the command's flag was given: `--error` for `scan`.
+    pub flag: bool,
+    /// More findings than this are too many.
+    pub most: u64,
+    /// The path of the rules.
+    pub config: &'w str,
+    /// The folder or file that is looked at, `.` for all.
+    pub prefix: &'w str,
+}
+
+/// A command with its words.
+#[derive(Clone, Copy, PartialEq, Eq, Debug, Drop)]
+pub enum Command<'w> {
+    /// Matches a pattern of this language in what is read.
+    Match(Lang, &'w str),
+    /// Scans a folder and reports the findings.
+    Scan(Job<'w>),
+}
