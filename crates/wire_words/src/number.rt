@@ -1,0 +1,34 @@
+//! Numbers among words.
+
+ghost use Rattle.std.specs.Prelude.{◌≡◌, ◌≢◌, ◌↔◌, ℕ, ◌≤◌, length, slice_index, IsTrue, MatchOption};
+ghost use Rattle.std.specs.Fmt.{decimal};
+
+/// How many findings a scan may have where no option says it, and at most.
+pub const MOST_FINDINGS: u64 = 50_000;
+
+// Whether a text begins neither with a plus nor with a zero before more.
+fn is_plain(text: &[u8]) -> bool
+    ensures { IsTrue result ↔ ((slice_index text.now 0 ≢ 43) × (slice_index text.now 0 ≡ 48 → length text.now ≡ 1)) }
+{
+    match text {
+        [b'+', ..] => false,
+        [b'0', rest @ ..] => rest.is_empty(),
+        _ => true,
+    }
+}
+
+/// The number of findings that a text writes in decimal digits without leading zeros.
+pub fn read_count(text: &str) -> Option<u64>
+    ensures { MatchOption result ((n : ℕ) → n ≤ 50000 → text.now ≡ decimal n → ⊥) (λ n. (n ≤ 50000) × (text.now ≡ decimal n)) }
+{
+    if !is_plain(text.as_bytes()) {
+        return None;
+    }
+    let Ok(count) = text.parse::<u64>() else {
+        return None;
+    };
+    if count > MOST_FINDINGS {
+        return None;
+    }
+    Some(count)
+}
