@@ -19,6 +19,18 @@ pub record AskAfter (before : words.Given) (left : List (List ℕ)) (given : wor
   pub are : left ≡ flat_map setting_words settings ++ prefix ∷ []
   pub give : Give before settings given
 
+-- these words ask for the same as those
+abbrev pub AskAlike : words.Given → List (List ℕ) → words.Given → List (List ℕ) → Type 0
+AskAlike before left after rest = (given : words.Given) (prefix : List ℕ) → AskAfter before left given prefix ↔ AskAfter after rest given prefix
+
+-- these words are no options and a prefix
+abbrev pub AskNothing : words.Given → List (List ℕ) → Type 0
+AskNothing before left = (given : words.Given) (prefix : List ℕ) → AskAfter before left given prefix → ⊥
+
+-- these words are options that give this, and this prefix
+abbrev pub AskOnly : List (List ℕ) → words.Given → List ℕ → Type 0
+AskOnly left only last = (given : words.Given) (prefix : List ℕ) → AskAfter nothing left given prefix ↔ ((given ≡ only) × (prefix ≡ last))
+
 -- the words ask for this job
 pub record AskForJob (ws : List (List ℕ)) (job : Job) : Type 0 where
   pub given : words.Given

@@ -1,8 +1,8 @@
 //! Words, read into a command.
 
-ghost use Rattle.std.specs.Prelude.{◌≡◌, ℕ, List, map, IfSome, IfNone, string_bytes};
+ghost use Rattle.std.specs.Prelude.{◌≡◌, ◌↔◌, ◌∷◌, map, codes, IsTrue, IfSome, IfNone, string_bytes};
 ghost use Rattle.node_tree.specs.declared.view.Lang.{Lang as lang};
-ghost use Rattle.wire_words.specs.Words.{IsMatched, lang_word, AreMatchWords, AreOtherWords};
+ghost use Rattle.wire_words.specs.Words.{IsMatched, lang_word, AreOtherWords, IsPrefix};
 ghost use Rattle.wire_words.specs.Given.{AskFor};
 
 use crate::command::{Command, Job};
@@ -26,7 +26,10 @@ fn lang_of(word: &str) -> Option<Lang>
 }
 
 // What is to be matched, by the words after `match`.
-fn read_match(words: &[String]) -> Option<Command<'_>> {
+fn read_match(words: &[String]) -> Option<Command<'_>>
+    ensures asked { IfSome result (AskFor (codes "match" ∷ map string_bytes words.now)) }
+    ensures other { IfNone result (AreOtherWords (codes "match" ∷ map string_bytes words.now)) }
+{
     let [word, pattern] = words else {
         return None;
     };
@@ -35,23 +38,28 @@ fn read_match(words: &[String]) -> Option<Command<'_>> {
 }
 
 // Whether a text is a path or `.`.
-fn is_prefix(text: &str) -> bool {
+fn is_prefix(text: &str) -> bool
+    ensures { IsTrue result ↔ IsPrefix text.now }
+{
     text == "." || path_ok(text)
 }
 
 // What is to be scanned, by the words after `scan`.
-fn read_scan(words: &[String]) -> Option<Command<'_>> {
+fn read_scan(words: &[String]) -> Option<Command<'_>>
+    ensures asked { IfSome result (AskFor (codes "scan" ∷ map string_bytes words.now)) }
+    ensures other { IfNone result (AreOtherWords (codes "scan" ∷ map string_bytes words.now)) }
+{
     let (given, prefix) = read_options(words)?;
     let config = given.config?;
-    if !is_prefix(prefix) {
-        return None;
+    if is_prefix(prefix) {
+        return Some(Command::Scan(Job {
+            flag: given.error,
+            most: given.most.unwrap_or(MOST_FINDINGS),
+            config,
+            prefix,
+        }));
     }
-    Some(Command::Scan(Job {
-        flag: given.error,
-        most: given.most.unwrap_or(MOST_FINDINGS),
-        config,
-        prefix,
-    }))
+    None
 }
 
 /// The command that the words ask for. It takes no memory.
@@ -60,9 +68,12 @@ pub fn read_words(words: &Vec<String>) -> Option<Command<'_>>
     ensures other { IfNone result (AreOtherWords (map string_bytes words.now.items)) }
 {
     let (command, rest) = words.as_slice().split_first()?;
-    match command.as_str() {
-        "match" => read_match(rest),
-        "scan" => read_scan(rest),
-        _ => None,
+    let command = command.as_str();
+    if command == "match" {
+        return read_match(rest);
     }
+    if command == "scan" {
+        return read_scan(rest);
+    }
+    None
 }

@@ -1,0 +1,190 @@
+-- Words that are options and a prefix, one option at a time.
+use Rattle.std.proofs.Common.{◌≡◌, ◌≢◌, ◌⊎◌, inl, inr, ◌↔◌, ℕ, ◌<◌, ◌≤◌, ◌^◌, Bool, true, false, List, [], ◌∷◌, ◌++◌, length, Option, None, Some, is_some, option_map, codes, refl, sym, ap, ◌∙◌, subst, arith}
+use Rattle.std.specs.Borrow.{Bor}
+use Rattle.std.specs.Fmt.{decimal}
+use Rattle.std.specs.List.{flat_map}
+use Rattle.std.specs.Str.{bytes_eq}
+use Rattle.std.proofs.lemmas.Bool.{false≢true}
+use Rattle.std.proofs.lemmas.Fmt.{decimal_injective}
+use Rattle.std.proofs.lemmas.Slice.Eq.{bytes_eq-Decides}
+use Rattle.path_glob.specs.Path.{IsPath}
+use Rattle.wire_words.specs.Words.{Setting, fails, at_most, rules_at, setting_words, Given, nothing, with_error, with_most, with_config, Give}
+use Rattle.wire_words.specs.Given.{AskAfter, AskAlike, AskNothing, AskOnly}
+
+Words : Type 0
+Words = List (List ℕ)
+
+-- what the first of at least two words says
+abbrev FirstIs : Given → List ℕ → List ℕ → List (List ℕ) → Given → List ℕ → Type 0
+FirstIs a w x rest g p =
+    ((w ≡ codes "--error") × (a.error ≡ false) × AskAfter (with_error a) (x ∷ rest) g p)
+    ⊎ (((n : ℕ) × (w ≡ codes "--max") × (x ≡ decimal n) × (a.most ≡ None) × (n ≤ 50000) × AskAfter (with_most a n) rest g p)
+    ⊎ ((w ≡ codes "--config") × (a.config ≡ None) × IsPath x × AskAfter (with_config a x) rest g p))
+
+first_by : (a : Given) (w x : List ℕ) (rest : List (List ℕ)) (g : Given) (p : List ℕ) (settings : List Setting) → w ∷ x ∷ rest ≡ flat_map setting_words settings ++ p ∷ [] → Give a settings g → FirstIs a w x rest g p
+first_by a w x rest g p [] are give = absurd cc
+first_by a w x rest g p (fails ∷ settings) are (fresh, give) =
+    let word : w ≡ codes "--error" = cc in
+    let left : x ∷ rest ≡ flat_map setting_words settings ++ p ∷ [] = cc in
+    inl (word, fresh, record { settings = settings; are = left; give = give })
+first_by a w x rest g p (at_most n ∷ settings) are (fresh, small, give) =
+    let word : w ≡ codes "--max" = cc in
+    let value : x ≡ decimal n = cc in
+    let left : rest ≡ flat_map setting_words settings ++ p ∷ [] = cc in
+    inr (inl (n, word, value, fresh, small, record { settings = settings; are = left; give = give }))
+first_by a w x rest g p (rules_at path ∷ settings) are (fresh, is_path, give) =
+    let word : w ≡ codes "--config" = cc in
+    let value : x ≡ path = cc in
+    let left : rest ≡ flat_map setting_words settings ++ p ∷ [] = cc in
+    let P : List ℕ → Type 0 = λ t. IsPath t in
+    let Q : List ℕ → Type 0 = λ t. Give (with_config a t) settings g in
+    inr (inr (word, fresh, subst P (sym value) is_path, record { settings = settings; are = left; give = subst Q (sym value) give }))
+
+first : (a : Given) (w x : List ℕ) (rest : List (List ℕ)) (g : Given) (p : List ℕ) → AskAfter a (w ∷ x ∷ rest) g p → FirstIs a w x rest g p
+first a w x rest g p h = first_by a w x rest g p h.settings h.are h.give
+
+-- the words of options differ
+differ : (w a b : List ℕ) → w ≡ a → w ≡ b → bytes_eq a b ≡ false → bytes_eq b b ≡ true → ⊥
+differ w a b ea eb no yes = absurd (false≢true (sym no ∙ ap (λ t. bytes_eq t b) (sym ea ∙ eb) ∙ yes))
+
+module _ (a : Given) (x : List ℕ) (rest : List (List ℕ)) where
+  pub error_step : a.error ≡ false → AskAlike a (codes "--error" ∷ x ∷ rest) (with_error a) (x ∷ rest)
+  error_step fresh g p = (
+    λ h. elim (first a (codes "--error") x rest g p h) [
+      inl (word, old, after) ↦ after
+    | inr other ↦ elim other [
+        inl (n, word, etc) ↦ absurd (differ (codes "--error") (codes "--error") (codes "--max") refl word refl refl)
+      | inr (word, etc) ↦ absurd (differ (codes "--error") (codes "--error") (codes "--config") refl word refl refl)
+      ]
+    ],
+    λ h. record { settings = fails ∷ h.settings; are = ap (λ ws. codes "--error" ∷ ws) h.are; give = (fresh, h.give) },
+  )
+
+  pub error_again : a.error ≡ true → AskNothing a (codes "--error" ∷ x ∷ rest)
+  error_again again g p h = elim (first a (codes "--error") x rest g p h) [
+      inl (word, old, after) ↦ absurd (false≢true (sym old ∙ again))
+    | inr other ↦ elim other [
+        inl (n, word, etc) ↦ differ (codes "--error") (codes "--error") (codes "--max") refl word refl refl
+      | inr (word, etc) ↦ differ (codes "--error") (codes "--error") (codes "--config") refl word refl refl
+      ]
+    ]
+
+  pub most_step : (n : ℕ) → a.most ≡ None → n ≤ 50000 → x ≡ decimal n → AskAlike a (codes "--max" ∷ x ∷ rest) (with_most a n) rest
+  most_step n fresh small is g p = (
+    λ h. elim (first a (codes "--max") x rest g p h) [
+      inl (word, etc) ↦ absurd (differ (codes "--max") (codes "--max") (codes "--error") refl word refl refl)
+    | inr other ↦ elim other [
+        inl (m, word, value, old, few, after) ↦
+        let same : m ≡ n = decimal_injective m n (omega arith) (omega arith) (sym value ∙ is) in
+        let P : ℕ → Type 0 = λ k. AskAfter (with_most a k) rest g p in
+        subst P same after
+      | inr (word, etc) ↦ absurd (differ (codes "--max") (codes "--max") (codes "--config") refl word refl refl)
+      ]
+    ],
+    λ h. record { settings = at_most n ∷ h.settings; are = ap (λ t. codes "--max" ∷ t ∷ rest) is ∙ ap (λ ws. codes "--max" ∷ decimal n ∷ ws) h.are; give = (fresh, small, h.give) },
+  )
+
+  pub most_wrong : ((n : ℕ) → a.most ≡ None → n ≤ 50000 → x ≡ decimal n → ⊥) → AskNothing a (codes "--max" ∷ x ∷ rest)
+  most_wrong wrong g p h = elim (first a (codes "--max") x rest g p h) [
+      inl (word, etc) ↦ differ (codes "--max") (codes "--max") (codes "--error") refl word refl refl
+    | inr other ↦ elim other [
+        inl (m, word, value, old, few, after) ↦ wrong m old few value
+      | inr (word, etc) ↦ differ (codes "--max") (codes "--max") (codes "--config") refl word refl refl
+      ]
+    ]
+
+  pub config_step : a.config ≡ None → IsPath x → AskAlike a (codes "--config" ∷ x ∷ rest) (with_config a x) rest
+  config_step fresh is_path g p = (
+    λ h. elim (first a (codes "--config") x rest g p h) [
+      inl (word, etc) ↦ absurd (differ (codes "--config") (codes "--config") (codes "--error") refl word refl refl)
+    | inr other ↦ elim other [
+        inl (m, word, etc) ↦ absurd (differ (codes "--config") (codes "--config") (codes "--max") refl word refl refl)
+      | inr (word, old, path, after) ↦ after
+      ]
+    ],
+    λ h. record { settings = rules_at x ∷ h.settings; are = ap (λ ws. codes "--config" ∷ x ∷ ws) h.are; give = (fresh, is_path, h.give) },
+  )
+
+  pub config_wrong : (a.config ≡ None → IsPath x → ⊥) → AskNothing a (codes "--config" ∷ x ∷ rest)
+  config_wrong wrong g p h = elim (first a (codes "--config") x rest g p h) [
+      inl (word, etc) ↦ differ (codes "--config") (codes "--config") (codes "--error") refl word refl refl
+    | inr other ↦ elim other [
+        inl (m, word, etc) ↦ differ (codes "--config") (codes "--config") (codes "--max") refl word refl refl
+      | inr (word, old, path, after) ↦ wrong old path
+      ]
+    ]
+
+  pub other_word : (w : List ℕ) → (w ≡ codes "--error" → ⊥) → (w ≡ codes "--max" → ⊥) → (w ≡ codes "--config" → ⊥) → AskNothing a (w ∷ x ∷ rest)
+  other_word w error most config g p h = elim (first a w x rest g p h) [
+      inl (word, etc) ↦ error word
+    | inr other ↦ elim other [
+        inl (m, word, etc) ↦ most word
+      | inr (word, etc) ↦ config word
+      ]
+    ]
+
+-- the same of words that are some
+pub again : (a : Given) (ws : List (List ℕ)) → 0 < length ws → a.error ≡ true → AskNothing a (codes "--error" ∷ ws)
+again a [] some = absurd (omega arith)
+again a (x ∷ rest) some = error_again a x rest
+
+pub taken : (a : Given) (ws : List (List ℕ)) → 0 < length ws → a.error ≡ false → AskAlike a (codes "--error" ∷ ws) (with_error a) ws
+taken a [] some = absurd (omega arith)
+taken a (x ∷ rest) some = error_step a x rest
+
+pub most_again : (a : Given) (ws : List (List ℕ)) → 0 < length ws → (a.most ≡ None → ⊥) → AskNothing a (codes "--max" ∷ ws)
+most_again a [] some = absurd (omega arith)
+most_again a (x ∷ rest) some there = most_wrong a x rest (λ n fresh small is. there fresh)
+
+pub config_again : (a : Given) (ws : List (List ℕ)) → 0 < length ws → (a.config ≡ None → ⊥) → AskNothing a (codes "--config" ∷ ws)
+config_again a [] some = absurd (omega arith)
+config_again a (x ∷ rest) some there = config_wrong a x rest (λ fresh is_path. there fresh)
+
+pub unknown : (a : Given) (w : List ℕ) (ws : List (List ℕ)) → 0 < length ws → (w ≡ codes "--error" → ⊥) → (w ≡ codes "--max" → ⊥) → (w ≡ codes "--config" → ⊥) → AskNothing a (w ∷ ws)
+unknown a w [] some = absurd (omega arith)
+unknown a w (x ∷ rest) some = other_word a x rest w
+
+-- one word is the prefix
+last_by : (a : Given) (w : List ℕ) (g : Given) (p : List ℕ) (settings : List Setting) → w ∷ [] ≡ flat_map setting_words settings ++ p ∷ [] → Give a settings g → (g ≡ a) × (p ≡ w)
+last_by a w g p [] are give = (give, cc)
+last_by a w g p (fails ∷ []) are give = absurd cc
+last_by a w g p (fails ∷ fails ∷ settings) are give = absurd cc
+last_by a w g p (fails ∷ at_most n ∷ settings) are give = absurd cc
+last_by a w g p (fails ∷ rules_at path ∷ settings) are give = absurd cc
+last_by a w g p (at_most n ∷ settings) are give = absurd cc
+last_by a w g p (rules_at path ∷ settings) are give = absurd cc
+
+pub last_word : (a : Given) (w : List ℕ) (g : Given) (p : List ℕ) → AskAfter a (w ∷ []) g p ↔ ((g ≡ a) × (p ≡ w))
+last_word a w g p = (
+  λ h. last_by a w g p h.settings h.are h.give,
+  λ h. record { settings = []; are = ap (λ t. t ∷ []) (sym h.1); give = h.0 },
+)
+
+none_by : (a : Given) (g : Given) (p : List ℕ) (settings : List Setting) → [] ≡ flat_map setting_words settings ++ p ∷ [] → ⊥
+none_by a g p [] are = absurd cc
+none_by a g p (fails ∷ settings) are = absurd cc
+none_by a g p (at_most n ∷ settings) are = absurd cc
+none_by a g p (rules_at path ∷ settings) are = absurd cc
+
+pub no_words : (a : Given) → AskNothing a []
+no_words a g p h = none_by a g p h.settings h.are
+
+-- ---- words that are told apart
+
+pub is_word : (w v : List ℕ) (b : Bool) → b ≡ bytes_eq w v → b ≡ true → w ≡ v
+is_word w v b is yes = (bytes_eq-Decides w v).0 (sym is ∙ yes)
+
+pub not_word : (w v : List ℕ) (b : Bool) → b ≡ bytes_eq w v → b ≡ false → w ≡ v → ⊥
+not_word w v b is no same = absurd (false≢true (sym no ∙ is ∙ (bytes_eq-Decides w v).1 same))
+
+pub none_of : {X : Type 0} (o : Option X) (b : Bool) → b ≡ is_some o → b ≡ false → o ≡ None
+none_of None b is no = refl
+none_of (Some x) b is no = absurd (false≢true (sym no ∙ is))
+
+pub some_of : {X : Type 0} (o : Option X) (b : Bool) → b ≡ is_some o → b ≡ true → o ≡ None → ⊥
+some_of None b is yes same = absurd (false≢true (sym is ∙ yes))
+some_of (Some x) b is yes same = absurd cc
+
+pub lent_none : (o : Option (Bor (List ℕ))) → option_map (λ (t : Bor (List ℕ)). t.now) o ≡ None → o ≡ None
+lent_none None is = refl
+lent_none (Some t) is = absurd cc
