@@ -1,5 +1,5 @@
 -- No number of a report is a fraction.
-use Rattle.std.proofs.Common.{◌≡◌, ℕ, List, [], ◌∷◌, map, Bool, true, false, ◌||◌, Option, None, Some, codes, refl, ap, ◌∙◌}
+use Rattle.std.proofs.Common.{◌≡◌, ℕ, List, [], ◌∷◌, map, false, ◌||◌, Option, None, Some, codes, refl, ap, ◌∙◌}
 use Rattle.serde_json.specs.Data.{Data, string, object, Members, member}
 use Rattle.serde_json.specs.View.{items_of}
 use Rattle.serde_json.specs.Written.{has_float, items_have_float, members_have_float}
@@ -8,8 +8,7 @@ use Rattle.meta_bind.specs.declared.bound.Bound.{Bound}
 use Rattle.fix_apply.specs.declared.notice.Notice.{Notice}
 use Rattle.fix_apply.specs.declared.report.Reported.{Reported}
 use Rattle.fix_apply.specs.declared.report.Report.{Report}
-use Rattle.rule_form.specs.declared.rule.Severity.{Severity}
-use Rattle.finding_json.specs.Reports.{metavar_members, source_members, with_fix, extra_data, result_data, notice_data, report_data, severity_word}
+use Rattle.finding_json.specs.Reports.{metavar_members, source_members, with_fix, result_data, notice_data, report_data, severity_word}
 
 in_list : {X : Type 0} (f : X → Data) → ((x : X) → has_float (f x) ≡ false) → (xs : List X) → items_have_float (items_of (map f xs)) ≡ false
 in_list f none [] = refl

@@ -1,7 +1,6 @@
 //! The parts of a report as JSON values.
 
 ghost use Rattle.std.specs.Prelude.{◌≡◌, IfOk, map};
-ghost use Rattle.serde_json.specs.Data.{object};
 ghost use Rattle.serde_json.specs.View.{view, members_view};
 ghost use Rattle.meta_bind.specs.Bounds.{seen, NamesAscend};
 ghost use Rattle.finding_json.specs.Reports.{place_data, range_data, metavar_members, source_members, extra_data, result_data, notice_data, severity_word, with_fix};
@@ -50,7 +49,12 @@ fn metavar_map(alloc: Global, bounds: &[Bound]) -> Result<Map<String, Value>, Al
     let mut members = Map::new(alloc);
     let mut left = bounds;
     while let Some((last, front)) = left.split_last() {
-        put(&mut members, alloc, last.name.as_str(), range_value(alloc, last.span)?)?;
+        put(
+            &mut members,
+            alloc,
+            last.name.as_str(),
+            range_value(alloc, last.span)?,
+        )?;
         left = front;
     }
     Ok(members)
@@ -68,11 +72,20 @@ fn source_map(alloc: Global, source: Option<Span>) -> Result<Map<String, Value>,
 }
 
 // Adds the fix, where there is one.
-fn add_fix(alloc: Global, mut members: Map<String, Value>, fix: &Option<Text>) -> Result<Map<String, Value>, AllocError>
+fn add_fix(
+    alloc: Global,
+    mut members: Map<String, Value>,
+    fix: &Option<Text>,
+) -> Result<Map<String, Value>, AllocError>
     ensures { IfOk result (λ m. members_view m.entries ≡ with_fix fix.now (members_view members.entries)) }
 {
     if let Some(text) = fix {
-        put(&mut members, alloc, "fix", Value::try_from_str(alloc, text.as_str())?)?;
+        put(
+            &mut members,
+            alloc,
+            "fix",
+            Value::try_from_str(alloc, text.as_str())?,
+        )?;
     }
     Ok(members)
 }
@@ -83,9 +96,19 @@ fn extra_value(alloc: Global, reported: &Reported) -> Result<Value, AllocError>
 {
     let mut members = source_map(alloc, reported.finding.source)?;
     let metavars = metavar_map(alloc, reported.finding.binding.bounds())?;
-    put(&mut members, alloc, "severity", Value::try_from_str(alloc, word_of(reported.severity))?)?;
+    put(
+        &mut members,
+        alloc,
+        "severity",
+        Value::try_from_str(alloc, word_of(reported.severity))?,
+    )?;
     put(&mut members, alloc, "metavars", Value::Object(metavars))?;
-    put(&mut members, alloc, "message", Value::try_from_str(alloc, reported.message.as_str())?)?;
+    put(
+        &mut members,
+        alloc,
+        "message",
+        Value::try_from_str(alloc, reported.message.as_str())?,
+    )?;
     let members = add_fix(alloc, members, &reported.fix)?;
     Ok(Value::Object(members))
 }

@@ -23,7 +23,13 @@ fn bound(rt: &HostRuntime, name: &str, from: u32, to: u32) -> Result<Bound, Memo
     })
 }
 
-fn notice(rt: &HostRuntime, path: &str, rule_id: &str, kind: NoticeKind, detail: &str) -> Result<Notice, Memory> {
+fn notice(
+    rt: &HostRuntime,
+    path: &str,
+    rule_id: &str,
+    kind: NoticeKind,
+    detail: &str,
+) -> Result<Notice, Memory> {
     Ok(Notice {
         path: text(rt, path)?,
         rule_id: text(rt, rule_id)?,
@@ -53,11 +59,24 @@ fn a_taint_finding_has_its_source(rt: HostRuntime) -> Result<(), Fail> {
         severity: Severity::Error,
         message: text(&rt, "Tainted data reaches cur.execute.")?,
         fix: None,
-        start: Place { line: 4, col: 5, offset: 67 },
-        end: Place { line: 4, col: 19, offset: 81 },
-        finding: Finding { span: Span { from: 67, to: 81 }, binding, source: Some(Span { from: 23, to: 40 }) },
+        start: Place {
+            line: 4,
+            col: 5,
+            offset: 67,
+        },
+        end: Place {
+            line: 4,
+            col: 19,
+            offset: 81,
+        },
+        finding: Finding {
+            span: Span { from: 67, to: 81 },
+            binding,
+            source: Some(Span { from: 23, to: 40 }),
+        },
     })?;
-    let line = "{\"notices\":[],\"results\":[{\"check_id\":\"sqli\",\"end\":{\"col\":19,\"line\":4,\"offset\":81},\"extra\":{\"message\":\"Tainted data reaches cur.execute.\",\"metavars\":{\"$DB\":[67,70]},\"severity\":\"ERROR\",\"source\":[23,40]},\"path\":\"src/a.py\",\"start\":{\"col\":5,\"line\":4,\"offset\":67}}]}\n";
+    let line =
+        "{\"notices\":[],\"results\":[{\"check_id\":\"sqli\",\"end\":{\"col\":19,\"line\":4,\"offset\":81},\"extra\":{\"message\":\"Tainted data reaches cur.execute.\",\"metavars\":{\"$DB\":[67,70]},\"severity\":\"ERROR\",\"source\":[23,40]},\"path\":\"src/a.py\",\"start\":{\"col\":5,\"line\":4,\"offset\":67}}]}\n";
     assert!(rt; is_line(&rt, &report, line)?);
     Ok(())
 }
@@ -74,11 +93,24 @@ fn fixes_and_metavariables_stand_in_order(rt: HostRuntime) -> Result<(), Fail> {
         severity: Severity::Info,
         message: text(&rt, "say \"é\"\n")?,
         fix: Some(text(&rt, "g(1)")?),
-        start: Place { line: 1, col: 1, offset: 0 },
-        end: Place { line: 1, col: 8, offset: 7 },
-        finding: Finding { span: Span { from: 0, to: 7 }, binding, source: None },
+        start: Place {
+            line: 1,
+            col: 1,
+            offset: 0,
+        },
+        end: Place {
+            line: 1,
+            col: 8,
+            offset: 7,
+        },
+        finding: Finding {
+            span: Span { from: 0, to: 7 },
+            binding,
+            source: None,
+        },
     })?;
-    let line = "{\"notices\":[],\"results\":[{\"check_id\":\"p\",\"end\":{\"col\":8,\"line\":1,\"offset\":7},\"extra\":{\"fix\":\"g(1)\",\"message\":\"say \\\"é\\\"\\n\",\"metavars\":{\"$...A\":[2,4],\"$Y\":[5,6]},\"severity\":\"INFO\"},\"path\":\"a.py\",\"start\":{\"col\":1,\"line\":1,\"offset\":0}}]}\n";
+    let line =
+        "{\"notices\":[],\"results\":[{\"check_id\":\"p\",\"end\":{\"col\":8,\"line\":1,\"offset\":7},\"extra\":{\"fix\":\"g(1)\",\"message\":\"say \\\"é\\\"\\n\",\"metavars\":{\"$...A\":[2,4],\"$Y\":[5,6]},\"severity\":\"INFO\"},\"path\":\"a.py\",\"start\":{\"col\":1,\"line\":1,\"offset\":0}}]}\n";
     assert!(rt; is_line(&rt, &report, line)?);
     Ok(())
 }
@@ -86,9 +118,18 @@ fn fixes_and_metavariables_stand_in_order(rt: HostRuntime) -> Result<(), Fail> {
 #[test]
 fn notices_stand_before_results(rt: HostRuntime) -> Result<(), Fail> {
     let mut report = empty(&rt);
-    report.notices.push(notice(&rt, "r.yaml", "q", NoticeKind::UnknownKey, "rules.1.patterns.0.pattern-foo")?)?;
-    report.notices.push(notice(&rt, "src/b.py", "", NoticeKind::NotUtf8, "")?)?;
-    let line = "{\"notices\":[{\"detail\":\"rules.1.patterns.0.pattern-foo\",\"kind\":\"UnknownKey\",\"path\":\"r.yaml\",\"rule\":\"q\"},{\"detail\":\"\",\"kind\":\"NotUtf8\",\"path\":\"src/b.py\",\"rule\":\"\"}],\"results\":[]}\n";
+    report.notices.push(notice(
+        &rt,
+        "r.yaml",
+        "q",
+        NoticeKind::UnknownKey,
+        "rules.1.patterns.0.pattern-foo",
+    )?)?;
+    report
+        .notices
+        .push(notice(&rt, "src/b.py", "", NoticeKind::NotUtf8, "")?)?;
+    let line =
+        "{\"notices\":[{\"detail\":\"rules.1.patterns.0.pattern-foo\",\"kind\":\"UnknownKey\",\"path\":\"r.yaml\",\"rule\":\"q\"},{\"detail\":\"\",\"kind\":\"NotUtf8\",\"path\":\"src/b.py\",\"rule\":\"\"}],\"results\":[]}\n";
     assert!(rt; is_line(&rt, &report, line)?);
     Ok(())
 }

@@ -1,9 +1,9 @@
 -- What the calls of a tree do to the files that it tells, and to its counts.
-use Rattle.std.specs.Prelude.{◌≡◌, ◌≢◌, ◌↔◌, ℕ, ◌+◌, ◌≤◌, List, All, Contains, length, take, Option, None, Some, IsSome, ⊤, Result, Ok, Err}
+use Rattle.std.specs.Prelude.{◌≡◌, ◌≢◌, ◌↔◌, ℕ, List, All, Contains, take, Option, None, Some, IsSome, ⊤, Result, Err}
 use Rattle.scan_world.specs.Faults.{Rose}
 use Rattle.scan_world.specs.Files.{Files, file_at, IsUnder, PathsAscend}
 use Rattle.scan_world.specs.declared.tree.TreeFault.{TreeFault}
-use Rattle.scan_world.specs.declared.tree.TreeFault.TheVariants.{Failed, Memory, Absent}
+use Rattle.scan_world.specs.declared.tree.TreeFault.TheVariants.{Failed, Absent}
 
 -- told files stay as they were
 abbrev pub KeepsFiles : Option Files → Option Files → Type 0

@@ -1,6 +1,6 @@
 //! A tree in memory.
 
-ghost use Rattle.std.specs.Prelude.{◌≡◌, ◌↔◌, ◌+◌, ◌≤◌, ◌∷◌, length, take, drop, Some, None, Ok, Err, IfOk, IfErr, OnOk, OnErr, MatchOption};
+ghost use Rattle.std.specs.Prelude.{◌≡◌, ◌↔◌, ◌+◌, ◌≤◌, ◌∷◌, length, take, Some, None, Ok, Err, IfOk, IfErr, OnOk, OnErr, MatchOption};
 ghost use Rattle.scan_world.specs.Files.{Files, file_at};
 ghost use Rattle.scan_world.specs.Trees.{KeepsFiles, KeepsOthers, PutsFile, LacksFile, HasFront, IsListing, HasTreeCause};
 ghost use Rattle.scan_world.specs.Memory.{TreeState, IsFailingCall};

@@ -1,6 +1,6 @@
 //! Trees of files.
 
-ghost use Rattle.std.specs.Prelude.{◌≡◌, List as list, ℕ, ◌+◌, ◌≤◌, length, IfOk, OnOk, OnErr, Err};
+ghost use Rattle.std.specs.Prelude.{◌≡◌, List as list, ℕ, ◌+◌, ◌≤◌, length, IfOk, OnOk, Err};
 ghost use Rattle.std.specs.declared.option.Option.{Option as option};
 ghost use Rattle.scan_world.specs.Files.{Files};
 ghost use Rattle.scan_world.specs.Trees.{KeepsFiles, KeepsOthers, PutsFile, LacksFile, HasFront, IsListing, HasTreeCause};

@@ -18,21 +18,27 @@ pub struct Given<'w> {
 // Takes `--error`, after which these words are left.
 fn take_error<'w>(before: Given<'w>, left: &'w [String]) -> Option<(Given<'w>, &'w [String])>
     requires { 0 < length left.now }
-    ensures taken { MatchOption result (AskNothing (given_of before) (codes "--error" ∷ map string_bytes left.now))
-        (λ r. AskAlike (given_of before) (codes "--error" ∷ map string_bytes left.now) (given_of r.0) (map string_bytes r.1.now)) }
+    ensures taken { MatchOption result (AskNothing (given_of before.entry) (codes "--error" ∷ map string_bytes left.now))
+        (λ r. AskAlike (given_of before.entry) (codes "--error" ∷ map string_bytes left.now) (given_of r.0) (map string_bytes r.1.now)) }
     ensures shorter { IfSome result (λ r. length r.1.now ≤ length left.now) }
 {
     if before.error {
         return None;
     }
-    Some((Given { error: true, ..before }, left))
+    Some((
+        Given {
+            error: true,
+            ..before
+        },
+        left,
+    ))
 }
 
 // Takes `--max`, after which these words are left.
 fn take_most<'w>(before: Given<'w>, left: &'w [String]) -> Option<(Given<'w>, &'w [String])>
     requires { 0 < length left.now }
-    ensures taken { MatchOption result (AskNothing (given_of before) (codes "--max" ∷ map string_bytes left.now))
-        (λ r. AskAlike (given_of before) (codes "--max" ∷ map string_bytes left.now) (given_of r.0) (map string_bytes r.1.now)) }
+    ensures taken { MatchOption result (AskNothing (given_of before.entry) (codes "--max" ∷ map string_bytes left.now))
+        (λ r. AskAlike (given_of before.entry) (codes "--max" ∷ map string_bytes left.now) (given_of r.0) (map string_bytes r.1.now)) }
     ensures shorter { IfSome result (λ r. length r.1.now ≤ length left.now) }
 {
     if before.most.is_some() {
@@ -40,14 +46,20 @@ fn take_most<'w>(before: Given<'w>, left: &'w [String]) -> Option<(Given<'w>, &'
     }
     let (value, rest) = left.split_first()?;
     let most = read_count(value.as_str())?;
-    Some((Given { most: Some(most), ..before }, rest))
+    Some((
+        Given {
+            most: Some(most),
+            ..before
+        },
+        rest,
+    ))
 }
 
 // Takes `--config`, after which these words are left.
 fn take_config<'w>(before: Given<'w>, left: &'w [String]) -> Option<(Given<'w>, &'w [String])>
     requires { 0 < length left.now }
-    ensures taken { MatchOption result (AskNothing (given_of before) (codes "--config" ∷ map string_bytes left.now))
-        (λ r. AskAlike (given_of before) (codes "--config" ∷ map string_bytes left.now) (given_of r.0) (map string_bytes r.1.now)) }
+    ensures taken { MatchOption result (AskNothing (given_of before.entry) (codes "--config" ∷ map string_bytes left.now))
+        (λ r. AskAlike (given_of before.entry) (codes "--config" ∷ map string_bytes left.now) (given_of r.0) (map string_bytes r.1.now)) }
     ensures shorter { IfSome result (λ r. length r.1.now ≤ length left.now) }
 {
     if before.config.is_some() {
@@ -56,16 +68,26 @@ fn take_config<'w>(before: Given<'w>, left: &'w [String]) -> Option<(Given<'w>, 
     let (value, rest) = left.split_first()?;
     let path = value.as_str();
     if path_ok(path) {
-        return Some((Given { config: Some(path), ..before }, rest));
+        return Some((
+            Given {
+                config: Some(path),
+                ..before
+            },
+            rest,
+        ));
     }
     None
 }
 
 // Takes one option, after which these words are left.
-fn take_option<'w>(before: Given<'w>, option: &str, left: &'w [String]) -> Option<(Given<'w>, &'w [String])>
+fn take_option<'w>(
+    before: Given<'w>,
+    option: &str,
+    left: &'w [String],
+) -> Option<(Given<'w>, &'w [String])>
     requires { 0 < length left.now }
-    ensures taken { MatchOption result (AskNothing (given_of before) (option.now ∷ map string_bytes left.now))
-        (λ r. AskAlike (given_of before) (option.now ∷ map string_bytes left.now) (given_of r.0) (map string_bytes r.1.now)) }
+    ensures taken { MatchOption result (AskNothing (given_of before.entry) (option.now ∷ map string_bytes left.now))
+        (λ r. AskAlike (given_of before.entry) (option.now ∷ map string_bytes left.now) (given_of r.0) (map string_bytes r.1.now)) }
     ensures shorter { IfSome result (λ r. length r.1.now ≤ length left.now) }
 {
     if option == "--error" {
@@ -95,7 +117,9 @@ pub fn read_options<'w>(words: &'w [String]) -> Option<(Given<'w>, &'w str)>
         if rest.is_empty() {
             return Some((given, word.as_str()));
         }
-        (given, left) = take_option(given, word.as_str(), rest)?;
+        let (after, further) = take_option(given, word.as_str(), rest)?;
+        given = after;
+        left = further;
     }
     None
 }

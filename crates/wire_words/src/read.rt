@@ -67,8 +67,8 @@ pub fn read_words(words: &Vec<String>) -> Option<Command<'_>>
     ensures asked { IfSome result (AskFor (map string_bytes words.now.items)) }
     ensures other { IfNone result (AreOtherWords (map string_bytes words.now.items)) }
 {
-    let (command, rest) = words.as_slice().split_first()?;
-    let command = command.as_str();
+    let (first, rest) = words.as_slice().split_first()?;
+    let command = first.as_str();
     if command == "match" {
         return read_match(rest);
     }

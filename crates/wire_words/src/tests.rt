@@ -11,10 +11,20 @@ fn words(rt: &HostRuntime, line: &str) -> Result<Vec<String>, AllocError> {
     Ok(words)
 }
 
-fn is_scan(rt: &HostRuntime, line: &str, flag: bool, most: u64, config: &str, prefix: &str) -> Result<bool, AllocError> {
+fn is_scan(
+    rt: &HostRuntime,
+    line: &str,
+    flag: bool,
+    most: u64,
+    config: &str,
+    prefix: &str,
+) -> Result<bool, AllocError> {
     let words = words(rt, line)?;
     Ok(match read_words(&words) {
-        Some(Command::Scan(job)) => job.flag == flag && job.most == most && job.config == config && job.prefix == prefix,
+        Some(Command::Scan(job)) => job.flag == flag
+            && job.most == most
+            && job.config == config
+            && job.prefix == prefix,
         _ => false,
     })
 }
@@ -26,11 +36,56 @@ fn is_usage(rt: &HostRuntime, line: &str) -> Result<bool, AllocError> {
 
 #[test]
 fn options_stand_in_any_order(rt: HostRuntime) -> Result<(), Fail> {
-    assert!(rt; is_scan(&rt, "scan --config r.yaml src", false, 50000, "r.yaml", "src")?);
-    assert!(rt; is_scan(&rt, "scan --error --max 3 --config r.yaml .", true, 3, "r.yaml", ".")?);
-    assert!(rt; is_scan(&rt, "scan --config r.yaml --max 0 --error a/b", true, 0, "r.yaml", "a/b")?);
-    assert!(rt; is_scan(&rt, "scan --config --error src", false, 50000, "--error", "src")?);
-    assert!(rt; is_scan(&rt, "scan --config r.yaml --error", false, 50000, "r.yaml", "--error")?);
+    assert!(rt;
+        is_scan(
+            &rt,
+            "scan --config r.yaml src",
+            false,
+            50000,
+            "r.yaml",
+            "src"
+        )?
+    );
+    assert!(rt;
+        is_scan(
+            &rt,
+            "scan --error --max 3 --config r.yaml .",
+            true,
+            3,
+            "r.yaml",
+            "."
+        )?
+    );
+    assert!(rt;
+        is_scan(
+            &rt,
+            "scan --config r.yaml --max 0 --error a/b",
+            true,
+            0,
+            "r.yaml",
+            "a/b"
+        )?
+    );
+    assert!(rt;
+        is_scan(
+            &rt,
+            "scan --config --error src",
+            false,
+            50000,
+            "--error",
+            "src"
+        )?
+    );
+    assert!(rt;
+        is_scan(
+            &rt,
+            "scan --config r.yaml --error",
+            false,
+            50000,
+            "r.yaml",
+            "--error"
+        )?
+    );
     Ok(())
 }
 
@@ -54,6 +109,11 @@ fn other_words_are_refused(rt: HostRuntime) -> Result<(), Fail> {
 #[test]
 fn patterns_are_matched_in_a_language(rt: HostRuntime) -> Result<(), Fail> {
     let words = words(&rt, "match python f($X)")?;
-    assert!(rt; matches!(read_words(&words), Some(Command::Match(Lang::Python, "f($X)"))));
+    assert!(rt;
+        matches!(
+            read_words(&words),
+            Some(Command::Match(Lang::Python, "f($X)"))
+        )
+    );
     Ok(())
 }

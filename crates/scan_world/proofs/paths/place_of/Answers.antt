@@ -1,4 +1,4 @@
-use Rattle.std.proofs.Common.{◌<◌, ◌+◌, ◌-◌, ◌/◌, ◌≡◌, length, ◌∙◌, sym, ap, arith}
+use Rattle.std.proofs.Common.{◌<◌, ◌+◌, ◌-◌, ◌/◌, length, ◌∙◌, sym, ap, arith}
 use Rattle.std.specs.Ordering.{nat_cmp, ordering_reverse}
 use Rattle.node_tree.proofs.Orders.{nat_order, lists_order}
 use Rattle.scan_world.specs.Files.{path_cmp}

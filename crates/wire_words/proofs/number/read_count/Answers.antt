@@ -1,4 +1,3 @@
-use Rattle.std.proofs.Common.{sym, ap, ◌∙◌}
 use Rattle.wire_words.proofs.Numerals.{not_plain}
 use Rattle.wire_words.proofs.number.read_count.Goals as goal
 

@@ -1,5 +1,3 @@
-use Rattle.std.proofs.Common.{◌≡◌, Result, Ok, subst}
-use Rattle.std.specs.Str.Parse.{ParsesUnsigned}
 use Rattle.wire_words.proofs.Numerals.{capped_reads, read_as}
 use Rattle.wire_words.proofs.number.read_plain.Goals as goal
 
@@ -10,4 +8,4 @@ returns-in-Err c n small is =
 
 pub returns-in-Ok : goal.returns-in-Ok
 returns-in-Ok c =
-    capped_reads c.args.text.now c.capped.result c.in-Ok.count c.requires.0 c.requires.1 (rw c.in-Ok.is at c.parse.ensures.value.0) c.capped.ensures
+    capped_reads c.args.text.now c.capped.result c.parse.result c.in-Ok.count c.in-Ok.is c.requires.0 c.requires.1 c.parse.ensures.value.0 c.capped.ensures

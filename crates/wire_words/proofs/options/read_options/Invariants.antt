@@ -1,4 +1,4 @@
-use Rattle.std.proofs.Common.{◌↔◌, ℕ, List, length, map, string_bytes}
+use Rattle.std.proofs.Common.{length, map, string_bytes}
 use Rattle.wire_words.specs.Words.{nothing}
 use Rattle.wire_words.specs.Given.{given_of, AskAlike}
 use Rattle.wire_words.proofs.options.read_options.Given as goal

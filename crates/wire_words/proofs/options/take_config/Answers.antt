@@ -1,4 +1,4 @@
-use Rattle.std.proofs.Common.{◌≡◌, length, map, string_bytes, codes, List, ℕ, ◌∷◌, Some, None, Option, option_map, sym, ap, ◌∙◌, subst, arith}
+use Rattle.std.proofs.Common.{map, string_bytes, codes, List, ℕ, ◌∷◌, option_map, sym, ap, ◌∙◌, subst, arith}
 use Rattle.std.specs.Borrow.{Bor}
 use Rattle.std.proofs.lemmas.Bool.{false≢true}
 use Rattle.std.proofs.lemmas.List.{length-map}

@@ -1,4 +1,4 @@
-use Rattle.std.proofs.Common.{length, map, string_bytes, codes, List, ℕ, ◌∷◌, sym, ap, ◌∙◌, subst, arith}
+use Rattle.std.proofs.Common.{map, string_bytes, codes, List, ℕ, ◌∷◌, sym, ap, ◌∙◌, subst, arith}
 use Rattle.std.proofs.lemmas.List.{length-map}
 use Rattle.wire_words.specs.Words.{with_most}
 use Rattle.wire_words.specs.Given.{given_of, AskNothing, AskAlike}
@@ -11,8 +11,8 @@ returns-then-is_some-clause-taken c = most_again (given_of c.args.before) (map s
 pub returns-in_err-most-clause-taken : goal.returns-in_err-most-clause-taken
 returns-in_err-most-clause-taken c =
     let P : List (List ℕ) → Type 0 = λ ws. AskNothing (given_of c.args.before) (codes "--max" ∷ ws) in
-    subst P (sym (ap (map string_bytes) c.in_ok-value.ensures.cases.0))
-    (most_wrong (given_of c.args.before) (string_bytes c.in_ok-value.value.now) (map string_bytes c.in_ok-value.rest.now) (λ n fresh small is. c.in_err-most.ensures n small (c.as_str.ensures.value ∙ is)))
+    rw c.from_residual-in_err-most.ensures (subst P (sym (ap (map string_bytes) c.in_ok-value.ensures.cases.0))
+    (most_wrong (given_of c.args.before) (string_bytes c.in_ok-value.value.now) (map string_bytes c.in_ok-value.rest.now) (λ n fresh small is. c.in_err-most.ensures n small (c.as_str.ensures.value ∙ is))))
 
 pub returns-clause-taken : goal.returns-clause-taken
 returns-clause-taken c =

@@ -1,4 +1,4 @@
-use Rattle.std.proofs.Common.{MatchOption, length, map, string_bytes, codes, List, ℕ, ◌∷◌, sym, ap, ◌∙◌, subst, arith}
+use Rattle.std.proofs.Common.{MatchOption, map, string_bytes, List, ℕ, ◌∷◌, sym, subst, arith}
 use Rattle.std.proofs.lemmas.List.{length-map}
 use Rattle.wire_words.specs.Given.{given_of, AskNothing, AskAlike}
 use Rattle.wire_words.proofs.Settings.{unknown, is_word, not_word}
