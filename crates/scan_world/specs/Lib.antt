@@ -1,3 +1,5 @@
 pub mod Faults
 pub mod Streams
+pub mod Files
+pub mod Trees
 pub mod Memory

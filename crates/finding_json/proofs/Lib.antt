@@ -1,0 +1,2 @@
+pub mod Metavars
+pub mod Floats

@@ -1,0 +1,68 @@
+-- What a report says, as a JSON value with the keys of each object in order.
+use Rattle.std.specs.Prelude.{ℕ, List, [], ◌∷◌, map, codes, Option, None, Some}
+use Rattle.serde_json.specs.Data.{Data, number, unsigned, string, array, object, item, no_items, Members, member, no_members, put}
+use Rattle.serde_json.specs.View.{items_of}
+use Rattle.node_tree.specs.declared.place.Place.{Place}
+use Rattle.node_tree.specs.declared.span.Span.{Span}
+use Rattle.meta_bind.specs.declared.bound.Bound.{Bound}
+use Rattle.rule_form.specs.declared.rule.Severity.{Severity}
+use Rattle.rule_form.specs.declared.rule.Severity.TheVariants.{Info, Warning, Error, Low, Medium, High, Critical}
+use Rattle.fix_apply.specs.Notice.{kind_word}
+use Rattle.fix_apply.specs.declared.notice.Notice.{Notice}
+use Rattle.fix_apply.specs.declared.report.Reported.{Reported}
+use Rattle.fix_apply.specs.declared.report.Report.{Report}
+
+abbrev pub number_data : ℕ → Data
+number_data n = number (unsigned n)
+
+abbrev pub place_data : Place → Data
+place_data p = object (member (codes "col") (number_data p.col) (member (codes "line") (number_data p.line) (member (codes "offset") (number_data p.offset) no_members)))
+
+-- [from,to]
+abbrev pub range_data : Span → Data
+range_data s = array (item (number_data s.from) (item (number_data s.to) no_items))
+
+-- the word of a severity, as rules have it
+abbrev pub severity_word : Severity → List ℕ
+severity_word Info = codes "INFO"
+severity_word Warning = codes "WARNING"
+severity_word Error = codes "ERROR"
+severity_word Low = codes "LOW"
+severity_word Medium = codes "MEDIUM"
+severity_word High = codes "HIGH"
+severity_word Critical = codes "CRITICAL"
+
+-- the range of each metavariable by its name; a binding has the names in order
+abbrev pub metavar_members : List Bound → Members
+metavar_members [] = no_members
+metavar_members (b ∷ bs) = member b.name (range_data b.span) (metavar_members bs)
+
+-- where taint comes from, in rules about taint
+abbrev pub source_members : Option Span → Members
+source_members None = no_members
+source_members (Some s) = member (codes "source") (range_data s) no_members
+
+-- a fix among the members, where the rule has one
+abbrev pub with_fix : Option (List ℕ) → Members → Members
+with_fix None ms = ms
+with_fix (Some text) ms = put (codes "fix") (string text) ms
+
+-- what is said of a finding beside its place
+abbrev pub extra_data : Reported → Data
+extra_data r =
+    object (with_fix r.fix (member (codes "message") (string r.message) (member (codes "metavars") (object (metavar_members r.finding.binding))
+    (member (codes "severity") (string (severity_word r.severity)) (source_members r.finding.source)))))
+
+abbrev pub result_data : Reported → Data
+result_data r =
+    object (member (codes "check_id") (string r.id) (member (codes "end") (place_data r.end) (member (codes "extra") (extra_data r)
+    (member (codes "path") (string r.path) (member (codes "start") (place_data r.start) no_members)))))
+
+abbrev pub notice_data : Notice → Data
+notice_data n =
+    object (member (codes "detail") (string n.detail) (member (codes "kind") (string (kind_word n.kind))
+    (member (codes "path") (string n.path) (member (codes "rule") (string n.rule_id) no_members))))
+
+abbrev pub report_data : Report → Data
+report_data r =
+    object (member (codes "notices") (array (items_of (map notice_data r.notices))) (member (codes "results") (array (items_of (map result_data r.results))) no_members))

@@ -1,0 +1,13 @@
+//! Reports as lines of JSON.
+//!
+//! What a report says is a JSON value (`specs/Reports.antt`), and its line is the compact text of that value.
+#![tactic(auto)]
+
+mod parts;
+mod report;
+
+pub use fix_apply::{Notice, NoticeKind, Report, Reported};
+pub use report::report_text;
+
+#[cfg(test)]
+mod tests;
