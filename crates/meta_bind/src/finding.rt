@@ -1,10 +1,10 @@
-//! Where a rule holds.
+//! What a rule finds.
 
 use crate::binding::Binding;
 use node_tree::Span;
 
-/// A place where a rule holds: its range, what the metavariables stand for, and where the taint comes from, if the rule is
-/// about taint.
+/// A range of bytes that a rule finds, what the metavariables stand for there, and for tainted data the range that it comes
+/// from.
 #[derive(Drop)]
 pub struct Finding {
     pub span: Span,
