@@ -42,10 +42,10 @@ def texts():
     yield 'nested', fill('[', lambda k: '[' * 400 + '1' + ']' * 400, ']')
 
 
-def least(command, path):
-    """The least processor time of several runs of the command on a file, in seconds, and its exit status."""
+def least(command, path, runs=RUNS):
+    """The least processor time of some runs of the command on a file, in seconds, and its exit status."""
     times = []
-    for _ in range(RUNS):
+    for _ in range(runs):
         with open(path, 'rb') as source:
             run = subprocess.Popen(command, stdin=source, stdout=subprocess.DEVNULL, stderr=subprocess.DEVNULL)
         _, status, usage = os.wait4(run.pid, 0)
