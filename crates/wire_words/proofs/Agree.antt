@@ -1,13 +1,13 @@
 -- The words of a command tell what is asked.
-use Rattle.std.proofs.Common.{◌≡◌, ◌≢◌, ◌⊎◌, ◌↔◌, inl, inr, ℕ, ◌+◌, ◌≤◌, Bool, true, false, List, [], ◌∷◌, ◌++◌, codes, sym, ap, ◌∙◌, subst, arith, refl, Option, None, Some}
+use Rattle.std.proofs.Common.{◌≡◌, ◌↔◌, inl, inr, ℕ, Bool, true, false, List, [], ◌∷◌, ◌++◌, codes, sym, ap, ◌∙◌, subst, arith, refl, Option, None, Some}
 use Rattle.std.specs.Prelude.{Contains, count_by, IsTrue, MatchOption}
 use Rattle.std.specs.Borrow.{Bor}
 use Rattle.node_tree.specs.declared.view.Lang.{Lang}
 use Rattle.node_tree.specs.declared.view.Lang.TheVariants as langs
-use Rattle.wire_words.specs.Words.{lang_word, IsMatched, AreMatchWords}
+use Rattle.wire_words.specs.Words.{lang_word, IsMatched}
 use Rattle.wire_words.specs.Choices.{Choice, Flag, Most, Config, is_most, is_config, IsFlagWord, AreOnce, AreChoices}
 use Rattle.wire_words.specs.Settings.{Tells}
-use Rattle.wire_words.specs.Commands.{Task, Request, Matching, Scanning, IsMost, IsPrefix, AreJobWords, IsCommand}
+use Rattle.wire_words.specs.Commands.{Task, Request, Matching, Scanning, IsMost, AreJobWords, IsCommand}
 use Rattle.wire_words.specs.declared.settings.Taken.{Taken}
 use Rattle.wire_words.proofs.Counts.{counted, single}
 use Rattle.wire_words.proofs.Options.{same_choices}

@@ -1,13 +1,13 @@
 -- What is kept of the options, as one more is taken.
-use Rattle.std.proofs.Common.{◌≡◌, ℕ, zero, suc, ◌+◌, ◌≤◌, Bool, true, false, not, List, [], ◌∷◌, ◌++◌, sym, ap, ◌∙◌, subst, arith, refl, Option, None, Some, inl, inr, ◌↔◌}
-use Rattle.std.specs.Prelude.{All, Contains, count_by, MatchOption, IsTrue}
+use Rattle.std.proofs.Common.{◌≡◌, ℕ, zero, suc, ◌+◌, ◌≤◌, Bool, true, false, List, [], ◌∷◌, ◌++◌, sym, ap, ◌∙◌, subst, arith, refl, Option, None, Some}
+use Rattle.std.specs.Prelude.{All, Contains, count_by, MatchOption}
 use Rattle.std.specs.Borrow.{Bor}
 use Rattle.std.proofs.lemmas.List.Elements.{Contains-append_left, Contains-append_right, All-append}
 use Rattle.std.proofs.lemmas.List.{append_assoc, append-nil}
 use Rattle.wire_words.specs.Choices.{Choice, Flag, Most, Config, is_flag, is_most, is_config, choice_words, choices_words, IsGood, IsFlagWord, AreOnce, AreChoices}
-use Rattle.wire_words.specs.Settings.{chosen, IsFlag, Tells}
+use Rattle.wire_words.specs.Settings.{IsFlag, Tells}
 use Rattle.wire_words.specs.declared.settings.Taken.{Taken}
-use Rattle.wire_words.proofs.Counts.{count_append, counted}
+use Rattle.wire_words.proofs.Counts.{count_append}
 use Rattle.wire_words.proofs.Options.{words_append, same_first, some_words, Follows, follows}
 
 -- what is kept of an option that has a value

@@ -1,5 +1,5 @@
 -- What is known of the options that were read so far.
-use Rattle.std.specs.Prelude.{◌≡◌, ℕ, List, [], ◌∷◌, ◌++◌, ⊤, codes, count_by, Bool, true, false, Contains, MatchOption}
+use Rattle.std.specs.Prelude.{◌≡◌, ℕ, List, codes, count_by, Bool, true, false, Contains, MatchOption}
 use Rattle.std.specs.Fmt.{decimal}
 use Rattle.wire_words.specs.Choices.{Choice, Flag, Most, Config, is_flag, is_most, is_config}
 use Rattle.wire_words.specs.declared.settings.Setting.{Setting}

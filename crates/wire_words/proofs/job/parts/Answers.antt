@@ -1,4 +1,4 @@
-use Rattle.std.proofs.Common.{◌≡◌, string_bytes, sym, ◌∙◌}
+use Rattle.std.proofs.Common.{string_bytes, sym, ◌∙◌}
 use Rattle.wire_words.proofs.Parts.{same_text, un_not, in_parts}
 use Rattle.wire_words.proofs.job.parts.Goals as goal
 

@@ -1,4 +1,4 @@
-use Rattle.std.proofs.Common.{◌≡◌, ◌∷◌, [], List, ℕ, Bool, true, false, not, codes, sym, ap, ◌∙◌, map, string_bytes}
+use Rattle.std.proofs.Common.{◌≡◌, ◌∷◌, [], List, ℕ, codes, sym, ap, ◌∙◌, map, string_bytes}
 use Rattle.wire_words.specs.Words.{lang_word}
 use Rattle.wire_words.proofs.Parts.{three, same_text, un_not}
 use Rattle.wire_words.proofs.language.match_words.Goals as goal

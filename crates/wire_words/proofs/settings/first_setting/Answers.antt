@@ -1,4 +1,4 @@
-use Rattle.std.proofs.Common.{◌≡◌, ◌≢◌, ℕ, Bool, true, false, eqb, List, [], ◌∷◌, length, map, string_bytes, sym, ap, ◌∙◌, refl}
+use Rattle.std.proofs.Common.{◌≡◌, ℕ, Bool, false, eqb, List, ◌∷◌, map, string_bytes, ap, ◌∙◌}
 use lib.Pointwise.{pointwise}
 use Rattle.wire_words.proofs.Parts.{if_none, lone, empty_of, same_reads}
 use Rattle.wire_words.proofs.settings.first_setting.Goals as goal

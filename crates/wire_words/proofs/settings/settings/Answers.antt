@@ -1,4 +1,4 @@
-use Rattle.std.proofs.Common.{◌≡◌, List, [], ◌∷◌, ◌++◌, map, string_bytes, length, arith, refl, subst, String, Global}
+use Rattle.std.proofs.Common.{List, [], map, string_bytes, arith, refl, subst, String, Global}
 use Rattle.wire_words.specs.Settings.{chosen}
 use Rattle.wire_words.proofs.Parts.{if_none, empty_of, no_words, not_empty, at_none}
 use Rattle.wire_words.proofs.Sets.{SoFar, further, at_end, none_begins, none_twice}

@@ -1,5 +1,5 @@
-use Rattle.std.proofs.Common.{◌≡◌, Bool, true, false, not, Option, None, Some, sym, ap, ◌∙◌, refl, is_some}
-use Rattle.wire_words.specs.Choices.{Choice, Flag, Most, Config}
+use Rattle.std.proofs.Common.{◌≡◌, true, not, Option, None, Some, ap, refl, is_some}
+use Rattle.wire_words.specs.Choices.{Flag, Most, Config}
 use Rattle.wire_words.specs.Settings.{chosen}
 use Rattle.wire_words.proofs.Sets.{with_flag, with_most, with_config}
 use Rattle.wire_words.proofs.settings.with.Goals as goal
