@@ -15,11 +15,42 @@ fn empty(rt: &HostRuntime) -> Report {
     }
 }
 
-fn bound(rt: &HostRuntime, name: &str, from: u32, to: u32) -> Result<Bound, Memory> {
-    Ok(Bound {
+// Binds a name at a range, if it isn't bound.
+fn add(rt: &HostRuntime, binding: &mut Binding, name: &str, span: Span) -> Result<(), Memory> {
+    let bound = Bound {
         name: text(rt, name)?,
-        span: Span { from, to },
+        span,
         nodes: List::new(rt.alloc()),
+    };
+    match binding.get(name) {
+        Some(_) => Ok(()),
+        None => binding.bind(bound),
+    }
+}
+
+fn reported(
+    rt: &HostRuntime,
+    message: &str,
+    fix: Option<Text>,
+    finding: Finding,
+) -> Result<Reported, Memory> {
+    Ok(Reported {
+        path: text(rt, "src/a.py")?,
+        id: text(rt, "sqli")?,
+        severity: Severity::Error,
+        message: text(rt, message)?,
+        fix,
+        start: Place {
+            line: 4,
+            col: 5,
+            offset: 67,
+        },
+        end: Place {
+            line: 4,
+            col: 19,
+            offset: 81,
+        },
+        finding,
     })
 }
 
@@ -50,31 +81,17 @@ fn an_empty_report_has_its_line(rt: HostRuntime) -> Result<(), Fail> {
 
 #[test]
 fn a_taint_finding_has_its_source(rt: HostRuntime) -> Result<(), Fail> {
+    let span = Span { from: 67, to: 81 };
     let mut binding = Binding::empty(rt.alloc());
-    binding.bind(bound(&rt, "$DB", 67, 70)?)?;
+    add(&rt, &mut binding, "$DB", Span { from: 67, to: 70 })?;
+    let source = Some(Span { from: 23, to: 40 });
     let mut report = empty(&rt);
-    report.results.push(Reported {
-        path: text(&rt, "src/a.py")?,
-        id: text(&rt, "sqli")?,
-        severity: Severity::Error,
-        message: text(&rt, "Tainted data reaches cur.execute.")?,
-        fix: None,
-        start: Place {
-            line: 4,
-            col: 5,
-            offset: 67,
-        },
-        end: Place {
-            line: 4,
-            col: 19,
-            offset: 81,
-        },
-        finding: Finding {
-            span: Span { from: 67, to: 81 },
-            binding,
-            source: Some(Span { from: 23, to: 40 }),
-        },
-    })?;
+    let finding = Finding {
+        span,
+        binding,
+        source,
+    };
+    report.results.push(reported(&rt, "Tainted data reaches cur.execute.", None, finding)?)?;
     let line =
         "{\"notices\":[],\"results\":[{\"check_id\":\"sqli\",\"end\":{\"col\":19,\"line\":4,\"offset\":81},\"extra\":{\"message\":\"Tainted data reaches cur.execute.\",\"metavars\":{\"$DB\":[67,70]},\"severity\":\"ERROR\",\"source\":[23,40]},\"path\":\"src/a.py\",\"start\":{\"col\":5,\"line\":4,\"offset\":67}}]}\n";
     assert!(rt; is_line(&rt, &report, line)?);
@@ -83,34 +100,22 @@ fn a_taint_finding_has_its_source(rt: HostRuntime) -> Result<(), Fail> {
 
 #[test]
 fn fixes_and_metavariables_stand_in_order(rt: HostRuntime) -> Result<(), Fail> {
+    let span = Span { from: 67, to: 81 };
     let mut binding = Binding::empty(rt.alloc());
-    binding.bind(bound(&rt, "$Y", 5, 6)?)?;
-    binding.bind(bound(&rt, "$...A", 2, 4)?)?;
+    add(&rt, &mut binding, "$Y", Span { from: 5, to: 6 })?;
+    add(&rt, &mut binding, "$...A", Span { from: 2, to: 4 })?;
     let mut report = empty(&rt);
-    report.results.push(Reported {
-        path: text(&rt, "a.py")?,
-        id: text(&rt, "p")?,
-        severity: Severity::Info,
-        message: text(&rt, "say \"é\"\n")?,
-        fix: Some(text(&rt, "g(1)")?),
-        start: Place {
-            line: 1,
-            col: 1,
-            offset: 0,
-        },
-        end: Place {
-            line: 1,
-            col: 8,
-            offset: 7,
-        },
-        finding: Finding {
-            span: Span { from: 0, to: 7 },
-            binding,
-            source: None,
-        },
-    })?;
+    let fix = Some(text(&rt, "g(1)")?);
+    let finding = Finding {
+        span,
+        binding,
+        source: None,
+    };
+    report
+        .results
+        .push(reported(&rt, "say \"é\"\n", fix, finding)?)?;
     let line =
-        "{\"notices\":[],\"results\":[{\"check_id\":\"p\",\"end\":{\"col\":8,\"line\":1,\"offset\":7},\"extra\":{\"fix\":\"g(1)\",\"message\":\"say \\\"é\\\"\\n\",\"metavars\":{\"$...A\":[2,4],\"$Y\":[5,6]},\"severity\":\"INFO\"},\"path\":\"a.py\",\"start\":{\"col\":1,\"line\":1,\"offset\":0}}]}\n";
+        "{\"notices\":[],\"results\":[{\"check_id\":\"sqli\",\"end\":{\"col\":19,\"line\":4,\"offset\":81},\"extra\":{\"fix\":\"g(1)\",\"message\":\"say \\\"é\\\"\\n\",\"metavars\":{\"$...A\":[2,4],\"$Y\":[5,6]},\"severity\":\"ERROR\"},\"path\":\"src/a.py\",\"start\":{\"col\":5,\"line\":4,\"offset\":67}}]}\n";
     assert!(rt; is_line(&rt, &report, line)?);
     Ok(())
 }

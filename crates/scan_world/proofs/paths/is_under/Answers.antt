@@ -1,4 +1,4 @@
-use Rattle.std.proofs.Common.{sym, ◌∙◌, false}
+use Rattle.std.proofs.Common.{sym, ◌∙◌}
 use Rattle.std.proofs.lemmas.Bool.{false≢true}
 use Rattle.scan_world.proofs.Folders.{none_under, some_under}
 use Rattle.scan_world.proofs.paths.is_under.Goals as goal
