@@ -96,7 +96,7 @@ def modules():
 
 def functions():
     """Functions one behind the other."""
-    one = 'def f%d(a, b=1):\n    if a:\n        return g(a, b)\n    for x in b:\n        f(x)\n    return None\n\n'
+    one = 'def f%d(a, b=1):\n    if a:\n        return f(a, b)\n    for x in b:\n        h(x)\n    return None\n\n'
     parts, size = [], 0
     while size < SIZE - 200:
         parts.append(one % len(parts))
