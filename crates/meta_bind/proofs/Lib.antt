@@ -3,3 +3,4 @@ pub mod Places
 pub mod Names
 pub mod BindingOrder
 pub mod Chains
+pub mod Joins

@@ -6,11 +6,14 @@
 
 mod binding;
 mod bound;
+mod finding;
+mod join;
 mod name;
 mod trail;
 
 pub use binding::Binding;
 pub use bound::Bound;
+pub use finding::Finding;
 pub use trail::{Held, Trail};
 
 #[cfg(test)]
