@@ -1,6 +1,6 @@
 -- The names of two bindings, joined by a walk along both.
-use Rattle.std.proofs.Common.{◌≡◌, ℕ, suc, ◌+◌, ◌<◌, ◌≤◌, ◌⊎◌, inl, inr, List, [], ◌∷◌, ◌++◌, length, take, drop, get_or, map, refl, sym, ap, ◌∙◌, subst, Bool, true, false, cond, append_assoc}
-use Rattle.std.proofs.lemmas.List.{drop_all}
+use Rattle.std.proofs.Common.{◌≡◌, ℕ, suc, ◌+◌, ◌-◌, ◌<◌, ◌≤◌, ◌⊎◌, inl, inr, List, [], ◌∷◌, ◌++◌, length, take, drop, get_or, map, refl, sym, ap, ◌∙◌, subst, Bool, true, false, cond, append_assoc, length-drop, arith}
+use Rattle.std.proofs.lemmas.List.{drop_all, take_all}
 use Rattle.std.specs.declared.cmp.Ordering.{Ordering}
 use Rattle.std.specs.declared.cmp.Ordering.TheVariants.{Less, Equal, Greater}
 use Rattle.std.specs.Ordering.{is_lt, is_eq, nat_cmp, ordering_reverse}
@@ -52,6 +52,9 @@ kept_is keep b c e = at (kept_name keep b c)
     at : ((kept keep b c).name ≡ b.name) ⊎ ((kept keep b c).name ≡ c.name) → (kept keep b c).name ≡ c.name
     at (inl h) = h ∙ e
     at (inr h) = h
+
+pub slice_rest : {X : Type 0} (xs : List X) (n : ℕ) → take (length xs - n) (drop n xs) ≡ drop n xs
+slice_rest xs n = take_all (length xs - n) (drop n xs) (omega (arith, length-drop n xs))
 
 module _ (keep : Keep) where
   pub with_first : (b : Bound) (ds : List Bound) → IsBelow b.name ds → with_kept keep b ds ≡ b ∷ ds

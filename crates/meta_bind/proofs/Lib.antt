@@ -4,3 +4,4 @@ pub mod Names
 pub mod BindingOrder
 pub mod Chains
 pub mod Joins
+pub mod Fillings

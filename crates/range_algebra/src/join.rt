@@ -1,0 +1,127 @@
+//! One operand more to a choice.
+
+use crate::operand::Operand;
+use crate::order::add;
+use crate::range::{is_equal, meet};
+use crate::scene::{MOST, Member};
+use crate::state::State;
+use meta_bind::Trail;
+use node_tree::{List, Memory, Span};
+use std::alloc::Global;
+
+/// Whether an operand is plain, or one in which the range lies.
+#[derive(Clone, Copy, Debug, PartialEq, Eq)]
+pub enum Role {
+    Plain,
+    Inside,
+}
+
+// Whether a member of the operands has that range.
+fn has_range(operands: &[Operand<'_, '_>], range: Span) -> bool {
+    for operand in operands {
+        for member in operand.members {
+            if is_equal(member.0, range) {
+                return true;
+            }
+        }
+    }
+    false
+}
+
+// Whether a state can still lead to a range: it has a byte, or it is empty and is a chosen plain range or one of those to come.
+fn is_needed(state: &State<'_>, later: &[Operand<'_, '_>]) -> bool {
+    if state.has_bytes() {
+        return true;
+    }
+    state.range.from == state.range.to && (state.marked || has_range(later, state.range))
+}
+
+// The state with one member more.
+fn joined<'t>(role: Role, state: &State<'t>, member: &Member<'t>) -> Result<State<'t>, Memory> {
+    let range = meet(state.range, member.0);
+    let same = state.marked && is_equal(range, state.range);
+    match role {
+        Role::Plain => Ok(State {
+            range,
+            marked: same || is_equal(range, member.0),
+            plain: state.plain.merge(&member.1)?,
+            inside: state.inside.copy()?,
+        }),
+        Role::Inside => Ok(State {
+            range,
+            marked: same,
+            plain: state.plain.copy()?,
+            inside: state.inside.merge(&member.1)?,
+        }),
+    }
+}
+
+/// The states with no other operand before this plain one.
+pub fn begin<'t>(
+    alloc: Global,
+    members: &[Member<'t>],
+    later: &[Operand<'_, 't>],
+) -> Result<List<State<'t>>, Memory> {
+    let mut states = List::new(alloc);
+    for (range, trail) in members {
+        let state = State {
+            range: *range,
+            marked: true,
+            plain: trail.copy()?,
+            inside: Trail::new(alloc),
+        };
+        if is_needed(&state, later) {
+            add(&mut states, state)?;
+        }
+    }
+    Ok(states)
+}
+
+/// How many states have a byte in their range.
+pub fn count(states: &[State<'_>]) -> usize {
+    let mut many = 0;
+    for state in states {
+        if state.has_bytes() {
+            many += 1;
+        }
+    }
+    many
+}
+
+// Adds the states that one state and the members of the operand give.
+fn add_joined<'t>(
+    role: Role,
+    state: &State<'t>,
+    members: &[Member<'t>],
+    later: &[Operand<'_, 't>],
+    states: &mut List<State<'t>>,
+) -> Result<(), Memory> {
+    for member in members {
+        let range = meet(state.range, member.0);
+        if range.from <= range.to && state.agrees(&member.1) {
+            let state = joined(role, state, member)?;
+            if is_needed(&state, later) {
+                add(states, state)?;
+            }
+        }
+    }
+    Ok(())
+}
+
+/// The states with one operand more. It stops once more than 10,000 of them have a byte in their range.
+pub fn join<'t>(
+    alloc: Global,
+    role: Role,
+    before: &[State<'t>],
+    members: &[Member<'t>],
+    later: &[Operand<'_, 't>],
+) -> Result<List<State<'t>>, Memory> {
+    let mut states = List::new(alloc);
+    for state in before {
+        add_joined(role, state, members, later, &mut states)?;
+        if states.len() > MOST && count(states.as_slice()) > MOST {
+            return Ok(states);
+        }
+    }
+    Ok(states)
+}

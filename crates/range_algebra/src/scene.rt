@@ -1,0 +1,18 @@
+//! What a formula is looked at in.
+
+use meta_bind::Trail;
+use node_tree::{FileView, List, Span};
+use tree_match::Leaf;
+
+/// A file, and the members of each pattern in it.
+#[derive(Clone, Copy)]
+pub struct Scene<'t> {
+    pub view: &'t FileView,
+    pub leaves: &'t List<Leaf>,
+}
+
+/// A range and what the metavariables stand for there.
+pub type Member<'t> = (Span, Trail<'t>);
+
+/// The most members of a set.
+pub const MOST: usize = 10000;
