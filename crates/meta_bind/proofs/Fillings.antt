@@ -44,7 +44,12 @@ named_none m = at (eqb m 0)
     at false = refl
 
 named_some : (m w : ℕ) → named (suc m) (suc w) ≡ suc m + suc w
-named_some m w = refl
+named_some m w = at (eqb (suc m) 0) refl (eqb (suc w) 0) refl
+  where
+    at : (s : Bool) → eqb (suc m) 0 ≡ s → (t : Bool) → eqb (suc w) 0 ≡ t → cond (s || t) 0 (suc m + suc w) ≡ suc m + suc w
+    at true e t f = absurd (let h : suc m ≡ 0 = grind (arith, nat_tests) in omega (arith, h))
+    at false e true f = absurd (let h : suc w ≡ 0 = grind (arith, nat_tests) in omega (arith, h))
+    at false e false f = refl
 
 -- a name's mark and word, of which it is made
 named_parts : (m w n : ℕ) → named m w ≡ suc n → (m + w ≡ suc n) × (0 < w)
@@ -84,14 +89,11 @@ name_last t n e =
 -- no name begins with another byte than `$`
 no_name : (c : ℕ) (cs : List ℕ) → (c ≡ 36 → ⊥) → name_size (c ∷ cs) ≡ 0
 unfolding name_size
-no_name c cs other = ap (λ m. named m (word_size (drop m (c ∷ cs)))) mark
+no_name c cs other = let mark : mark_size (c ∷ cs) ≡ 0 = at (eqb c 36) refl _ in ap (λ m. named m (word_size (drop m (c ∷ cs)))) mark
   where
-    at : (t : Bool) → eqb c 36 ≡ t → mark_size (c ∷ cs) ≡ 0
-    at true e = absurd (other (grind (arith, nat_tests)))
-    at false e = ap (λ (t : Bool). cond t _ 0) e
-
-    mark : mark_size (c ∷ cs) ≡ 0
-    mark = at (eqb c 36) refl
+    at : (t : Bool) → eqb c 36 ≡ t → (u : ℕ) → cond t u 0 ≡ 0
+    at true e u = absurd (other (grind (arith, nat_tests)))
+    at false e u = refl
 
 module _ (binding : List Bound) (bytes : List ℕ) where
   abbrev behind : ℕ → List ℕ → List ℕ

@@ -153,12 +153,7 @@ fn fill_next(
 
 /// The text with each metavariable replaced by the bytes that it is bound to. At each `$` the longest `$NAME` or `$...NAME`
 /// is read; a name that isn't bound stays as it is written.
-pub fn fill(
-    alloc: Global,
-    template: &str,
-    binding: &Binding,
-    bytes: &[u8],
-) -> Result<Text, Memory>
+pub fn fill(alloc: Global, template: &str, binding: &Binding, bytes: &[u8]) -> Result<Text, Memory>
     requires utf8 { ∥ IsUtf8 bytes.now ∥₁ }
     requires placed { All (λ (b : bound). LiesIn bytes.now b.span) binding.now }
     ensures { IfOk result (λ text. text ≡ spec.filled binding.now bytes.now template.now) }

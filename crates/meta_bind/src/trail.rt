@@ -160,7 +160,12 @@ impl<'t> Trail<'t> {
     pub fn merge(&self, other: &Trail<'t>) -> Result<Trail<'t>, Memory>
         ensures { IfOk result (λ t. t ≡ merged self.now other.now) }
     {
-        let held = join(*self.held.allocator(), Keep::Later, self.held.as_slice(), other.held.as_slice())?;
+        let held = join(
+            *self.held.allocator(),
+            Keep::Later,
+            self.held.as_slice(),
+            other.held.as_slice(),
+        )?;
         Ok(Trail { held })
     }
 
@@ -168,7 +173,12 @@ impl<'t> Trail<'t> {
     pub fn extend(&self, other: &Trail<'t>) -> Result<Trail<'t>, Memory>
         ensures { IfOk result (λ t. t ≡ extended self.now other.now) }
     {
-        let held = join(*self.held.allocator(), Keep::First, self.held.as_slice(), other.held.as_slice())?;
+        let held = join(
+            *self.held.allocator(),
+            Keep::First,
+            self.held.as_slice(),
+            other.held.as_slice(),
+        )?;
         Ok(Trail { held })
     }
 

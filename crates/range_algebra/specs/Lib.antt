@@ -1,4 +1,6 @@
 pub mod Ranges
-pub mod Choices
-pub mod Formulas
 pub mod Sizes
+pub mod Trees
+pub mod Choices
+pub mod Meets
+pub mod Crowds

@@ -25,7 +25,8 @@ pub fn eval(
     formula: &Formula,
     leaves: &List<Leaf>,
 ) -> Result<MatchSet, EvalFault> {
-    match members_of(alloc, Scene { view, leaves }, formula) {
+    let bytes = view.bytes.as_slice();
+    match members_of(alloc, Scene { bytes, leaves }, formula) {
         Ok(members) => Ok(keep_all(alloc, members.as_slice())?),
         Err(EvalFault::Memory) => Err(EvalFault::Memory),
         Err(EvalFault::Crowded(mut numbers)) => {

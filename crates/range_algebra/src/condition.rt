@@ -67,7 +67,7 @@ fn allows_bare<'t>(
             Child::MetaRegex(_, _) => false,
             Child::MetaPattern(_, _) => false,
             Child::MetaCompare(comparison) => {
-                holds_comparison(comparison, &empty.keep()?, scene.view.bytes.as_slice())
+                holds_comparison(comparison, &empty.keep()?, scene.bytes)
             }
             _ => true,
         };
@@ -109,7 +109,7 @@ pub fn allows<'t>(
         Child::NotInside(_) => Ok(!has_around(only(sets), range, trail)),
         Child::MetaRegex(_, _) => Ok(false),
         Child::MetaCompare(comparison) => {
-            Ok(holds_comparison(comparison, &trail.keep()?, scene.view.bytes.as_slice()))
+            Ok(holds_comparison(comparison, &trail.keep()?, scene.bytes))
         }
         Child::MetaPattern(name, formula) => match trail.get(name.as_str()) {
             None => Ok(false),

@@ -1,13 +1,13 @@
 //! What a formula is looked at in.
 
 use meta_bind::Trail;
-use node_tree::{FileView, List, Span};
+use node_tree::{List, Span};
 use tree_match::Leaf;
 
 /// A file, and the members of each pattern in it.
 #[derive(Clone, Copy)]
 pub struct Scene<'t> {
-    pub view: &'t FileView,
+    pub bytes: &'t [u8],
     pub leaves: &'t List<Leaf>,
 }
 

@@ -8,7 +8,7 @@ use Rattle.meta_bind.proofs.join.join.Goals.{then-loop-at-test+else-at-b, else-l
 pub returns : goal.returns
 returns c =
     let end : (length c.args.a.now ≤ c.loop-at.at.0) ⊎ (length c.args.b.now ≤ c.loop-at.at.1) =
-      elim c.loop-at-test.branch [ then-loop-at-test+else-at-b w ↦ inr w.if-at-b.false | else-loop-at-test w ↦ inl w.loop-at-test.false ] in
+    elim c.loop-at-test.branch [ then-loop-at-test+else-at-b w ↦ inr w.if-at-b.false | else-loop-at-test w ↦ inl w.loop-at-test.false ] in
     all_done c.args.keep seen_held c.args.a.now c.args.b.now c.loop-at.out.items c.extend_from_slice.new.self.items c.extend_from_slice-2.new.self.items c.loop-at.at.0 c.loop-at.at.1 _ end c.loop-at.invariant.first_ascends c.loop-at.invariant.joins
     (c.in_ok-extend_from_slice.ensures.items ∙ ap (λ (xs : List Held). c.loop-at.out.items ++ xs) (slice_rest c.args.a.now c.loop-at.at.0))
     (c.in_ok-extend_from_slice-2.ensures.items ∙ ap (λ (xs : List Held). c.extend_from_slice.new.self.items ++ xs) (slice_rest c.args.b.now c.loop-at.at.1))

@@ -13,9 +13,10 @@ returns-in_ok-push-in-Less-clause-joins c =
     c.args.out.now.items c.push.new.self.items (sym c.cmp.ensures ∙ c.in-Less.is) c.in_ok-push-in-Less.ensures.items
 
 pub returns-in_ok-push-in-Equal-clause-ascend : goal.returns-in_ok-push-in-Equal-clause-ascend
-returns-in_ok-push-in-Equal-clause-ascend c =
-    (rest_first c.args.keep seen_held c.args.a.now c.args.b.now c.args.at.0 c.args.at.1 c.index-a-i.result c.index-b-j.result c.requires.first c.requires.second c.index-a-i.is c.index-b-j.is c.requires.first_ascends,
-      rest_second c.args.keep seen_held c.args.a.now c.args.b.now c.args.at.0 c.args.at.1 c.index-a-i.result c.index-b-j.result c.requires.first c.requires.second c.index-a-i.is c.index-b-j.is c.requires.second_ascends)
+returns-in_ok-push-in-Equal-clause-ascend c = (
+  rest_first c.args.keep seen_held c.args.a.now c.args.b.now c.args.at.0 c.args.at.1 c.index-a-i.result c.index-b-j.result c.requires.first c.requires.second c.index-a-i.is c.index-b-j.is c.requires.first_ascends,
+  rest_second c.args.keep seen_held c.args.a.now c.args.b.now c.args.at.0 c.args.at.1 c.index-a-i.result c.index-b-j.result c.requires.first c.requires.second c.index-a-i.is c.index-b-j.is c.requires.second_ascends,
+)
 
 pub returns-in_ok-push-in-Equal-clause-joins : goal.returns-in_ok-push-in-Equal-clause-joins
 returns-in_ok-push-in-Equal-clause-joins c =

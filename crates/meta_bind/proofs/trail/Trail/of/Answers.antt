@@ -8,5 +8,5 @@ pub invariant_of-result : goal.invariant_of-result
 invariant_of-result c =
     let P : List Bound → Type 0 = NamesAscend in
     let e : map seen_held c.loop-bound.held.items ≡ c.args.binding.now =
-      c.loop-bound.invariant ∙ ap (map seen) (take_all c.loop-bound.bound-index c.bounds-bound-items.result.now c.loop-bound-test.false) ∙ c.bounds-bound-items.ensures.bounds in
+    c.loop-bound.invariant ∙ ap (map seen) (take_all c.loop-bound.bound-index c.bounds-bound-items.result.now c.loop-bound-test.false) ∙ c.bounds-bound-items.ensures.bounds in
     subst P (sym e) c.bounds-bound-items.ensures.ordered
