@@ -4,9 +4,9 @@ use crate::choice::choices;
 use crate::condition::{allows, has_focus};
 use crate::evaluate::limited;
 use crate::fault::EvalFault;
-use crate::order::add;
-use crate::scene::{Member, Scene};
-use node_tree::{List, Memory};
+use crate::order::settled;
+use crate::scene::{Member, ROOM, Scene};
+use node_tree::Memory;
 use rule_form::Child;
 use std::alloc::Global;
 
@@ -15,7 +15,7 @@ fn is_allowed<'t>(
     alloc: Global,
     scene: Scene<'t>,
     children: &[Child],
-    parts: &[List<List<Member<'t>>>],
+    parts: &[Vec<Vec<Member<'t>>>],
     one: &Member<'t>,
 ) -> Result<bool, Memory> {
     for (i, child) in children.iter().enumerate() {
@@ -30,11 +30,11 @@ fn is_allowed<'t>(
 fn add_at<'t>(
     name: &str,
     one: &Member<'t>,
-    members: &mut List<Member<'t>>,
+    members: &mut Vec<Member<'t>>,
 ) -> Result<(), Memory> {
     if let Some(held) = one.1.get(name) {
         if held.span.from < held.span.to {
-            add(members, (held.span, one.1.copy()?))?;
+            members.push((held.span, one.1.copy()?))?;
         }
     }
     Ok(())
@@ -44,7 +44,7 @@ fn add_at<'t>(
 fn add_focused<'t>(
     child: &Child,
     one: &Member<'t>,
-    members: &mut List<Member<'t>>,
+    members: &mut Vec<Member<'t>>,
 ) -> Result<(), Memory> {
     if let Child::Focus(names) = child {
         for name in names.as_slice() {
@@ -58,10 +58,11 @@ fn add_focused<'t>(
 fn add_shown<'t>(
     children: &[Child],
     one: &Member<'t>,
-    members: &mut List<Member<'t>>,
+    members: &mut Vec<Member<'t>>,
 ) -> Result<(), Memory> {
     if !has_focus(children) {
-        return add(members, (one.0, one.1.copy()?));
+        members.push((one.0, one.1.copy()?))?;
+        return Ok(());
     }
     for child in children {
         add_focused(child, one, members)?;
@@ -74,14 +75,17 @@ pub fn all_members<'t>(
     alloc: Global,
     scene: Scene<'t>,
     children: &[Child],
-    parts: &[List<List<Member<'t>>>],
-) -> Result<List<Member<'t>>, EvalFault> {
+    parts: &[Vec<Vec<Member<'t>>>],
+) -> Result<Vec<Member<'t>>, EvalFault> {
     let chosen = choices(alloc, children, parts)?;
-    let mut members = List::new(alloc);
+    let mut members = Vec::new(alloc);
     for one in chosen.as_slice() {
         if is_allowed(alloc, scene, children, parts, one)? {
             add_shown(children, one, &mut members)?;
+            if members.len() > ROOM {
+                members = limited(alloc, settled(alloc, members)?)?;
+            }
         }
     }
-    limited(alloc, members)
+    limited(alloc, settled(alloc, members)?)
 }

@@ -4,19 +4,18 @@ use crate::evaluate::crowded;
 use crate::fault::EvalFault;
 use crate::join::{Role, begin, count, join};
 use crate::operand::{Operand, operands};
-use crate::order::add;
+use crate::order::settled;
 use crate::scene::{MOST, Member};
 use crate::state::State;
-use node_tree::List;
 use rule_form::Child;
 use std::alloc::Global;
 
 // The states, unless more than 10,000 of them have a byte in their range.
 fn few<'t>(
     alloc: Global,
-    states: List<State<'t>>,
+    states: Vec<State<'t>>,
     number: usize,
-) -> Result<List<State<'t>>, EvalFault> {
+) -> Result<Vec<State<'t>>, EvalFault> {
     if count(states.as_slice()) > MOST {
         return crowded(alloc, Some(number));
     }
@@ -28,9 +27,9 @@ fn states_of<'t>(
     alloc: Global,
     plains: &[Operand<'_, 't>],
     insides: &[Operand<'_, 't>],
-) -> Result<List<State<'t>>, EvalFault> {
+) -> Result<Vec<State<'t>>, EvalFault> {
     let [first, rest @ ..] = plains else {
-        return Ok(List::new(alloc));
+        return Ok(Vec::new(alloc));
     };
     let mut states = few(alloc, begin(alloc, first.members, rest)?, first.number)?;
     for (i, operand) in rest.iter().enumerate() {
@@ -49,8 +48,8 @@ fn states_of<'t>(
 pub fn choices<'t>(
     alloc: Global,
     children: &[Child],
-    parts: &[List<List<Member<'t>>>],
-) -> Result<List<Member<'t>>, EvalFault> {
+    parts: &[Vec<Vec<Member<'t>>>],
+) -> Result<Vec<Member<'t>>, EvalFault> {
     let plains = operands(alloc, children, parts, true)?;
     let insides = operands(alloc, children, parts, false)?;
     let states = if plains.is_empty() {
@@ -58,11 +57,11 @@ pub fn choices<'t>(
     } else {
         states_of(alloc, plains.as_slice(), insides.as_slice())?
     };
-    let mut members = List::new(alloc);
+    let mut members = Vec::new(alloc);
     for state in states.as_slice() {
         if state.marked {
-            add(&mut members, (state.range, state.plain.extend(&state.inside)?))?;
+            members.push((state.range, state.plain.extend(&state.inside)?))?;
         }
     }
-    Ok(members)
+    Ok(settled(alloc, members)?)
 }

@@ -5,7 +5,7 @@ use crate::range::{is_equal, lies_in};
 use crate::scene::{Member, Scene};
 use meta_bind::{Held, Trail};
 use meta_filter::holds_comparison;
-use node_tree::{List, Memory, Span};
+use node_tree::{Memory, Span};
 use rule_form::{Child, Formula};
 use std::alloc::Global;
 
@@ -30,7 +30,7 @@ fn has_around<'t>(members: &[Member<'t>], range: Span, trail: &Trail<'t>) -> boo
 }
 
 // The members of the only formula that a child holds.
-fn only<'s, 't>(sets: &'s [List<Member<'t>>]) -> &'s [Member<'t>] {
+fn only<'s, 't>(sets: &'s [Vec<Member<'t>>]) -> &'s [Member<'t>] {
     match sets {
         [] => &[],
         [first, ..] => first.as_slice(),
@@ -53,7 +53,7 @@ fn allows_bare<'t>(
     alloc: Global,
     scene: Scene<'t>,
     children: &[Child],
-    sets: &[List<Member<'t>>],
+    sets: &[Vec<Member<'t>>],
     range: Span,
 ) -> Result<bool, Memory> {
     if has_focus(children) {
@@ -83,7 +83,7 @@ fn matches<'t>(
     alloc: Global,
     scene: Scene<'t>,
     formula: &Formula,
-    sets: &[List<Member<'t>>],
+    sets: &[Vec<Member<'t>>],
     held: Held<'t>,
     trail: &Trail<'t>,
 ) -> Result<bool, Memory> {
@@ -100,7 +100,7 @@ pub fn allows<'t>(
     alloc: Global,
     scene: Scene<'t>,
     child: &Child,
-    sets: &[List<Member<'t>>],
+    sets: &[Vec<Member<'t>>],
     range: Span,
     trail: &Trail<'t>,
 ) -> Result<bool, Memory> {

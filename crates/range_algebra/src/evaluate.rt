@@ -4,8 +4,8 @@ use crate::all::all_members;
 use crate::fault::EvalFault;
 use crate::leaf::leaf_members;
 use crate::operand::is_bare;
-use crate::order::add;
-use crate::scene::{MOST, Member, Scene};
+use crate::order::settled;
+use crate::scene::{MOST, Member, ROOM, Scene};
 use node_tree::List;
 use rule_form::{Child, Formula};
 use std::alloc::Global;
@@ -22,8 +22,8 @@ pub fn crowded<T>(alloc: Global, number: Option<usize>) -> Result<T, EvalFault> 
 /// The members, unless there are more than 10,000.
 pub fn limited<'t>(
     alloc: Global,
-    members: List<Member<'t>>,
-) -> Result<List<Member<'t>>, EvalFault> {
+    members: Vec<Member<'t>>,
+) -> Result<Vec<Member<'t>>, EvalFault> {
     if members.len() > MOST {
         return crowded(alloc, None);
     }
@@ -45,18 +45,18 @@ fn inside<T: Drop>(number: usize, found: Result<T, EvalFault>) -> Result<T, Eval
 // The members of all the sets.
 fn union<'t>(
     alloc: Global,
-    sets: &[List<Member<'t>>],
-) -> Result<List<Member<'t>>, EvalFault> {
-    let mut members = List::new(alloc);
+    sets: &[Vec<Member<'t>>],
+) -> Result<Vec<Member<'t>>, EvalFault> {
+    let mut members = Vec::new(alloc);
     for set in sets {
         for (range, trail) in set.as_slice() {
-            add(&mut members, (*range, trail.copy()?))?;
-            if members.len() > MOST {
-                return crowded(alloc, None);
-            }
+            members.push((*range, trail.copy()?))?;
+        }
+        if members.len() > ROOM {
+            members = limited(alloc, settled(alloc, members)?)?;
         }
     }
-    Ok(members)
+    limited(alloc, settled(alloc, members)?)
 }
 
 /// The members of the formula in order, each once.
@@ -65,10 +65,10 @@ pub fn members_of<'t>(
     alloc: Global,
     scene: Scene<'t>,
     formula: &'t Formula,
-) -> Result<List<Member<'t>>, EvalFault> {
+) -> Result<Vec<Member<'t>>, EvalFault> {
     match formula {
         Formula::Leaf(number) => leaf_members(alloc, scene, *number),
-        Formula::Regex(_) => Ok(List::new(alloc)),
+        Formula::Regex(_) => Ok(Vec::new(alloc)),
         Formula::Any(formulas) => {
             let sets = members_of_each(alloc, scene, formulas.as_slice())?;
             union(alloc, sets.as_slice())
@@ -85,8 +85,8 @@ fn members_of_each<'t>(
     alloc: Global,
     scene: Scene<'t>,
     formulas: &'t [Formula],
-) -> Result<List<List<Member<'t>>>, EvalFault> {
-    let mut sets = List::new(alloc);
+) -> Result<Vec<Vec<Member<'t>>>, EvalFault> {
+    let mut sets = Vec::new(alloc);
     for (i, formula) in formulas.iter().enumerate() {
         sets.push(inside(i, members_of(alloc, scene, formula))?)?;
     }
@@ -99,8 +99,8 @@ fn parts_of_each<'t>(
     alloc: Global,
     scene: Scene<'t>,
     children: &'t [Child],
-) -> Result<List<List<List<Member<'t>>>>, EvalFault> {
-    let mut parts = List::new(alloc);
+) -> Result<Vec<Vec<Vec<Member<'t>>>>, EvalFault> {
+    let mut parts = Vec::new(alloc);
     for (i, child) in children.iter().enumerate() {
         parts.push(inside(i, parts_of(alloc, scene, child))?)?;
     }
@@ -112,8 +112,8 @@ fn parts_of<'t>(
     alloc: Global,
     scene: Scene<'t>,
     child: &'t Child,
-) -> Result<List<List<Member<'t>>>, EvalFault> {
-    let mut sets = List::new(alloc);
+) -> Result<Vec<Vec<Member<'t>>>, EvalFault> {
+    let mut sets = Vec::new(alloc);
     match child {
         Child::Positive(formula) => sets.push(members_of(alloc, scene, formula)?)?,
         Child::Inside(formula) => sets.push(members_of(alloc, scene, formula)?)?,
@@ -131,13 +131,13 @@ fn nested<'t>(
     alloc: Global,
     scene: Scene<'t>,
     formula: &'t Formula,
-) -> Result<List<List<Member<'t>>>, EvalFault> {
-    let mut sets = List::new(alloc);
+) -> Result<Vec<Vec<Member<'t>>>, EvalFault> {
+    let mut sets = Vec::new(alloc);
     if let Formula::All(children) = formula {
         if is_bare(children.as_slice()) {
             for (i, child) in children.as_slice().iter().enumerate() {
                 let mut found = inside(i, parts_of(alloc, scene, child))?;
-                sets.push(found.pop().unwrap_or(List::new(alloc)))?;
+                sets.push(found.pop().unwrap_or(Vec::new(alloc)))?;
             }
             return Ok(sets);
         }

@@ -1,7 +1,7 @@
 //! Why a formula has no set.
 
 use node_tree::{List, Memory};
-use std::alloc::AllocError;
+use std::alloc::{AllocError, AllocFailed};
 
 /// Why a formula has no set of members.
 #[derive(Drop)]
@@ -19,6 +19,12 @@ impl From<Memory> for EvalFault {
 
 impl From<AllocError> for EvalFault {
     fn from(_: AllocError) -> EvalFault {
+        EvalFault::Memory
+    }
+}
+
+impl<T: Drop> From<AllocFailed<T>> for EvalFault {
+    fn from(_: AllocFailed<T>) -> EvalFault {
         EvalFault::Memory
     }
 }

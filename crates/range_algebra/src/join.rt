@@ -1,12 +1,12 @@
 //! One operand more to a choice.
 
 use crate::operand::Operand;
-use crate::order::add;
+use crate::order::settled;
 use crate::range::{is_equal, meet};
-use crate::scene::{MOST, Member};
+use crate::scene::{MOST, Member, ROOM};
 use crate::state::State;
 use meta_bind::Trail;
-use node_tree::{List, Memory, Span};
+use node_tree::{Memory, Span};
 use std::alloc::Global;
 
 /// Whether an operand is plain, or one in which the range lies.
@@ -61,8 +61,8 @@ pub fn begin<'t>(
     alloc: Global,
     members: &[Member<'t>],
     later: &[Operand<'_, 't>],
-) -> Result<List<State<'t>>, Memory> {
-    let mut states = List::new(alloc);
+) -> Result<Vec<State<'t>>, Memory> {
+    let mut states = Vec::new(alloc);
     for (range, trail) in members {
         let state = State {
             range: *range,
@@ -71,10 +71,10 @@ pub fn begin<'t>(
             inside: Trail::new(alloc),
         };
         if is_needed(&state, later) {
-            add(&mut states, state)?;
+            states.push(state)?;
         }
     }
-    Ok(states)
+    settled(alloc, states)
 }
 
 /// How many states have a byte in their range.
@@ -94,14 +94,14 @@ fn add_joined<'t>(
     state: &State<'t>,
     members: &[Member<'t>],
     later: &[Operand<'_, 't>],
-    states: &mut List<State<'t>>,
+    states: &mut Vec<State<'t>>,
 ) -> Result<(), Memory> {
     for member in members {
         let range = meet(state.range, member.0);
         if range.from <= range.to && state.agrees(&member.1) {
             let state = joined(role, state, member)?;
             if is_needed(&state, later) {
-                add(states, state)?;
+                states.push(state)?;
             }
         }
     }
@@ -115,13 +115,16 @@ pub fn join<'t>(
     before: &[State<'t>],
     members: &[Member<'t>],
     later: &[Operand<'_, 't>],
-) -> Result<List<State<'t>>, Memory> {
-    let mut states = List::new(alloc);
+) -> Result<Vec<State<'t>>, Memory> {
+    let mut states = Vec::new(alloc);
     for state in before {
         add_joined(role, state, members, later, &mut states)?;
-        if states.len() > MOST && count(states.as_slice()) > MOST {
-            return Ok(states);
+        if states.len() > ROOM {
+            states = settled(alloc, states)?;
+            if count(states.as_slice()) > MOST {
+                return Ok(states);
+            }
         }
     }
-    Ok(states)
+    settled(alloc, states)
 }

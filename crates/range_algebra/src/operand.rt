@@ -1,7 +1,7 @@
 //! The operands of `All`.
 
 use crate::scene::Member;
-use node_tree::{List, Memory};
+use node_tree::Memory;
 use rule_form::Child;
 use std::alloc::Global;
 
@@ -42,10 +42,10 @@ pub fn is_bare(children: &[Child]) -> bool {
 pub fn operands<'s, 't>(
     alloc: Global,
     children: &[Child],
-    parts: &'s [List<List<Member<'t>>>],
+    parts: &'s [Vec<Vec<Member<'t>>>],
     plain: bool,
-) -> Result<List<Operand<'s, 't>>, Memory> {
-    let mut operands = List::new(alloc);
+) -> Result<Vec<Operand<'s, 't>>, Memory> {
+    let mut operands = Vec::new(alloc);
     for (number, child) in children.iter().enumerate() {
         let wanted = if plain { is_plain(child) } else { is_inside(child) };
         if wanted {

@@ -1,7 +1,8 @@
 //! Items in order, each once.
 
 use crate::scene::Member;
-use node_tree::{List, Memory};
+use node_tree::Memory;
+use std::alloc::Global;
 use std::cmp::Ordering;
 
 /// Items that stand in an order.
@@ -20,25 +21,29 @@ impl<'t> Ordered for Member<'t> {
     }
 }
 
-// Where the item belongs, if it isn't there yet.
-fn place_of<T: Ordered>(items: &[T], one: &T) -> Option<usize> {
-    let mut low = 0;
-    let mut high = items.len();
-    while low < high {
-        let middle = low + (high - low) / 2;
-        match one.order(&items[middle]) {
-            Ordering::Greater => low = middle + 1,
-            Ordering::Equal => return None,
-            Ordering::Less => high = middle,
-        }
+// Whether the last item is this one.
+fn is_last<T: Ordered>(items: &[T], one: &T) -> bool {
+    if items.is_empty() {
+        return false;
     }
-    Some(low)
+    items[items.len() - 1].order(one) == Ordering::Equal
 }
 
-/// Adds an item, where it is not there yet.
-pub fn add<T: Ordered + Drop>(items: &mut List<T>, one: T) -> Result<(), Memory> {
-    if let Some(at) = place_of(items.as_slice(), &one) {
-        items.insert(at, one)?;
+// Adds an item at the end, where it isn't the last one.
+fn add_last<T: Ordered + Drop>(items: &mut Vec<T>, one: T) -> Result<(), Memory> {
+    if is_last(items.as_slice(), &one) {
+        return Ok(());
     }
+    items.push(one)?;
     Ok(())
+}
+
+/// The items in order, each once.
+pub fn settled<T: Ordered + Drop>(alloc: Global, mut items: Vec<T>) -> Result<Vec<T>, Memory> {
+    items.sort_by(|a, b| a.order(b))?;
+    let mut out = Vec::new(alloc);
+    for item in items {
+        add_last(&mut out, item)?;
+    }
+    Ok(out)
 }

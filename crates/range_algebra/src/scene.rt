@@ -14,5 +14,8 @@ pub struct Scene<'t> {
 /// A range and what the metavariables stand for there.
 pub type Member<'t> = (Span, Trail<'t>);
 
+/// So many items are gathered before they are put in order.
+pub const ROOM: usize = 40000;
+
 /// The most members of a set.
 pub const MOST: usize = 10000;
