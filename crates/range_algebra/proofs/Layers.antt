@@ -61,3 +61,5 @@ tree_any fs = ap tree_of (sym (rolls-Any fs)) ∙ fold-roll-Formula Branch Tree 
 pub tree_all : (cs : List Child) → tree_of (formulas.All cs) ≡ all_of (branches_of (map branch_of cs))
 unfolding branch_of tree_of
 tree_all cs = ap tree_of (sym (rolls-All cs)) ∙ fold-roll-Formula Branch Tree branch_layer tree_layer (layers.All cs)
+
+pub ruleset branch_layers = (branch_positive, branch_inside, branch_not, branch_notinside, branch_notregex, branch_metaregex, branch_metacompare, branch_metapattern, branch_focus)

@@ -1,5 +1,9 @@
 //! What is taken away from the choices, and the conditions on what is bound.
 
+ghost use Rattle.std.specs.Prelude.{◌≡◌, ◌↔◌, [], map, IsTrue};
+ghost use Rattle.range_algebra.specs.Conditions.{HasEqual, HasAround};
+ghost use Rattle.range_algebra.specs.Trees.{branch_of, branches_of, has, is_focus};
+
 use crate::operand::is_bare;
 use crate::range::{is_equal, lies_in};
 use crate::scene::{Member, Scene};
@@ -10,9 +14,11 @@ use rule_form::{Child, Formula};
 use std::alloc::Global;
 
 // Whether a member has that range, with a binding that agrees.
-fn has_equal<'t>(members: &[Member<'t>], range: Span, trail: &Trail<'t>) -> bool {
+fn has_equal<'t>(members: &[Member<'t>], range: Span, trail: &Trail<'t>) -> bool
+    ensures { IsTrue result ↔ HasEqual members.now range trail.now }
+{
     for member in members {
-        if is_equal(member.0, range) && member.1.agrees(trail) {
+        if is_equal(member.0, range) && trail.agrees(&member.1) {
             return true;
         }
     }
@@ -20,9 +26,11 @@ fn has_equal<'t>(members: &[Member<'t>], range: Span, trail: &Trail<'t>) -> bool
 }
 
 // Whether the range lies in a member's, with a binding that agrees.
-fn has_around<'t>(members: &[Member<'t>], range: Span, trail: &Trail<'t>) -> bool {
+fn has_around<'t>(members: &[Member<'t>], range: Span, trail: &Trail<'t>) -> bool
+    ensures { IsTrue result ↔ HasAround members.now range trail.now }
+{
     for member in members {
-        if lies_in(range, member.0) && member.1.agrees(trail) {
+        if lies_in(range, member.0) && trail.agrees(&member.1) {
             return true;
         }
     }
@@ -37,12 +45,24 @@ fn only<'s, 't>(sets: &'s [Vec<Member<'t>>]) -> &'s [Member<'t>] {
     }
 }
 
+// Whether the child puts names in focus.
+#[tactic(auto, using(crate::proofs::Layers::branch_layers))]
+fn focuses(child: &Child) -> bool
+    ensures { result ≡ is_focus (branch_of child.now) }
+{
+    match child {
+        Child::Focus(_) => true,
+        _ => false,
+    }
+}
+
 /// Whether a choice is shown only where a name is bound.
-pub fn has_focus(children: &[Child]) -> bool {
+pub fn has_focus(children: &[Child]) -> bool
+    ensures { result ≡ has is_focus (branches_of (map branch_of children.now)) }
+{
     for child in children {
-        match child {
-            Child::Focus(_) => return true,
-            _ => {}
+        if focuses(child) {
+            return true;
         }
     }
     false

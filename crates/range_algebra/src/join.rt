@@ -1,5 +1,11 @@
 //! One operand more to a choice.
 
+ghost use Rattle.std.specs.Prelude.{◌≡◌, ◌↔◌, IsTrue, OnOk, IfOk, count_by};
+ghost use Rattle.tree_match.specs.Sets.{Adds};
+ghost use Rattle.range_algebra.specs.Agreements.{has_bytes as has};
+ghost use Rattle.range_algebra.specs.Joins.{joined as with_member, IsRangeOf, HasRange, IsNeeded, IsJoinedFrom};
+ghost use Rattle.range_algebra.specs.declared.state.State.{State as state_value};
+
 use crate::operand::Operand;
 use crate::order::settled;
 use crate::range::{is_equal, meet};
@@ -16,20 +22,34 @@ pub enum Role {
     Inside,
 }
 
+// Whether one of the members has that range.
+fn is_range_of(members: &[Member<'_>], range: Span) -> bool
+    ensures { IsTrue result ↔ IsRangeOf members.now range }
+{
+    for member in members {
+        if is_equal(member.0, range) {
+            return true;
+        }
+    }
+    false
+}
+
 // Whether a member of the operands has that range.
-fn has_range(operands: &[Operand<'_, '_>], range: Span) -> bool {
+fn has_range(operands: &[Operand<'_, '_>], range: Span) -> bool
+    ensures { IsTrue result ↔ HasRange operands.now range }
+{
     for operand in operands {
-        for member in operand.members {
-            if is_equal(member.0, range) {
-                return true;
-            }
+        if is_range_of(operand.members, range) {
+            return true;
         }
     }
     false
 }
 
 // Whether a state can still lead to a range: it has a byte, or it is empty and is a chosen plain range or one of those to come.
-fn is_needed(state: &State<'_>, later: &[Operand<'_, '_>]) -> bool {
+fn is_needed(state: &State<'_>, later: &[Operand<'_, '_>]) -> bool
+    ensures { IsTrue result ↔ IsNeeded later.now state.now }
+{
     if state.has_bytes() {
         return true;
     }
@@ -37,7 +57,9 @@ fn is_needed(state: &State<'_>, later: &[Operand<'_, '_>]) -> bool {
 }
 
 // The state with one member more.
-fn joined<'t>(role: Role, state: &State<'t>, member: &Member<'t>) -> Result<State<'t>, Memory> {
+fn joined<'t>(role: Role, state: &State<'t>, member: &Member<'t>) -> Result<State<'t>, Memory>
+    ensures { IfOk result (λ s. s ≡ with_member role state.now member.now) }
+{
     let range = meet(state.range, member.0);
     let same = state.marked && is_equal(range, state.range);
     match role {
@@ -78,7 +100,9 @@ pub fn begin<'t>(
 }
 
 /// How many states have a byte in their range.
-pub fn count(states: &[State<'_>]) -> usize {
+pub fn count(states: &[State<'_>]) -> usize
+    ensures { result ≡ count_by (λ (s : state_value). has s.range) states.now }
+{
     let mut many = 0;
     for state in states {
         if state.has_bytes() {
@@ -88,6 +112,20 @@ pub fn count(states: &[State<'_>]) -> usize {
     many
 }
 
+// Adds the state, where it can lead to a member.
+fn add_needed<'t>(
+    state: State<'t>,
+    later: &[Operand<'_, 't>],
+    states: &mut Vec<State<'t>>,
+) -> Result<(), Memory>
+    ensures { OnOk result (Adds states.old.items states.new.items (λ s. (state.entry ≡ s) × IsNeeded later.now s)) }
+{
+    if is_needed(&state, later) {
+        states.push(state)?;
+    }
+    Ok(())
+}
+
 // Adds the states that one state and the members of the operand give.
 fn add_joined<'t>(
     role: Role,
@@ -95,14 +133,12 @@ fn add_joined<'t>(
     members: &[Member<'t>],
     later: &[Operand<'_, 't>],
     states: &mut Vec<State<'t>>,
-) -> Result<(), Memory> {
+) -> Result<(), Memory>
+    ensures { OnOk result (Adds states.old.items states.new.items (λ s. IsJoinedFrom role state.now members.now s × IsNeeded later.now s)) }
+{
     for member in members {
-        let range = meet(state.range, member.0);
-        if range.from <= range.to && state.agrees(&member.1) {
-            let state = joined(role, state, member)?;
-            if is_needed(&state, later) {
-                states.push(state)?;
-            }
+        if state.agrees(&member.1) {
+            add_needed(joined(role, state, member)?, later, states)?;
         }
     }
     Ok(())

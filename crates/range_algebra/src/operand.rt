@@ -1,5 +1,8 @@
 //! The operands of `All`.
 
+ghost use Rattle.std.specs.Prelude.{◌≡◌, map, not, ◌||◌};
+ghost use Rattle.range_algebra.specs.Trees.{branch_of, branches_of, has, is_positive, is_inside as inside};
+
 use crate::scene::Member;
 use node_tree::Memory;
 use rule_form::Child;
@@ -13,7 +16,10 @@ pub struct Operand<'s, 't> {
 }
 
 /// Whether the child is a formula of which the range is one.
-pub fn is_plain(child: &Child) -> bool {
+#[tactic(auto, using(crate::proofs::Layers::branch_layers))]
+pub fn is_plain(child: &Child) -> bool
+    ensures { result ≡ is_positive (branch_of child.now) }
+{
     match child {
         Child::Positive(_) => true,
         _ => false,
@@ -21,7 +27,10 @@ pub fn is_plain(child: &Child) -> bool {
 }
 
 /// Whether the child is a formula in which the range lies.
-pub fn is_inside(child: &Child) -> bool {
+#[tactic(auto, using(crate::proofs::Layers::branch_layers))]
+pub fn is_inside(child: &Child) -> bool
+    ensures { result ≡ inside (branch_of child.now) }
+{
     match child {
         Child::Inside(_) => true,
         _ => false,
@@ -29,7 +38,9 @@ pub fn is_inside(child: &Child) -> bool {
 }
 
 /// Whether there is no operand among the children.
-pub fn is_bare(children: &[Child]) -> bool {
+pub fn is_bare(children: &[Child]) -> bool
+    ensures { result ≡ not (has is_positive (branches_of (map branch_of children.now)) || has inside (branches_of (map branch_of children.now))) }
+{
     for child in children {
         if is_plain(child) || is_inside(child) {
             return false;

@@ -1,5 +1,8 @@
 //! Choices of a member of some operands.
 
+ghost use Rattle.std.specs.Prelude.{◌≡◌, ◌↔◌, IsTrue};
+ghost use Rattle.range_algebra.specs.Agreements.{AgreesWith, has_bytes as has};
+
 use crate::order::Ordered;
 use meta_bind::Trail;
 use node_tree::Span;
@@ -20,12 +23,16 @@ pub struct State<'t> {
 
 impl<'t> State<'t> {
     /// Whether the range has a byte.
-    pub fn has_bytes(&self) -> bool {
+    pub fn has_bytes(&self) -> bool
+        ensures { result ≡ has self.now.range }
+    {
         self.range.from < self.range.to
     }
 
-    /// The same state, which borrows the same nodes.
-    pub fn agrees(&self, trail: &Trail<'t>) -> bool {
+    /// Whether the binding agrees with what is bound.
+    pub fn agrees(&self, trail: &Trail<'t>) -> bool
+        ensures { IsTrue result ↔ AgreesWith self.now.plain self.now.inside trail.now }
+    {
         self.plain.agrees(trail) && self.inside.agrees(trail)
     }
 }
