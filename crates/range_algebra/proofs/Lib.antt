@@ -1,2 +1,3 @@
 pub mod Layers
 pub mod Merged
+pub mod Steps

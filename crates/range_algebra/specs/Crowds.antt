@@ -1,10 +1,12 @@
 -- The first set of a formula that has more than 10,000 members.
-use Rattle.std.specs.Prelude.{◌≡◌, ◌⊎◌, ℕ, zero, suc, List, [], ◌∷◌, Option, None, Some, Bool, true, false, if◌then◌else◌, slice_get}
+use Rattle.std.specs.Prelude.{◌≡◌, ◌⊎◌, ℕ, zero, suc, List, [], ◌∷◌, Option, None, Some, Bool, true, false, if◌then◌else◌, slice_get, reverse}
 use Rattle.tree_match.specs.declared.leaf.Leaf.{Leaf}
 use Rattle.tree_match.specs.declared.leaf.Leaf.TheVariants.{Full, Crowded}
 use Rattle.tree_match.specs.Sets.{Among}
 use Rattle.range_algebra.specs.declared.join.Role.{Role}
 use Rattle.range_algebra.specs.declared.join.Role.TheVariants.{Plain, Inside}
+use Rattle.range_algebra.specs.declared.fault.EvalFault.{EvalFault}
+use Rattle.range_algebra.specs.declared.fault.EvalFault.TheVariants as faults
 use Rattle.range_algebra.specs.Sizes.{HasAtMost, HasMoreThan}
 use Rattle.range_algebra.specs.Trees
 use Rattle.range_algebra.specs.Choices.{Chosen, NoneOf, IsCounted}
@@ -13,6 +15,21 @@ use Rattle.range_algebra.specs.Meets.{Meets, MeetsSome, OneOfEach, OneAnd}
 -- which of some sets is the first with more than 10,000 members, by child numbers; none, where none has more
 abbrev pub Search : Type 1
 Search = Option (List ℕ) → Type 0
+
+-- a fault names the set that the search finds; want of memory has no cause
+abbrev pub IsFault : Search → EvalFault → Type 0
+IsFault Found faults.Memory = Unit {0}
+IsFault Found (faults.Crowded numbers) = Found (Some numbers)
+
+-- the same with the numbers from the set up
+abbrev pub IsFaultFrom : Search → EvalFault → Type 0
+IsFaultFrom Found faults.Memory = Unit {0}
+IsFaultFrom Found (faults.Crowded numbers) = Found (Some (reverse numbers))
+
+-- want of memory, or that a set with these numbers has too many members
+abbrev pub NamesSet : List ℕ → EvalFault → Type 0
+NamesSet numbers faults.Memory = Unit {0}
+NamesSet numbers (faults.Crowded given) = given ≡ numbers
 
 -- the search of no set
 abbrev pub Nothing : Search

@@ -5,5 +5,6 @@ pub mod Choices
 pub mod Agreements
 pub mod Joins
 pub mod Conditions
+pub mod Orders
 pub mod Meets
 pub mod Crowds
