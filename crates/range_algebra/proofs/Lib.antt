@@ -1,3 +1,4 @@
 pub mod Layers
 pub mod Merged
 pub mod Steps
+pub mod Searches

@@ -1,5 +1,5 @@
 -- The first set of a formula that has more than 10,000 members.
-use Rattle.std.specs.Prelude.{◌≡◌, ◌⊎◌, ℕ, zero, suc, List, [], ◌∷◌, Option, None, Some, Bool, true, false, if◌then◌else◌, slice_get, reverse}
+use Rattle.std.specs.Prelude.{◌≡◌, ◌⊎◌, ℕ, zero, suc, List, [], ◌∷◌, Option, None, Some, Bool, MatchBool, slice_get, reverse}
 use Rattle.tree_match.specs.declared.leaf.Leaf.{Leaf}
 use Rattle.tree_match.specs.declared.leaf.Leaf.TheVariants.{Full, Crowded}
 use Rattle.tree_match.specs.Sets.{Among}
@@ -72,16 +72,16 @@ module _ (leaves : List Leaf) (bytes : List ℕ) where
   abbrev pub PlainPrefixes : Role → Trees.Branches → ℕ → Trees.Branches → Search
   PlainPrefixes role all i Trees.no_branches o = o ≡ None
   PlainPrefixes role all i (Trees.branch_then b bs) o =
-      if is_operand role b then Then (OneSet (i ∷ []) (IsCounted (OneOfFirst role (suc i) all) NoneOf)) (PlainPrefixes role all (suc i) bs) o else PlainPrefixes role all (suc i) bs o
+      MatchBool (is_operand role b) (Then (OneSet (i ∷ []) (IsCounted (OneOfFirst role (suc i) all) NoneOf)) (PlainPrefixes role all (suc i) bs) o) (PlainPrefixes role all (suc i) bs o)
 
   -- the prefixes of all plain operands that end with an inside
   abbrev pub InsidePrefixes : Trees.Branches → ℕ → Trees.Branches → Search
   InsidePrefixes all i Trees.no_branches o = o ≡ None
   InsidePrefixes all i (Trees.branch_then b bs) o =
-      if Trees.is_inside b then Then (OneSet (i ∷ []) (IsCounted (OneOfEach leaves bytes Plain all) (OneOfFirst Inside (suc i) all))) (InsidePrefixes all (suc i) bs) o else InsidePrefixes all (suc i) bs o
+      MatchBool (Trees.is_inside b) (Then (OneSet (i ∷ []) (IsCounted (OneOfEach leaves bytes Plain all) (OneOfFirst Inside (suc i) all))) (InsidePrefixes all (suc i) bs) o) (InsidePrefixes all (suc i) bs o)
 
   abbrev pub Prefixes : Trees.Branches → Search
-  Prefixes bs o = if Trees.has Trees.is_positive bs then Then (PlainPrefixes Plain bs 0 bs) (InsidePrefixes bs 0 bs) o else PlainPrefixes Inside bs 0 bs o
+  Prefixes bs o = MatchBool (Trees.has Trees.is_positive bs) (Then (PlainPrefixes Plain bs 0 bs) (InsidePrefixes bs 0 bs) o) (PlainPrefixes Inside bs 0 bs o)
 
   abbrev mutual
     -- the sets of a formula: those of its children in order, then the prefixes of its operands, then its own

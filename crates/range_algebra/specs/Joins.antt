@@ -7,7 +7,7 @@ use Rattle.node_tree.specs.Span.{span_cmp}
 use Rattle.meta_bind.specs.declared.bound.Bound.{Bound}
 use Rattle.meta_bind.specs.Bounds.{Agree, binding_cmp}
 use Rattle.meta_bind.specs.Merges.{merged}
-use Rattle.tree_match.specs.Sets.{Among}
+use Rattle.range_algebra.specs.Sizes.{Any}
 use Rattle.tree_match.specs.Members.{Member}
 use Rattle.range_algebra.specs.declared.state.State.{State}
 use Rattle.range_algebra.specs.declared.operand.Operand.{Operand}
@@ -34,17 +34,17 @@ joined Inside s m =
 
 -- the state is this one, or one of these, with a member that agrees
 abbrev pub IsJoinedFrom : Role → State → List Member → State → Type 0
-IsJoinedFrom role b members s = (m : Member) × Among members m × AgreesWith b.plain b.inside m.1 × (joined role b m ≡ s)
+IsJoinedFrom role b members s = Any (λ (m : Member). AgreesWith b.plain b.inside m.1 × (joined role b m ≡ s)) members
 
 abbrev pub IsJoined : Role → List State → List Member → State → Type 0
-IsJoined role before members s = (b : State) × Among before b × IsJoinedFrom role b members s
+IsJoined role before members s = Any (λ (b : State). IsJoinedFrom role b members s) before
 
 -- some member of the operands has the range
 abbrev pub IsRangeOf : List Member → Span → Type 0
-IsRangeOf members range = (m : Member) × Among members m × (m.0 ≡ range)
+IsRangeOf members range = Any (λ (m : Member). m.0 ≡ range) members
 
 abbrev pub HasRange : List Operand → Span → Type 0
-HasRange operands range = (o : Operand) × Among operands o × IsRangeOf o.members.now range
+HasRange operands range = Any (λ (o : Operand). IsRangeOf o.members.now range) operands
 
 -- the state can lead to a member: it has a byte; or it is empty, and that is a chosen plain range or one of those to come
 abbrev pub IsNeeded : List Operand → State → Type 0

@@ -1,7 +1,8 @@
 //! What is taken away from the choices, and the conditions on what is bound.
 
 ghost use Rattle.std.specs.Prelude.{◌≡◌, ◌↔◌, [], map, IsTrue};
-ghost use Rattle.range_algebra.specs.Conditions.{HasEqual, HasAround};
+ghost use Rattle.range_algebra.specs.Conditions.{IsEqualTo, IsAround};
+ghost use Rattle.range_algebra.specs.Sizes.{Any};
 ghost use Rattle.range_algebra.specs.Trees.{branch_of, branches_of, has, is_focus};
 
 use crate::operand::is_bare;
@@ -13,24 +14,38 @@ use node_tree::{Memory, Span};
 use rule_form::{Child, Formula};
 use std::alloc::Global;
 
+// Whether the member has that range, with a binding that agrees.
+fn is_equal_to<'t>(member: &Member<'t>, range: Span, trail: &Trail<'t>) -> bool
+    ensures { IsTrue result ↔ IsEqualTo range trail.now member.now }
+{
+    is_equal(member.0, range) && trail.agrees(&member.1)
+}
+
 // Whether a member has that range, with a binding that agrees.
 fn has_equal<'t>(members: &[Member<'t>], range: Span, trail: &Trail<'t>) -> bool
-    ensures { IsTrue result ↔ HasEqual members.now range trail.now }
+    ensures { IsTrue result ↔ Any (IsEqualTo range trail.now) members.now }
 {
     for member in members {
-        if is_equal(member.0, range) && trail.agrees(&member.1) {
+        if is_equal_to(member, range, trail) {
             return true;
         }
     }
     false
 }
 
+// Whether the range lies in the member's, with a binding that agrees.
+fn is_around<'t>(member: &Member<'t>, range: Span, trail: &Trail<'t>) -> bool
+    ensures { IsTrue result ↔ IsAround range trail.now member.now }
+{
+    lies_in(range, member.0) && trail.agrees(&member.1)
+}
+
 // Whether the range lies in a member's, with a binding that agrees.
 fn has_around<'t>(members: &[Member<'t>], range: Span, trail: &Trail<'t>) -> bool
-    ensures { IsTrue result ↔ HasAround members.now range trail.now }
+    ensures { IsTrue result ↔ Any (IsAround range trail.now) members.now }
 {
     for member in members {
-        if lies_in(range, member.0) && trail.agrees(&member.1) {
+        if is_around(member, range, trail) {
             return true;
         }
     }

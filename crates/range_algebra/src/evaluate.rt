@@ -31,9 +31,9 @@ pub fn limited<'t>(
     alloc: Global,
     members: Vec<Member<'t>>,
 ) -> Result<Vec<Member<'t>>, EvalFault>
-    ensures few { IfOk result (λ v. (v.items ≡ members.items) × (length members.items ≤ 10000)) }
+    ensures few { IfOk result (λ v. (v.items ≡ members.entry.items) × (length members.entry.items ≤ 10000)) }
     ensures named { IfErr result (NamesSet []) }
-    ensures many { IfErr result (λ _. 10000 < length members.items) }
+    ensures many { IfErr result (λ _. 10000 < length members.entry.items) }
 {
     if members.len() > MOST {
         return crowded(alloc, None);
