@@ -33,8 +33,11 @@ joined Inside s m =
     record { range = range; marked = s.marked && same_range range s.range; plain = s.plain; inside = merged s.inside m.1 }
 
 -- the state is this one, or one of these, with a member that agrees
+abbrev pub IsJoinedWith : Role → State → State → Member → Type 0
+IsJoinedWith role b s m = AgreesWith b.plain b.inside m.1 × (joined role b m ≡ s)
+
 abbrev pub IsJoinedFrom : Role → State → List Member → State → Type 0
-IsJoinedFrom role b members s = Any (λ (m : Member). AgreesWith b.plain b.inside m.1 × (joined role b m ≡ s)) members
+IsJoinedFrom role b members s = Any (IsJoinedWith role b s) members
 
 abbrev pub IsJoined : Role → List State → List Member → State → Type 0
 IsJoined role before members s = Any (λ (b : State). IsJoinedFrom role b members s) before

@@ -3,7 +3,7 @@
 ghost use Rattle.std.specs.Prelude.{◌≡◌, ◌↔◌, IsTrue, OnOk, IfOk, count_by};
 ghost use Rattle.tree_match.specs.Sets.{Adds};
 ghost use Rattle.range_algebra.specs.Agreements.{has_bytes as has};
-ghost use Rattle.range_algebra.specs.Joins.{joined as with_member, IsRangeOf, HasRange, IsNeeded, IsJoinedFrom};
+ghost use Rattle.range_algebra.specs.Joins.{joined as with_member, IsRangeOf, HasRange, IsNeeded, IsJoinedWith, IsJoinedFrom};
 ghost use Rattle.range_algebra.specs.declared.state.State.{State as state_value};
 
 use crate::operand::Operand;
@@ -126,6 +126,22 @@ fn add_needed<'t>(
     Ok(())
 }
 
+// Adds the state with this member more, where it agrees.
+fn add_one<'t>(
+    role: Role,
+    state: &State<'t>,
+    member: &Member<'t>,
+    later: &[Operand<'_, 't>],
+    states: &mut Vec<State<'t>>,
+) -> Result<(), Memory>
+    ensures { OnOk result (Adds states.old.items states.new.items (λ s. IsJoinedWith role state.now s member.now × IsNeeded later.now s)) }
+{
+    if !state.agrees(&member.1) {
+        return Ok(());
+    }
+    add_needed(joined(role, state, member)?, later, states)
+}
+
 // Adds the states that one state and the members of the operand give.
 fn add_joined<'t>(
     role: Role,
@@ -137,9 +153,7 @@ fn add_joined<'t>(
     ensures { OnOk result (Adds states.old.items states.new.items (λ s. IsJoinedFrom role state.now members.now s × IsNeeded later.now s)) }
 {
     for member in members {
-        if state.agrees(&member.1) {
-            add_needed(joined(role, state, member)?, later, states)?;
-        }
+        add_one(role, state, member, later, states)?;
     }
     Ok(())
 }

@@ -52,7 +52,11 @@ fn is_last<T: Ordered>(items: &[T], one: &T) -> bool
     if items.is_empty() {
         return false;
     }
-    items[items.len() - 1].order(one) == Ordering::Equal
+    match items[items.len() - 1].order(one) {
+        Ordering::Equal => true,
+        Ordering::Less => false,
+        Ordering::Greater => false,
+    }
 }
 
 // Adds an item at the end, where it isn't the last one.
