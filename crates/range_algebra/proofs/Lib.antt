@@ -2,3 +2,5 @@ pub mod Layers
 pub mod Merged
 pub mod Steps
 pub mod Searches
+pub mod Settling
+pub mod Added

@@ -53,6 +53,10 @@ HasRange operands range = Any (λ (o : Operand). IsRangeOf o.members.now range) 
 abbrev pub IsNeeded : List Operand → State → Type 0
 IsNeeded later s = HasBytes s.range ⊎ ((s.range.from ≡ s.range.to) × ((s.marked ≡ true) ⊎ HasRange later s.range))
 
+-- the state of one member of a plain operand
+abbrev pub begun : Member → State
+begun m = record { range = m.0; marked = true; plain = m.1; inside = [] }
+
 -- by range, then mark, then bindings
 abbrev pub state_cmp : State → State → Ordering
 state_cmp s t = ordering_then (span_cmp s.range t.range) (ordering_then (bool_cmp s.marked t.marked) (ordering_then (binding_cmp s.plain t.plain) (binding_cmp s.inside t.inside)))

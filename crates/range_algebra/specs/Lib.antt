@@ -1,5 +1,6 @@
 pub mod Ranges
 pub mod Sizes
+pub mod Ends
 pub mod Trees
 pub mod Choices
 pub mod Agreements

@@ -52,11 +52,11 @@ fn has_around<'t>(members: &[Member<'t>], range: Span, trail: &Trail<'t>) -> boo
     false
 }
 
-// The members of the only formula that a child holds.
-fn only<'s, 't>(sets: &'s [Vec<Member<'t>>]) -> &'s [Member<'t>] {
-    match sets {
-        [] => &[],
-        [first, ..] => first.as_slice(),
+// The set at that place, without members past the end.
+fn set_at<'s, 't>(sets: &'s [Vec<Member<'t>>], at: usize) -> &'s [Member<'t>] {
+    match sets.get(at) {
+        None => &[],
+        Some(set) => set.as_slice(),
     }
 }
 
@@ -97,8 +97,8 @@ fn allows_bare<'t>(
     let empty = Trail::new(alloc);
     for (i, child) in children.iter().enumerate() {
         let allowed = match child {
-            Child::Not(_) => !has_equal(only(&sets[i..]), range, &empty),
-            Child::NotInside(_) => !has_around(only(&sets[i..]), range, &empty),
+            Child::Not(_) => !has_equal(set_at(sets, i), range, &empty),
+            Child::NotInside(_) => !has_around(set_at(sets, i), range, &empty),
             Child::MetaRegex(_, _) => false,
             Child::MetaPattern(_, _) => false,
             Child::MetaCompare(comparison) => {
@@ -127,7 +127,7 @@ fn matches<'t>(
             return allows_bare(alloc, scene, children.as_slice(), sets, held.span);
         }
     }
-    Ok(has_equal(only(sets), held.span, trail))
+    Ok(has_equal(set_at(sets, 0), held.span, trail))
 }
 
 /// Whether the child takes the choice not away, and its condition holds.
@@ -140,8 +140,8 @@ pub fn allows<'t>(
     trail: &Trail<'t>,
 ) -> Result<bool, Memory> {
     match child {
-        Child::Not(_) => Ok(!has_equal(only(sets), range, trail)),
-        Child::NotInside(_) => Ok(!has_around(only(sets), range, trail)),
+        Child::Not(_) => Ok(!has_equal(set_at(sets, 0), range, trail)),
+        Child::NotInside(_) => Ok(!has_around(set_at(sets, 0), range, trail)),
         Child::MetaRegex(_, _) => Ok(false),
         Child::MetaCompare(comparison) => {
             Ok(holds_comparison(comparison, &trail.keep()?, scene.bytes))

@@ -110,7 +110,9 @@ fn parts_of_each<'t>(
     alloc: Global,
     scene: Scene<'t>,
     children: &'t [Child],
-) -> Result<Vec<Vec<Vec<Member<'t>>>>, EvalFault> {
+) -> Result<Vec<Vec<Vec<Member<'t>>>>, EvalFault>
+    ensures { IfOk result (λ parts. length parts.items ≡ length children.now) }
+{
     let mut parts = Vec::new(alloc);
     for (i, child) in children.iter().enumerate() {
         parts.push(inside(i, parts_of(alloc, scene, child))?)?;

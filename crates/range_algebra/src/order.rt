@@ -1,7 +1,8 @@
 //! Items in order, each once.
 
 ghost use Rattle.std.specs.Prelude.{◌≡◌, ◌↔◌, IsTrue, IfOk, OnOk};
-ghost use Rattle.tree_match.specs.Sets.{Among, Adds};
+ghost use Rattle.tree_match.specs.Sets.{Among};
+ghost use Rattle.range_algebra.specs.Ends.{EndsWith, IsEndedBy};
 ghost use Rattle.tree_match.specs.Ascending.{IsAscending};
 
 use crate::scene::Member;
@@ -47,7 +48,7 @@ impl<'t> Ordered for Member<'t> {
 
 // Whether the last item is this one.
 fn is_last<T: Ordered>(items: &[T], one: &T) -> bool
-    ensures { IsTrue result → Among items.now one.now }
+    ensures { IsTrue result ↔ EndsWith items.now one.now }
 {
     if items.is_empty() {
         return false;
@@ -61,7 +62,7 @@ fn is_last<T: Ordered>(items: &[T], one: &T) -> bool
 
 // Adds an item at the end, where it isn't the last one.
 fn add_last<T: Ordered + Drop>(items: &mut Vec<T>, one: T) -> Result<(), Memory>
-    ensures { OnOk result (Adds items.old.items items.new.items (λ x. one ≡ x)) }
+    ensures { OnOk result (IsEndedBy items.old.items items.new.items one) }
 {
     if is_last(items.as_slice(), &one) {
         return Ok(());
