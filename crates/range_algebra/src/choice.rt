@@ -1,6 +1,9 @@
 //! The choices of one member of each operand.
 
-ghost use Rattle.std.specs.Prelude.{◌≡◌, length};
+ghost use Rattle.std.specs.Prelude.{◌≡◌, ◌≤◌, ◌<◌, [], ◌∷◌, length, count_by, IfOk, IfErr};
+ghost use Rattle.range_algebra.specs.Agreements.{has_bytes as has};
+ghost use Rattle.range_algebra.specs.Crowds.{NamesSet};
+ghost use Rattle.range_algebra.specs.declared.state.State.{State as state_value};
 
 use crate::evaluate::crowded;
 use crate::fault::EvalFault;
@@ -17,7 +20,11 @@ fn few<'t>(
     alloc: Global,
     states: Vec<State<'t>>,
     number: usize,
-) -> Result<Vec<State<'t>>, EvalFault> {
+) -> Result<Vec<State<'t>>, EvalFault>
+    ensures few { IfOk result (λ v. (v.items ≡ states.entry.items) × (count_by (λ (s : state_value). has s.range) states.entry.items ≤ 10000)) }
+    ensures named { IfErr result (NamesSet (number ∷ [])) }
+    ensures many { IfErr result (λ _. 10000 < count_by (λ (s : state_value). has s.range) states.entry.items) }
+{
     if count(states.as_slice()) > MOST {
         return crowded(alloc, Some(number));
     }

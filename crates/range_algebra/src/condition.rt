@@ -52,12 +52,18 @@ fn has_around<'t>(members: &[Member<'t>], range: Span, trail: &Trail<'t>) -> boo
     false
 }
 
+// The first of these sets, without members where there is none.
+fn first_of<'s, 't>(sets: &'s [Vec<Member<'t>>]) -> &'s [Member<'t>] {
+    match sets {
+        [] => &[],
+        [first, ..] => first.as_slice(),
+    }
+}
+
 // The set at that place, without members past the end.
 fn set_at<'s, 't>(sets: &'s [Vec<Member<'t>>], at: usize) -> &'s [Member<'t>] {
-    match sets.get(at) {
-        None => &[],
-        Some(set) => set.as_slice(),
-    }
+    let from = at.min(sets.len());
+    first_of(&sets[from..])
 }
 
 // Whether the child puts names in focus.
