@@ -1,5 +1,5 @@
 -- Where `...` and `$...X` may stand.
-use Rattle.std.specs.Prelude.{◌≡◌, Bool, true, false, ◌||◌, if◌then◌else◌, List, [], ◌∷◌, All}
+use Rattle.std.specs.Prelude.{◌≡◌, Bool, true, false, ◌&&◌, ◌||◌, if◌then◌else◌, List, [], ◌∷◌, All}
 use Rattle.node_tree.specs.declared.kind.Kind.{Kind}
 use Rattle.node_tree.specs.declared.kind.Kind.TheVariants as kinds
 use Rattle.node_tree.specs.declared.node.Node.{Node}
@@ -15,6 +15,11 @@ is_dots _ = false
 abbrev pub is_named_dots : Kind → Bool
 is_named_dots kinds.MetaDots = true
 is_named_dots _ = false
+
+-- all of them are `...` or `$...X`
+abbrev pub are_all_dots : List Node → Bool
+are_all_dots [] = true
+are_all_dots (n ∷ ns) = is_dots (kind_of n) && are_all_dots ns
 
 -- a node that holds any number of items: its kids stand in a list
 abbrev pub holds_items : Kind → Bool

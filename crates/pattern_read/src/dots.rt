@@ -12,6 +12,18 @@ pub fn is_dots(kind: Kind) -> bool
     matches!(kind, Kind::Dots | Kind::MetaDots)
 }
 
+/// Whether all of these nodes are.
+pub fn are_all_dots(items: &[Node]) -> bool
+    ensures { result ≡ spec.are_all_dots items.now }
+{
+    for item in items {
+        if !is_dots(item.kind) {
+            return false;
+        }
+    }
+    true
+}
+
 fn is_named_dots(kind: Kind) -> bool
     ensures { result ≡ spec.is_named_dots kind }
 {

@@ -14,7 +14,7 @@ pub enum PatternFault {
     /// The text has no tree as a pattern of the language, it has more than 1,000,000 bytes, or patterns of the language are not
     /// read.
     NoPattern,
-    /// The whole pattern is `...` or `$...X`.
+    /// Each top item of the pattern is `...` or `$...X`, or there is none.
     OnlyDots,
     /// A `$...X` stands where no list of items is.
     DotsPlace,

@@ -4,55 +4,58 @@ ghost use Rattle.std.specs.Prelude.{◌≡◌, ◌≤◌, length, IfOk, IfErr, S
 ghost use Rattle.node_tree.specs.declared.node.Node.{Node as node};
 ghost use Rattle.node_tree.specs.declared.view.Pattern.{Pattern as a_pattern};
 ghost use Rattle.node_tree.specs.Gives.{Gives};
-ghost use Rattle.pattern_read.specs.Patterns.{IsPatternOf, IsFault, IsJsonValue, IsPythonExpression, IsTextOf, GivesPattern};
+ghost use Rattle.node_tree.specs.declared.view.Shape.{Shape as a_shape};
+ghost use Rattle.pattern_read.specs.Patterns.{IsPatternOf, IsFault, IsJsonPattern, IsTextOf, GivesPattern, is_only_dots as spec_only_dots};
 
-use crate::dots::{are_dots_placed, is_dots};
+use crate::dots::{are_all_dots, are_dots_placed, is_dots};
 use crate::fault::PatternFault;
+use c_unit::read_c_pattern;
 use json_tree::read_json;
 use node_tree::{Lang, Mode, Node, Pattern, ReadFault, Shape};
-use py_text::read_expression;
+use py_stmt::read_py_pattern;
 use std::alloc::Global;
 
 // The one value of a JSON pattern.
-fn json_value(alloc: Global, text: &str) -> Result<Node, ReadFault>
+fn json_pattern(alloc: Global, text: &str) -> Result<(Shape, Node), ReadFault>
     requires { length text.now ≤ 1000000 }
-    ensures value { IfOk result (IsJsonValue text.now) }
-    ensures only { (value : node) → IsJsonValue text.now value → Gives (λ n. n) result (Some value) }
+    ensures value { IfOk result (λ x. IsJsonPattern text.now x.0 x.1) }
+    ensures only { (shape : a_shape) (value : node) → IsJsonPattern text.now shape value → Gives (λ x. x) result (Some (shape, value)) }
 {
     let mut root = read_json(alloc, text, Mode::Pattern)?;
     let Some(value) = root.kids.pop() else {
         return Err(ReadFault::NoTree);
     };
-    Ok(value)
+    Ok((Shape::Expr, value))
 }
 
-// The one expression of a Python pattern.
-fn python_expression(alloc: Global, text: &str) -> Result<Node, ReadFault>
-    requires { length text.now ≤ 1000000 }
-    ensures value { IfOk result (IsPythonExpression text.now) }
-    ensures only { (value : node) → IsPythonExpression text.now value → Gives (λ n. n) result (Some value) }
-{
-    let found = read_expression(alloc, text, Mode::Pattern)?;
-    Ok(found.tree)
-}
-
-// The tree of a pattern, be its dots well placed or not.
-fn pattern_tree(alloc: Global, lang: Lang, text: &str) -> Result<Node, ReadFault>
-    ensures value { IfOk result (IsTextOf lang text.now) }
-    ensures only { (tree : node) → IsTextOf lang text.now tree → Gives (λ n. n) result (Some tree) }
+// The shape and the tree of a pattern, be its dots well placed or not.
+fn pattern_tree(alloc: Global, lang: Lang, text: &str) -> Result<(Shape, Node), ReadFault>
+    ensures value { IfOk result (λ x. IsTextOf lang text.now x.0 x.1) }
+    ensures only { (shape : a_shape) (tree : node) → IsTextOf lang text.now shape tree → Gives (λ x. x) result (Some (shape, tree)) }
 {
     if text.len() > 1_000_000 {
         return Err(ReadFault::NoTree);
     }
     match lang {
-        Lang::Json => json_value(alloc, text),
-        Lang::Python => python_expression(alloc, text),
-        _ => Err(ReadFault::NoTree),
+        Lang::Json => json_pattern(alloc, text),
+        Lang::Python => read_py_pattern(alloc, text),
+        Lang::C => read_c_pattern(alloc, text),
+        Lang::Regex => Err(ReadFault::NoTree),
     }
 }
 
-/// Reads the pattern that a text writes in a language. So far a pattern is one value of JSON or one expression of Python, and
-/// for every other language NoPattern is given.
+// Whether each top item of a pattern is `...` or `$...X`.
+fn is_only_dots(shape: Shape, tree: &Node) -> bool
+    ensures { result ≡ spec_only_dots shape tree.now }
+{
+    match shape {
+        Shape::Expr => is_dots(tree.kind),
+        Shape::Run => are_all_dots(tree.kids.as_slice()),
+    }
+}
+
+/// Reads the pattern that a text writes in a language: a value of JSON, an expression or a run of statements of Python, an
+/// expression or a run of items of C. For the language of texts alone NoPattern is given.
 ///
 /// A pattern may have metavariables (`$X`), `...`, `$...X`, `"..."` and `<... P ...>` besides what the language has.
 pub fn read_pattern(alloc: Global, lang: Lang, text: &str) -> Result<Pattern, PatternFault>
@@ -61,8 +64,8 @@ pub fn read_pattern(alloc: Global, lang: Lang, text: &str) -> Result<Pattern, Pa
     // Each pattern that the text writes is the one that is read, unless memory runs out. So there is at most one.
     ensures only { (p : a_pattern) → IsPatternOf lang text.now p → GivesPattern p result }
 {
-    let tree = pattern_tree(alloc, lang, text)?;
-    if is_dots(tree.kind) {
+    let (shape, tree) = pattern_tree(alloc, lang, text)?;
+    if is_only_dots(shape, &tree) {
         return Err(PatternFault::OnlyDots);
     }
     if !are_dots_placed(&tree)? {
@@ -70,7 +73,7 @@ pub fn read_pattern(alloc: Global, lang: Lang, text: &str) -> Result<Pattern, Pa
     }
     Ok(Pattern {
         lang,
-        shape: Shape::Expr,
+        shape,
         tree,
         constants: true,
     })

@@ -29,7 +29,7 @@ fn reads_patterns_of_json(rt: HostRuntime) -> Result<(), Fail> {
         assert_eq!(rt; kind_of(rt.alloc(), Lang::Json, text), found, "{text}");
     }
     assert_eq!(rt;
-        kind_of(rt.alloc(), Lang::C, "1"),
+        kind_of(rt.alloc(), Lang::Regex, "1"),
         Err(PatternFault::NoPattern)
     );
     Ok(())
@@ -43,16 +43,39 @@ fn reads_patterns_of_python(rt: HostRuntime) -> Result<(), Fail> {
         ("f(..., $...A)", Ok(Kind::Call)),
         ("[$...A]", Ok(Kind::ListLit)),
         ("<... $X ...>", Ok(Kind::Deep)),
-        ("", Err(PatternFault::NoPattern)),
+        ("", Err(PatternFault::OnlyDots)),
         ("f(", Err(PatternFault::NoPattern)),
-        ("x = 1", Err(PatternFault::NoPattern)),
-        ("a\nb", Err(PatternFault::NoPattern)),
+        ("x = 1", Ok(Kind::Block)),
+        ("a\nb", Ok(Kind::Block)),
+        ("a\n...", Ok(Kind::Block)),
+        ("if $X: ...", Ok(Kind::Block)),
+        ("...\n...", Err(PatternFault::OnlyDots)),
         ("...", Err(PatternFault::OnlyDots)),
         ("$...A", Err(PatternFault::OnlyDots)),
         ("$...A + 1", Err(PatternFault::DotsPlace)),
     ];
     for (text, found) in rows {
         assert_eq!(rt; kind_of(rt.alloc(), Lang::Python, text), found, "{text}");
+    }
+    Ok(())
+}
+
+#[test]
+fn reads_patterns_of_c(rt: HostRuntime) -> Result<(), Fail> {
+    let rows = [
+        ("a", Ok(Kind::Name)),
+        ("f(..., $...A)", Ok(Kind::Call)),
+        ("(T)$X", Ok(Kind::Cast)),
+        ("return $X;", Ok(Kind::Block)),
+        ("int $F(...) { ... }", Ok(Kind::Block)),
+        ("", Err(PatternFault::OnlyDots)),
+        ("int main( {", Err(PatternFault::NoPattern)),
+        ("...", Err(PatternFault::OnlyDots)),
+        ("...; $...A;", Err(PatternFault::OnlyDots)),
+        ("$...A + 1", Err(PatternFault::DotsPlace)),
+    ];
+    for (text, found) in rows {
+        assert_eq!(rt; kind_of(rt.alloc(), Lang::C, text), found, "{text}");
     }
     Ok(())
 }

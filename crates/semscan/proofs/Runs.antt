@@ -30,13 +30,16 @@ use Rattle.semscan.proofs.Streaming.{nothing_written}
 same_lang : (a b : Lang) → IsMatched a → IsMatched b → lang_word a ≡ lang_word b → a ≡ b
 same_lang langs.Json langs.Json p q e = refl
 same_lang langs.Json langs.Python p q e = absurd cc
-same_lang langs.Json langs.C p q e = elim q [ ]
+same_lang langs.Json langs.C p q e = absurd cc
 same_lang langs.Json langs.Regex p q e = elim q [ ]
 same_lang langs.Python langs.Json p q e = absurd cc
 same_lang langs.Python langs.Python p q e = refl
-same_lang langs.Python langs.C p q e = elim q [ ]
+same_lang langs.Python langs.C p q e = absurd cc
 same_lang langs.Python langs.Regex p q e = elim q [ ]
-same_lang langs.C b p q e = elim p [ ]
+same_lang langs.C langs.Json p q e = absurd cc
+same_lang langs.C langs.Python p q e = absurd cc
+same_lang langs.C langs.C p q e = refl
+same_lang langs.C langs.Regex p q e = elim q [ ]
 same_lang langs.Regex b p q e = elim p [ ]
 
 same_words : (words : List (List ℕ)) (k l : Lang) (a b : List ℕ) → AreMatchWords words k a → AreMatchWords words l b → (k ≡ l) × (a ≡ b)

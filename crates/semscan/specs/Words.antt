@@ -10,11 +10,12 @@ lang_word langs.Python = codes "python"
 lang_word langs.C = codes "c"
 lang_word langs.Regex = codes "regex"
 
--- the languages whose files are matched so far
+-- the languages whose files are matched: those that have trees
 abbrev pub IsMatched : Lang → Type 0
 IsMatched langs.Json = ⊤
 IsMatched langs.Python = ⊤
-IsMatched _ = ⊥
+IsMatched langs.C = ⊤
+IsMatched langs.Regex = ⊥
 
 -- the words are `match`, the word of a language, and a pattern
 pub record AreMatchWords (words : List (List ℕ)) (lang : Lang) (pattern : List ℕ) : Type 0 where

@@ -6,8 +6,10 @@ ghost use Rattle.node_tree.specs.Spans.{SpansLieIn};
 ghost use Rattle.node_tree.specs.declared.node.Node.{Node as node};
 ghost use Rattle.semscan.specs.Reading.{IsTreeIn, IsFileOf, IsOnlyFile, HasNoFile};
 
+use c_unit::read_unit;
 use json_tree::read_json;
 use node_tree::{Bytes, FileView, Lang, List, Mode, Node, ReadFault};
+use py_stmt::read_module;
 use std::alloc::Global;
 use std::str;
 
@@ -20,8 +22,9 @@ fn read_tree(alloc: Global, lang: Lang, text: &str) -> Result<Node, ReadFault>
 {
     match lang {
         Lang::Json => read_json(alloc, text, Mode::Text),
-        Lang::Python => py_text::read_file(alloc, text),
-        _ => Err(ReadFault::NoTree),
+        Lang::Python => read_module(alloc, text),
+        Lang::C => read_unit(alloc, text),
+        Lang::Regex => Err(ReadFault::NoTree),
     }
 }
 

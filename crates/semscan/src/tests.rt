@@ -206,18 +206,78 @@ fn matches_expressions_of_python(rt: HostRuntime) -> Result<(), Fail> {
 }
 
 #[test]
-fn refuses_what_is_no_expression_of_python(rt: HostRuntime) -> Result<(), Fail> {
-    let rows: [(&str, &[u8], Status); 6] = [
+fn matches_statements_of_python(rt: HostRuntime) -> Result<(), Fail> {
+    let calls: &[u8] = b"p()\nq()\na()\nb()\nr()\n";
+    let rows: [(&str, &[u8], &[u8]); 5] = [
+        ("...\na()\nb()\n...", calls, b"0..19\n"),
+        ("a()\nb()", calls, b"8..15\n"),
+        (
+            "def $F(...): ...",
+            b"@d\nasync def f(a): pass\ndef g(): return 1\n",
+            b"0..23 $F=13..14\n24..41 $F=28..29\n",
+        ),
+        (
+            "return",
+            b"def f():\n    return\n    return 1\n",
+            b"13..19\n",
+        ),
+        ("x", b"", b""),
+    ];
+    for (pattern, input, printed) in rows {
+        assert!(rt;
+            gives_in(rt.alloc(), "python", pattern, input, Status::Done, printed)?,
+            "{pattern}"
+        );
+    }
+    Ok(())
+}
+
+#[test]
+fn refuses_what_is_no_python(rt: HostRuntime) -> Result<(), Fail> {
+    let rows: [(&str, &[u8], Status); 8] = [
         ("foo(", b"a\n", Status::BadPattern),
         ("$...A + 1", b"a\n", Status::BadPattern),
         ("...", b"a\n", Status::BadPattern),
-        ("x", b"x = 1\n", Status::BadTarget),
-        ("x", b"x\nx\n", Status::BadTarget),
-        ("x", b"", Status::BadTarget),
+        ("...\n$...A", b"a\n", Status::BadPattern),
+        ("", b"a\n", Status::BadPattern),
+        ("x", b"x = \n", Status::BadTarget),
+        ("x", b"match x:\n    case 1: pass\n", Status::BadTarget),
+        ("x", b"if x:\ny\n", Status::BadTarget),
     ];
     for (pattern, input, status) in rows {
-        assert!(rt; gives_in(rt.alloc(), "python", pattern, input, status, b"")?);
+        assert!(rt; gives_in(rt.alloc(), "python", pattern, input, status, b"")?, "{pattern}");
     }
+    Ok(())
+}
+
+#[test]
+fn matches_c(rt: HostRuntime) -> Result<(), Fail> {
+    let rows: [(&str, &[u8], &[u8]); 4] = [
+        (
+            "strcpy($D, $S)",
+            b"void f(char *s) { char b[4]; strcpy(b, s); }",
+            b"29..41 $D=36..37 $S=39..40\n",
+        ),
+        ("(T)$X", b"void f(void) { g((T)a); }", b"17..21 $X=20..21\n"),
+        (
+            "if (b) x(); else y();",
+            b"void f(void) { if (a) if (b) x(); else y(); }",
+            b"22..43\n",
+        ),
+        (
+            "printf($F, ...)",
+            b"void f(void) { printf(\"%\" PRIu64 \"\\n\", va_arg(p, int)); }",
+            b"15..54 $F=22..37\n",
+        ),
+    ];
+    for (pattern, input, printed) in rows {
+        assert!(rt;
+            gives_in(rt.alloc(), "c", pattern, input, Status::Done, printed)?,
+            "{pattern}"
+        );
+    }
+    assert!(rt; gives_in(rt.alloc(), "c", "1", b"int main( {", Status::BadTarget, b"")?);
+    assert!(rt; gives_in(rt.alloc(), "c", "int main( {", b"", Status::BadPattern, b"")?);
     Ok(())
 }
 

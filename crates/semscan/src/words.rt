@@ -17,6 +17,9 @@ fn lang_of(word: &str) -> Option<Lang>
     if word == "python" {
         return Some(Lang::Python);
     }
+    if word == "c" {
+        return Some(Lang::C);
+    }
     None
 }
 
