@@ -3,3 +3,5 @@ pub mod Places
 pub mod Names
 pub mod BindingOrder
 pub mod Chains
+pub mod Joins
+pub mod Fillings

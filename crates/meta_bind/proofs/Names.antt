@@ -27,19 +27,19 @@ greater Equal e f = absurd cc
 greater Greater e f = refl
 
 -- names that compare as equal are one
-one_name : (a b : List ℕ) → is_eq (name_cmp a b) ≡ true → a ≡ b
+pub one_name : (a b : List ℕ) → is_eq (name_cmp a b) ≡ true → a ≡ b
 one_name a b e = (lists_order nat_cmp nat_order).same a b (tie _ e)
 
 -- a name is below the first of these
-abbrev IsBelow : List ℕ → List Bound → Type 0
+abbrev pub IsBelow : List ℕ → List Bound → Type 0
 IsBelow name [] = Unit {0}
 IsBelow name (c ∷ cs) = name_cmp name c.name ≡ Less
 
-put_first : (b : Bound) (cs : List Bound) → IsBelow b.name cs → NamesAscend cs → NamesAscend (b ∷ cs)
+pub put_first : (b : Bound) (cs : List Bound) → IsBelow b.name cs → NamesAscend cs → NamesAscend (b ∷ cs)
 put_first b [] below up = tt
 put_first b (c ∷ cs) below up = (below, up)
 
-tail_ascends : (b : Bound) (cs : List Bound) → NamesAscend (b ∷ cs) → NamesAscend cs
+pub tail_ascends : (b : Bound) (cs : List Bound) → NamesAscend (b ∷ cs) → NamesAscend cs
 tail_ascends b [] up = tt
 tail_ascends b (c ∷ cs) up = up.1
 

@@ -1,11 +1,13 @@
 //! What the metavariables of a pattern stand for.
 
-ghost use Rattle.std.specs.Prelude.{◌≡◌, ◌≤◌, [], ◌∷◌, ◌++◌, map, length, take, drop, OnOk, OnErr, MatchOption, None, Some, IsTrue, IfSome, ◌↔◌};
+ghost use Rattle.std.specs.Prelude.{◌≡◌, ◌≤◌, [], ◌∷◌, ◌++◌, map, length, take, drop, OnOk, OnErr, IfOk, MatchOption, None, Some, IsTrue, IfSome, ◌↔◌};
 ghost use Rattle.meta_bind.specs.Bounds.{seen, with_bound, bound_at, Agree, NamesAscend};
+ghost use Rattle.meta_bind.specs.Merges.{merged};
 ghost use Rattle.meta_bind.specs.declared.bound.Bound.{Bound as bound_value};
 
 use crate::bound::Bound;
 use crate::name::{is_below, is_same};
+use crate::trail::Trail;
 use node_tree::{List, Memory, Twin, copy_all, same_all};
 use std::alloc::Global;
 use std::marker::Model;
@@ -94,6 +96,11 @@ impl Binding {
         None
     }
 
+    // Where the binding takes its memory.
+    pub fn alloc(&self) -> Global {
+        self.bounds.alloc()
+    }
+
     /// Adds a bound, for a name that isn't bound.
     pub fn bind(&mut self, bound: Bound) -> Result<(), Memory>
         requires { bound_at bound.name self.old ≡ None }
@@ -115,6 +122,15 @@ impl Binding {
             }
         }
         true
+    }
+
+    /// The names of both, for bindings that agree. Of a name that is bound in both the place that begins later is kept, and
+    /// of those the one that ends first.
+    pub fn merge(&self, other: &Binding) -> Result<Binding, Memory>
+        requires { Agree self.now other.now }
+        ensures { IfOk result (λ b. b ≡ merged self.now other.now) }
+    {
+        Trail::of(self)?.merge(&Trail::of(other)?)?.keep()
     }
 }
 

@@ -6,11 +6,16 @@
 
 mod binding;
 mod bound;
+mod finding;
+mod join;
 mod name;
+mod template;
 mod trail;
 
 pub use binding::Binding;
 pub use bound::Bound;
+pub use finding::Finding;
+pub use template::fill;
 pub use trail::{Held, Trail};
 
 #[cfg(test)]

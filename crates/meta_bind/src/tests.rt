@@ -45,3 +45,37 @@ fn bounds_stand_in_order_of_name(rt: HostRuntime) -> Result<(), Fail> {
     assert!(rt; first.agrees(&first.copy()?));
     Ok(())
 }
+
+// A bound of that name to `1` at this range.
+fn bound_at(alloc: Global, name: &str, from: u32, to: u32) -> Result<Bound, Memory> {
+    let mut bound = bound(alloc, name, "1")?;
+    bound.span = Span { from, to };
+    Ok(bound)
+}
+
+#[test]
+fn the_later_place_is_kept(rt: HostRuntime) -> Result<(), Fail> {
+    let alloc = rt.alloc();
+    let mut first = Binding::empty(alloc);
+    add(&mut first, bound_at(alloc, "$X", 0, 1)?)?;
+    add(&mut first, bound_at(alloc, "$Y", 4, 9)?)?;
+    let mut second = Binding::empty(alloc);
+    add(&mut second, bound_at(alloc, "$X", 2, 3)?)?;
+    add(&mut second, bound_at(alloc, "$Y", 4, 5)?)?;
+    add(&mut second, bound_at(alloc, "$Z", 6, 7)?)?;
+    if first.agrees(&second) {
+        let merged = first.merge(&second)?;
+        assert!(rt; merged.bounds().len() == 3);
+        assert!(rt; merged.bounds()[0].span == Span { from: 2, to: 3 });
+        assert!(rt; merged.bounds()[1].span == Span { from: 4, to: 5 });
+    }
+    Ok(())
+}
+
+#[test]
+fn unbound_names_stay(rt: HostRuntime) -> Result<(), Fail> {
+    let alloc = rt.alloc();
+    let text = fill(alloc, "$X $...Y $ é", &Binding::empty(alloc), b"")?;
+    assert!(rt; text.as_str() == "$X $...Y $ é");
+    Ok(())
+}

@@ -1,14 +1,16 @@
 //! A binding that borrows what it binds.
 
-ghost use Rattle.std.specs.Prelude.{◌≡◌, ◌≤◌, [], ◌∷◌, ◌++◌, map, length, take, drop, OnOk, OnErr, IfOk, MatchOption, None, Some, IsTrue, ◌↔◌};
-ghost use Rattle.meta_bind.specs.Bounds.{seen_held, with_bound, bound_at, place_cmp, contents_cmp, binding_cmp, NamesAscend};
+ghost use Rattle.std.specs.Prelude.{◌≡◌, ◌≤◌, [], ◌∷◌, ◌++◌, map, length, take, drop, OnOk, OnErr, IfOk, MatchOption, None, Some, IsTrue, IfSome, ◌↔◌};
+ghost use Rattle.meta_bind.specs.Bounds.{seen_held, with_bound, bound_at, place_cmp, contents_cmp, binding_cmp, NamesAscend, Agree};
+ghost use Rattle.meta_bind.specs.Merges.{merged, extended};
 ghost use Rattle.std.specs.Cmp.Lexicographic.{slice_cmp};
 ghost use Rattle.meta_bind.specs.declared.bound.Bound.{Bound as bound_value};
 
 use crate::binding::Binding;
 use crate::bound::Bound;
+use crate::join::{Keep, join};
 use crate::name::{is_below, is_same};
-use node_tree::{List, Memory, Node, Span, Text, copy_all, order_all};
+use node_tree::{List, Memory, Node, Span, Text, copy_all, order_all, same_all};
 use std::alloc::Global;
 use std::cmp::Ordering;
 use std::marker::Model;
@@ -55,6 +57,16 @@ fn place_of<'t>(held: &[Held<'t>], name: &str) -> usize
         }
     }
     held.len()
+}
+
+// Whether the other binding has no other contents for that name.
+fn is_agreed<'t>(one: &Held<'t>, other: &Trail<'t>) -> bool
+    ensures { IsTrue result ↔ IfSome (bound_at one.now.name.now other.now) (λ c. (seen_held one.now).nodes ≡ c.nodes) }
+{
+    match other.get(one.name) {
+        None => true,
+        Some(same) => same_all(one.run, same.run),
+    }
 }
 
 // By name, then range.
@@ -114,6 +126,60 @@ impl<'t> Trail<'t> {
         Trail {
             held: Vec::new(alloc),
         }
+    }
+
+    /// The binding, borrowed.
+    pub fn of(binding: &'t Binding) -> Result<Trail<'t>, Memory>
+        ensures { IfOk result (λ t. t ≡ binding.now) }
+    {
+        let mut held = Vec::new(binding.alloc());
+        for bound in binding.bounds() {
+            held.push(Held {
+                name: bound.name.as_str(),
+                span: bound.span,
+                run: bound.nodes.as_slice(),
+            })?;
+        }
+        Ok(Trail { held })
+    }
+
+    /// Whether each name that is bound in both stands for the same contents.
+    pub fn agrees(&self, other: &Trail<'t>) -> bool
+        ensures { IsTrue result ↔ Agree self.now other.now }
+    {
+        for one in self.held.as_slice() {
+            if !is_agreed(one, other) {
+                return false;
+            }
+        }
+        true
+    }
+
+    /// The names of both, for bindings that agree. Of a name that is bound in both the place that begins later is kept, and
+    /// of those the one that ends first.
+    pub fn merge(&self, other: &Trail<'t>) -> Result<Trail<'t>, Memory>
+        ensures { IfOk result (λ t. t ≡ merged self.now other.now) }
+    {
+        let held = join(
+            *self.held.allocator(),
+            Keep::Later,
+            self.held.as_slice(),
+            other.held.as_slice(),
+        )?;
+        Ok(Trail { held })
+    }
+
+    /// The names of both. Of a name that is bound in both the place of this binding is kept.
+    pub fn extend(&self, other: &Trail<'t>) -> Result<Trail<'t>, Memory>
+        ensures { IfOk result (λ t. t ≡ extended self.now other.now) }
+    {
+        let held = join(
+            *self.held.allocator(),
+            Keep::First,
+            self.held.as_slice(),
+            other.held.as_slice(),
+        )?;
+        Ok(Trail { held })
     }
 
     /// How many names are bound.

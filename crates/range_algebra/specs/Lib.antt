@@ -1,0 +1,9 @@
+pub mod Ranges
+pub mod Sizes
+pub mod Trees
+pub mod Choices
+pub mod Agreements
+pub mod Joins
+pub mod Conditions
+pub mod Meets
+pub mod Crowds
