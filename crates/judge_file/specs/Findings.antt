@@ -1,7 +1,7 @@
 -- What a rule finds in a file.
-use Rattle.std.specs.Prelude.{◌≡◌, ℕ, List, [], map, codes, Option, None, Some}
+use Rattle.std.specs.Prelude.{◌≡◌, ℕ, List, [], ◌∷◌, ◌++◌, map, codes, Option, None, Some}
 use Rattle.std.specs.Fmt.{decimal}
-use Rattle.std.specs.List.{join_by}
+use Rattle.std.specs.List.{flat_map}
 use Rattle.meta_bind.specs.declared.finding.Finding.{Finding}
 use Rattle.rule_form.specs.declared.formula.Formula.{Formula}
 use Rattle.rule_form.specs.declared.rule.Body.{Body}
@@ -18,9 +18,14 @@ use Rattle.judge_file.specs.declared.found.FoundNotice.TheVariants as notices
 use Rattle.judge_file.specs.declared.outcome.Outcome.{Outcome}
 use Rattle.judge_file.specs.declared.outcome.Outcome.TheVariants.{Findings, Crowded, FlowTooLarge}
 
+-- a `.`, and then the number
+abbrev pub after_dot : ℕ → List ℕ
+after_dot n = codes "." ++ decimal n
+
 -- the numbers, with a `.` between each two
 abbrev pub dotted : List ℕ → List ℕ
-dotted numbers = join_by decimal (codes ".") numbers
+dotted [] = []
+dotted (n ∷ ns) = decimal n ++ flat_map after_dot ns
 
 -- the range and the binding of a member, which comes from no source
 abbrev pub finding_of : Member → Finding

@@ -7,7 +7,7 @@ use Rattle.node_tree.specs.declared.view.Lang.{Lang}
 use Rattle.node_tree.specs.declared.view.Lang.TheVariants.{Regex}
 use Rattle.judge_file.specs.declared.opened.Opened.{Opened}
 use Rattle.judge_file.specs.declared.opened.Opened.TheVariants.{TooLarge, NotUtf8, NoTree, Read}
-use Rattle.judge_file.specs.Reading.{IsPlainTree, IsTreeIn, HasNoTree}
+use Rattle.judge_file.specs.Reading.{plain_tree, IsTreeIn, HasNoTree}
 
 -- the file has these bytes and this tree, and no name in it is known to hold a literal
 pub record IsView (lang : Lang) (bytes : List ℕ) (tree : Node) (view : FileView) : Type 0 where
@@ -25,7 +25,7 @@ IsSmallText bytes = (length bytes ≤ 1000000) × IsUtf8 bytes
 abbrev pub IsOpened : Lang → List ℕ → Opened → Type 0
 IsOpened lang bytes TooLarge = 1000000 < length bytes
 IsOpened lang bytes NotUtf8 = (length bytes ≤ 1000000) × (IsUtf8 bytes → ⊥)
-IsOpened lang bytes (NoTree view) = IsSmallText bytes × HasNoTree lang bytes × IsPlainTree bytes view.tree × IsView Regex bytes view.tree view
+IsOpened lang bytes (NoTree view) = IsSmallText bytes × HasNoTree lang bytes × IsView Regex bytes (plain_tree bytes) view
 IsOpened lang bytes (Read view) = IsSmallText bytes × IsTreeIn lang bytes view.tree × IsView lang bytes view.tree view
 
 -- the text of a file that was read has no tree but the file's

@@ -14,9 +14,12 @@ pub struct Found {
 }
 
 impl Model for Found {
-    ghost use Rattle.judge_file.specs.declared.outcome.Outcome.{Outcome as outcome};
+    ghost use Rattle.judge_file.specs.declared.outcome.Outcome.{Outcome as an_outcome};
+    ghost use Rattle.judge_file.specs.contracts.outcome.Outcome as outcomes;
 
-    ghost Value = { outcome };
+    ghost Value = { an_outcome };
+
+    ghost coded = { outcomes.the_row.coded };
 
     ghost view = { λ f. f.outcome };
 }

@@ -1,32 +1,40 @@
 //! What a rule finds in a file.
 
 ghost use Rattle.std.specs.Prelude.{◌≡◌, ◌<◌, length, map, IfOk, slice_get};
-ghost use Rattle.judge_file.specs.Findings.{finding_of, SearchFinds, PartFinds};
+ghost use Rattle.judge_file.specs.Findings.{finding_of as finding_at, SearchFinds, PartFinds};
 
 use crate::dotted::dotted;
 use crate::found::Found;
 use crate::outcome::Outcome;
-use meta_bind::Finding;
-use node_tree::{FileView, List, Memory, Twin};
+use meta_bind::{Binding, Finding};
+use node_tree::{FileView, List, Memory, Span, Twin};
 use range_algebra::{EvalFault, MatchSet, eval};
 use rule_form::{Body, Formula, Rule};
 use std::alloc::Global;
 use tree_match::Leaf;
 
-// A finding for each member, which comes from no source.
+// The finding of a member, which comes from no source.
+fn finding_of(member: &(Span, Binding)) -> Result<Finding, Memory>
+    ensures { IfOk result (λ finding. finding ≡ finding_at member.now) }
+{
+    let (span, binding) = member;
+    Ok(Finding {
+        span: *span,
+        binding: binding.copy()?,
+        source: None,
+    })
+}
+
+// The finding of each member.
 fn findings_of(alloc: Global, members: &MatchSet) -> Result<List<Finding>, Memory>
-    ensures { IfOk result (λ findings. findings ≡ map finding_of members.now) }
+    ensures { IfOk result (λ findings. findings ≡ map finding_at members.now) }
 {
     let mut findings = List::new(alloc);
     for at in 0..members.len() {
-        let Some((range, binding)) = members.get(at) else {
+        let Some(member) = members.get(at) else {
             unreachable!()
         };
-        findings.push(Finding {
-            span: *range,
-            binding: binding.copy()?,
-            source: None,
-        })?;
+        findings.push(finding_of(member)?)?;
     }
     Ok(findings)
 }

@@ -4,7 +4,7 @@ ghost use Rattle.std.specs.Prelude.{◌≡◌, ◌≤◌, length, IfOk, Some};
 ghost use Rattle.node_tree.specs.Gives.{Gives};
 ghost use Rattle.node_tree.specs.Spans.{SpansLieIn};
 ghost use Rattle.node_tree.specs.declared.node.Node.{Node as node};
-ghost use Rattle.judge_file.specs.Reading.{IsTreeIn, IsPlainTree};
+ghost use Rattle.judge_file.specs.Reading.{IsTreeIn, plain_tree as plain};
 
 use c_unit::read_unit;
 use json_tree::read_json;
@@ -13,9 +13,10 @@ use py_stmt::read_module;
 use std::alloc::Global;
 
 /// The tree of a text that is only searched: one node over all of it. It takes no memory.
+#[tactic(auto, using(crate::proofs::PlainTrees::plain_lies))]
 pub fn plain_tree(alloc: Global, text: &str) -> Node
     requires { length text.now ≤ 1000000 }
-    ensures tree { IsPlainTree text.now result }
+    ensures tree { result ≡ plain text.now }
     ensures placed { SpansLieIn text.now result }
 {
     Node {

@@ -85,7 +85,7 @@ fn searched_texts_are_one_node(rt: HostRuntime) -> Result<(), Fail> {
         assert!(rt; view.tree.kind == Kind::Root);
         assert!(rt; view.tree.kids.is_empty());
         assert_eq!(rt; view.tree.span, Span { from: 0, to: 12 });
-        assert!(rt; view.bytes.as_slice() == b"int main( {\n");
+        assert!(rt; view.bytes.as_slice() == b"int main( {\n".as_slice());
     }
     Ok(())
 }
