@@ -1,2 +1,2 @@
 mod PlainTrees
-mod Dots
+mod Mapped
