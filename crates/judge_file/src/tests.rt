@@ -79,14 +79,14 @@ fn opens_large_files(rt: HostRuntime) -> Result<(), Fail> {
 #[test]
 fn searched_texts_are_one_node(rt: HostRuntime) -> Result<(), Fail> {
     let alloc = rt.alloc();
-    let found = opened::<Brand>(alloc, Blank::new(1), Lang::C, b"int main( {\n")?;
-    assert!(rt; matches!(&found, Opened::NoTree(_)));
-    if let Opened::NoTree(view) = found {
-        assert!(rt; view.tree.kind == Kind::Root);
-        assert!(rt; view.tree.kids.is_empty());
-        assert_eq!(rt; view.tree.span, Span { from: 0, to: 12 });
-        assert!(rt; view.bytes.as_slice() == b"int main( {\n".as_slice());
-    }
+    let Opened::NoTree(view) = opened::<Brand>(alloc, Blank::new(1), Lang::C, b"int main( {\n")?
+    else {
+        return Err(Fail::from(Memory));
+    };
+    assert!(rt; view.tree.kind == Kind::Root);
+    assert!(rt; view.tree.kids.is_empty());
+    assert_eq!(rt; view.tree.span, Span { from: 0, to: 12 });
+    assert!(rt; view.bytes.as_slice() == b"int main( {\n".as_slice());
     Ok(())
 }
 

@@ -65,8 +65,7 @@ pub fn run<S: Source, K: Sink, L: Ledger>(
     if bytes.len() == MOST {
         return Status::OverLimit(LimitKind::Target, MOST as u64);
     }
-    steps.tick();
-    let file = match read_file(alloc, lang, bytes) {
+    let file = match read_file(alloc, lang, bytes.as_slice(), steps) {
         Ok(file) => file,
         Err(ReadFault::Memory) => return Status::Memory,
         Err(ReadFault::NoTree) => return Status::BadTarget,
