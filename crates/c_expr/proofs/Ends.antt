@@ -5,7 +5,7 @@ use Rattle.node_tree.specs.declared.node.Node.{Node}
 use Rattle.node_tree.specs.declared.view.Mode.{Mode}
 use Rattle.node_tree.specs.declared.view.Mode.TheVariants as modes
 use Rattle.node_tree.specs.Spans.{SpansLieIn}
-use Rattle.grammar.specs.Rule.{done, mark, word, ref, deep, again, seq, around, alt, look, choose, opt, must, rep, make, has, Loop, outside, within, Derives, d_done, d_mark, d_word, d_ref, d_deep, d_again, d_rep, d_seq, d_around, d_left, d_right, d_seen, d_unseen, d_chosen, d_unchosen, d_without, d_with, d_barred, d_taken, d_make}
+use Rattle.grammar.specs.Rule.{done, mark, word, ref, deep, again, seq, around, alt, look, choose, opt, must, rep, make, has, Rule, Table, Loop, outside, within, Derives, d_done, d_mark, d_word, d_ref, d_deep, d_again, d_rep, d_seq, d_around, d_left, d_right, d_seen, d_unseen, d_chosen, d_unchosen, d_without, d_with, d_barred, d_taken, d_make}
 use Rattle.grammar.specs.Sets.{nul}
 use Rattle.grammar.proofs.Facts.{true_false, and_both, not_true}
 use Rattle.grammar.proofs.Bounded.{forward, still}
@@ -18,7 +18,7 @@ use Rattle.c_expr.specs.declared.part.Part.{Part}
 use Rattle.c_expr.specs.declared.read.CLevel.{CLevel}
 use Rattle.c_expr.specs.declared.read.CLevel.TheVariants as levels
 use Rattle.c_expr.specs.Words.{class, in_mode, token_of, word_of}
-use Rattle.c_expr.specs.Table.{Level, Comma, CommaTail, Assign, AssignMore, Cond, CondPart, Or, OrOps, OrTail, And, AndOps, AndTail, BitOr, BitOrOps, BitOrTail, BitXor, BitXorOps, BitXorTail, BitAnd, BitAndOps, BitAndTail, Equality, EqualityOps, EqualityTail, Relational, RelationalOps, RelationalTail, Shift, ShiftOps, ShiftTail, Additive, AdditiveOps, AdditiveTail, Multiplicative, MultiplicativeOps, MultiplicativeTail, Cast, Unary, Sizeof, Postfix, PostfixTail, Suffix, Prim, Strings, StringsTail, Deep, Args, ArgsTail, Arg, Tname, Spec, SpecStart, QualifiersTail, Typed, TypedFirst, TypedTail, Group, Body, Enumerators, EnumeratorsTail, Enumerator, Fields, Field, Members, MembersTail, Member, Width, Declr, NamedDirect, DeclrFirst, Nameless, NamelessDirect, Maybe, MaybeDirect, DeclrTail, DeclrPart, Stars, Words, Params, ParamsTail, Param, Var, Init, Inis, InisTail, Ini, Desigs, DesigsTail, Desig, Leaf, Builder, Row, table, grammar}
+use Rattle.c_expr.specs.Table.{Level, Comma, CommaTail, Assign, AssignMore, Cond, CondPart, Or, OrOps, OrTail, And, AndOps, AndTail, BitOr, BitOrOps, BitOrTail, BitXor, BitXorOps, BitXorTail, BitAnd, BitAndOps, BitAndTail, Equality, EqualityOps, EqualityTail, Relational, RelationalOps, RelationalTail, Shift, ShiftOps, ShiftTail, Additive, AdditiveOps, AdditiveTail, Multiplicative, MultiplicativeOps, MultiplicativeTail, Cast, Unary, Sizeof, Postfix, PostfixTail, Suffix, Prim, Strings, StringsTail, Deep, Args, ArgsTail, Arg, Tname, Spec, SpecStart, QualifiersTail, Typed, TypedFirst, TypedTail, Group, Body, Enumerators, EnumeratorsTail, Enumerator, Fields, Field, Members, MembersTail, Member, Width, Declr, NamedDirect, DeclrFirst, Nameless, NamelessDirect, Maybe, MaybeDirect, DeclrTail, DeclrPart, Stars, Words, Params, ParamsTail, Param, Var, Init, Inis, InisTail, Ini, Desigs, DesigsTail, Desig, Leaf, Builder, table, grammar}
 use Rattle.c_expr.specs.Build.{token_at, source}
 use Rattle.c_expr.specs.Sets.{sets, ranks}
 use Rattle.c_expr.specs.Spells.{ArePlaced}
@@ -28,7 +28,7 @@ use Rattle.c_expr.proofs.Passes.{pass}
 use Rattle.c_expr.proofs.Spans.{spans_lie}
 
 -- whether no part of the rule takes the end
-abbrev goes_on : Row → Bool
+abbrev pub goes_on : {L : Type 0} → Rule Leaf Builder L → Bool
 goes_on done = true
 goes_on (mark cs) = not (has cs 0)
 goes_on (word k cs) = not (has cs 0)
@@ -45,11 +45,11 @@ goes_on (must cs r) = goes_on r
 goes_on (rep l r) = goes_on r
 goes_on (make b r) = goes_on r
 
-abbrev goes_round : Loop Leaf Builder Level → Bool
+abbrev goes_round : {L : Type 0} → Loop Leaf Builder L → Bool
 goes_round outside = true
 goes_round (within l r) = goes_on r
 
-no_end : (l : Level) → goes_on (table l) ≡ true
+pub no_end : (l : Level) → goes_on (table l) ≡ true
 unfolding class
 no_end Comma = refl
 no_end CommaTail = refl
@@ -147,17 +147,17 @@ taken cs c h f e = true_false (has cs 0) (rw e at h) (not_true (has cs 0) f)
 earlier_or_later : (a b : ℕ) → (a < b) ⊎ (b ≤ a)
 earlier_or_later a b = grind arith
 
--- no token of a piece is the end
-module _ (ts : List Token) (n : ℕ) (end : (source ts).cls n ≡ 0) where
+-- no token of a piece is the end, by any table of these builders
+module _ {L : Type 0} (rows : Table Leaf Builder L) (none : (l : L) → goes_on (rows l) ≡ true) (ts : List Token) (n : ℕ) (end : (source ts).cls n ≡ 0) where
   at_end : (cs : List ℕ) (i : ℕ) → has cs ((source ts).cls i) ≡ true → not (has cs 0) ≡ true → i ≡ n → ⊥
   at_end cs i h f e = taken cs ((source ts).cls i) h f (ap (λ k. (source ts).cls k) e ∙ end)
 
-  passes_by : {c : Loop Leaf Builder Level} {r : Row} {xs : List Part} {i j : ℕ} → Derives (source ts) table c r xs i j → goes_round c ≡ true → goes_on r ≡ true → i ≤ n → n < j → ⊥
+  passes_by : {c : Loop Leaf Builder L} {r : Rule Leaf Builder L} {xs : List Part} {i j : ℕ} → Derives (source ts) rows c r xs i j → goes_round c ≡ true → goes_on r ≡ true → i ≤ n → n < j → ⊥
   passes_by (d_done e s) f h le lt = omega (arith, s, le, lt)
   passes_by (d_mark {cs = cs} {i = i} g e s) f h le lt = at_end cs i g h (omega (arith, s, le, lt))
   passes_by (d_word {cs = cs} {i = i} g e s) f h le lt = at_end cs i g h (omega (arith, s, le, lt))
-  passes_by (d_ref {l = l} d) f h le lt = passes_by d refl (no_end l) le lt
-  passes_by (d_deep {l = l} d) f h le lt = passes_by d refl (no_end l) le lt
+  passes_by (d_ref {l = l} d) f h le lt = passes_by d refl (none l) le lt
+  passes_by (d_deep {l = l} d) f h le lt = passes_by d refl (none l) le lt
   passes_by (d_again d) f h le lt = passes_by d f f le lt
   passes_by (d_rep d) f h le lt = passes_by d h h le lt
   passes_by (d_seq {r = r} {s = s} k ys zs d e q) f h le lt = let p : _ = and_both (goes_on r) (goes_on s) h in elim (earlier_or_later n k) [
@@ -200,7 +200,7 @@ module _ (ts : List Token) (n : ℕ) (end : (source ts).cls n ≡ 0) where
 
 -- ---- the tokens of the scanner
 
-placed : (mode : Mode) (text : List ℕ) (from : ℕ) (ts : List CToken) → TokensLie text from ts → ArePlaced text from (map (token_of mode) ts)
+pub placed : (mode : Mode) (text : List ℕ) (from : ℕ) (ts : List CToken) → TokensLie text from ts → ArePlaced text from (map (token_of mode) ts)
 placed mode text from [] h = tt
 placed mode text from (t ∷ ts) h = (h.0, h.1, placed mode text t.span.to ts h.2)
 
@@ -218,9 +218,9 @@ one_more mode [] t = refl
 one_more mode (u ∷ front) t = ap suc (one_more mode front t)
 
 -- a piece ends before the end, or at it
-ends_within : (mode : Mode) (ts : List CToken) (front : List CToken) (t : CToken) (l : Level) (xs : List Part) (i j : ℕ) → ts ≡ front ++ t ∷ [] → t.word ≡ lexed.End → Derives (source (map (token_of mode) ts)) table outside (table l) xs i j → i ≤ length front → j ≤ length (map (token_of mode) ts) → j < length (map (token_of mode) ts)
-ends_within mode ts front t l xs i j all h d le short = elim (earlier_or_later (length front) j) [
-  | inl past ↦ absurd (passes_by (map (token_of mode) ts) (length front) last d refl (no_end l) le past)
+pub ends_within : {L : Type 0} (rows : Table Leaf Builder L) (none : (l : L) → goes_on (rows l) ≡ true) (mode : Mode) (ts : List CToken) (front : List CToken) (t : CToken) (l : L) (xs : List Part) (i j : ℕ) → ts ≡ front ++ t ∷ [] → t.word ≡ lexed.End → Derives (source (map (token_of mode) ts)) rows outside (rows l) xs i j → i ≤ length front → j ≤ length (map (token_of mode) ts) → j < length (map (token_of mode) ts)
+ends_within rows none mode ts front t l xs i j all h d le short = elim (earlier_or_later (length front) j) [
+  | inl past ↦ absurd (passes_by rows none (map (token_of mode) ts) (length front) last d refl (none l) le past)
   | inr before ↦ omega (arith, before, size)
 ]
   where
@@ -250,7 +250,7 @@ tree_lies mode ts l from n to text a r = elim (earlier_or_later (length a.front)
   | inl past ↦
       let same : from ≡ to = omega (arith, past, onward, r.within, size) in
       true_false (nul sets None (table (level_of l))) (still (source (map (token_of mode) ts)) table sets grammatical r.run.piece.spelled None (record {}) (grammatical.clear (level_of l)) same) (something l)
-  | inr before ↦ (spans_lie text (map (token_of mode) ts) (level_of l) (record { node = n; depth = r.depth } ∷ []) from to (placed mode text 0 ts a.lie) (ends_within mode ts a.front a.last (level_of l) (record { node = n; depth = r.depth } ∷ []) from to a.all a.end r.run.piece.spelled before r.within) r.run.piece).0
+  | inr before ↦ (spans_lie text (map (token_of mode) ts) (level_of l) (record { node = n; depth = r.depth } ∷ []) from to (placed mode text 0 ts a.lie) (ends_within table no_end mode ts a.front a.last (level_of l) (record { node = n; depth = r.depth } ∷ []) from to a.all a.end r.run.piece.spelled before r.within) r.run.piece).0
 ]
   where
     grammatical : IsGrammar sets table

@@ -11,13 +11,15 @@ use Rattle.node_tree.specs.Spans.{SpansLieIn}
 use Rattle.node_tree.specs.Tree.{kind_of, text_of, kids_of, span_of}
 use Rattle.node_tree.proofs.Nodes.{made_kids, made_span}
 use Rattle.node_tree.proofs.SpanLaws.{AllLieIn, none_lie, more_lie, node_lies}
-use Rattle.grammar.specs.Rule.{Loop, Rule, Derives, d_done, d_mark, d_word, d_ref, d_deep, d_again, d_rep, d_seq, d_around, d_left, d_right, d_seen, d_unseen, d_chosen, d_unchosen, d_without, d_with, d_barred, d_taken, d_make}
+use Rattle.grammar.specs.Rule.{Loop, Rule, Table, Derives, d_done, d_mark, d_word, d_ref, d_deep, d_again, d_rep, d_seq, d_around, d_left, d_right, d_seen, d_unseen, d_chosen, d_unchosen, d_without, d_with, d_barred, d_taken, d_make}
+use Rattle.grammar.specs.Sets.{Sets}
 use Rattle.grammar.proofs.Facts.{and_both}
 use Rattle.grammar.proofs.Bounded.{forward}
+use Rattle.grammar.proofs.Spelled.{IsGrammar}
 use Rattle.grammar.proofs.Checked.{is_grammar}
 use Rattle.c_expr.specs.declared.word.Token.{Token}
 use Rattle.c_expr.specs.declared.part.Part.{Part}
-use Rattle.c_expr.specs.Table.{Level, Leaf, Builder, Over, Named, TypeWords, Spellings, Pointer, Chain, Rootless, Joined, Widened, table, grammar}
+use Rattle.c_expr.specs.Table.{Leaf, Builder, Over, Named, TypeWords, Spellings, Pointer, Chain, Rootless, Joined, Widened, table, grammar}
 use Rattle.c_expr.specs.Build.{token_at, start_of, end_of, span_between, node, empty_at, absent, may_be_bare, settled, settled_all, nodes, tallest, padded, over, grafted, graft_all, is_spelling, spelled_more, gathered, built, leaf, leaf_kind, leaf_text, source}
 use Rattle.c_expr.specs.Sets.{sets, ranks}
 use Rattle.c_expr.specs.Spells.{ArePlaced, PartsLieIn, SpansLie}
@@ -140,7 +142,7 @@ same_node text from p depth g = record { spans = g.spans; kids = g.kids; span = 
 -- ---- what builders make
 
 module _ (text : List ℕ) (ts : List Token) (placed : ArePlaced text 0 ts) where
-  span_lies : (i j : ℕ) → i ≤ j → j < length ts → LiesIn text (span_between ts i j)
+  pub span_lies : (i j : ℕ) → i ≤ j → j < length ts → LiesIn text (span_between ts i j)
   span_lies i j le lt = by (ltb i j) refl
     where
       piece : i < j → LiesIn text (record { from = start_of ts i; to = end_of ts j })
@@ -179,42 +181,48 @@ module _ (text : List ℕ) (ts : List Token) (placed : ArePlaced text 0 ts) wher
   built_good Widened i j [] le lt h = absent_good text (start_of ts i) (begins i (omega arith))
   built_good Widened i j (p ∷ ps) le lt h = same_node text (start_of ts i) p _ h.0
 
-  onward : {c : Loop Leaf Builder Level} {r : Rule Leaf Builder Level} {xs : List Part} {i j : ℕ} → Derives (source ts) table c r xs i j → i ≤ j
-  onward d = forward (source ts) table sets (is_grammar grammar sets ranks pass) d
-
   starts : (i j : ℕ) → i ≤ j → j < length ts → start_of ts i ≤ start_of ts j
   starts i j le lt = (in_order text 0 ts i j placed le lt).0
 
   take : (from : ℕ) (xs ys : List Part) → xs ≡ ys → AllGood text from ys → AllGood text from xs
   take from xs ys e h = subst (λ (ps : List Part). AllGood text from ps) (sym e) h
 
-  good : {c : Loop Leaf Builder Level} {r : Rule Leaf Builder Level} {xs : List Part} {i j : ℕ} → Derives (source ts) table c r xs i j → j < length ts → AllGood text (start_of ts i) xs
-  good {xs = xs} {i = i} (d_done e s) lt = take (start_of ts i) xs [] e tt
-  good {xs = xs} {i = i} (d_mark g e s) lt = take (start_of ts i) xs [] e tt
-  good {xs = xs} {i = i} (d_word {k = l} g e s) lt = take (start_of ts i) xs (leaf ts l i ∷ []) e (leaf_good l i (omega (arith, s)), tt)
-  good (d_ref d) lt = good d lt
-  good (d_deep d) lt = good d lt
-  good (d_again d) lt = good d lt
-  good (d_rep d) lt = good d lt
-  good {xs = xs} {i = i} {j = j} (d_seq m ys zs d e q) lt = take (start_of ts i) xs (ys ++ zs) q (both text (start_of ts i) ys zs (good d (omega (arith, onward e))) (later text (start_of ts i) (start_of ts m) zs (starts i m (onward d) (omega (arith, onward e))) (good e lt)))
-  good {xs = xs} {i = i} (d_around m g d g' s) lt = later text (start_of ts i) (start_of ts (suc i)) xs (starts i (suc i) (omega arith) (omega (arith, s, onward d))) (good d (omega (arith, s)))
-  good (d_left d) lt = good d lt
-  good (d_right d) lt = good d lt
-  good {xs = xs} {i = i} {j = j} (d_seen {w = l} {b = b} ys g g' d s) lt =
-      take (start_of ts i) xs (built ts b i j (leaf ts l i ∷ ys) ∷ []) s
-      (built_good b i j (leaf ts l i ∷ ys) (omega (arith, onward d)) lt (leaf_good l i (omega (arith, onward d)), later text (start_of ts i) (start_of ts (suc (suc i))) ys (starts i (suc (suc i)) (omega arith) (omega (arith, onward d))) (good d lt)), tt)
-  good (d_unseen g d) lt = good d lt
-  good (d_chosen g d) lt = good d lt
-  good (d_unchosen g d) lt = good d lt
-  good {xs = xs} {i = i} (d_without e s) lt = take (start_of ts i) xs [] e tt
-  good (d_with d) lt = good d lt
-  good {xs = xs} {i = i} (d_barred g e s) lt = take (start_of ts i) xs [] e tt
-  good (d_taken d) lt = good d lt
-  good {xs = xs} {i = i} {j = j} (d_make {b = b} ys d s) lt = take (start_of ts i) xs (built ts b i j ys ∷ []) s (built_good b i j ys (onward d) lt (good d lt), tt)
+  -- any table of these builders
+  module _ {L : Type 0} (S : Sets L) (rows : Table Leaf Builder L) (is : IsGrammar S rows) where
+    onward : {c : Loop Leaf Builder L} {r : Rule Leaf Builder L} {xs : List Part} {i j : ℕ} → Derives (source ts) rows c r xs i j → i ≤ j
+    onward d = forward (source ts) rows S is d
+
+    good : {c : Loop Leaf Builder L} {r : Rule Leaf Builder L} {xs : List Part} {i j : ℕ} → Derives (source ts) rows c r xs i j → j < length ts → AllGood text (start_of ts i) xs
+    good {xs = xs} {i = i} (d_done e s) lt = take (start_of ts i) xs [] e tt
+    good {xs = xs} {i = i} (d_mark g e s) lt = take (start_of ts i) xs [] e tt
+    good {xs = xs} {i = i} (d_word {k = l} g e s) lt = take (start_of ts i) xs (leaf ts l i ∷ []) e (leaf_good l i (omega (arith, s)), tt)
+    good (d_ref d) lt = good d lt
+    good (d_deep d) lt = good d lt
+    good (d_again d) lt = good d lt
+    good (d_rep d) lt = good d lt
+    good {xs = xs} {i = i} {j = j} (d_seq m ys zs d e q) lt = take (start_of ts i) xs (ys ++ zs) q (both text (start_of ts i) ys zs (good d (omega (arith, onward e))) (later text (start_of ts i) (start_of ts m) zs (starts i m (onward d) (omega (arith, onward e))) (good e lt)))
+    good {xs = xs} {i = i} (d_around m g d g' s) lt = later text (start_of ts i) (start_of ts (suc i)) xs (starts i (suc i) (omega arith) (omega (arith, s, onward d))) (good d (omega (arith, s)))
+    good (d_left d) lt = good d lt
+    good (d_right d) lt = good d lt
+    good {xs = xs} {i = i} {j = j} (d_seen {w = l} {b = b} ys g g' d s) lt =
+        take (start_of ts i) xs (built ts b i j (leaf ts l i ∷ ys) ∷ []) s
+        (built_good b i j (leaf ts l i ∷ ys) (omega (arith, onward d)) lt (leaf_good l i (omega (arith, onward d)), later text (start_of ts i) (start_of ts (suc (suc i))) ys (starts i (suc (suc i)) (omega arith) (omega (arith, onward d))) (good d lt)), tt)
+    good (d_unseen g d) lt = good d lt
+    good (d_chosen g d) lt = good d lt
+    good (d_unchosen g d) lt = good d lt
+    good {xs = xs} {i = i} (d_without e s) lt = take (start_of ts i) xs [] e tt
+    good (d_with d) lt = good d lt
+    good {xs = xs} {i = i} (d_barred g e s) lt = take (start_of ts i) xs [] e tt
+    good (d_taken d) lt = good d lt
+    good {xs = xs} {i = i} {j = j} (d_make {b = b} ys d s) lt = take (start_of ts i) xs (built ts b i j ys ∷ []) s (built_good b i j ys (onward d) lt (good d lt), tt)
 
 lie : (text : List ℕ) (from : ℕ) (ps : List Part) → AllGood text from ps → PartsLieIn text ps
 lie text from [] h = tt
 lie text from (p ∷ ps) h = (h.0.spans, lie text from ps h.1)
 
+-- the same of what any table of these builders derives
+pub derived_lie : (text : List ℕ) (ts : List Token) {L : Type 0} (S : Sets L) (rows : Table Leaf Builder L) {c : Loop Leaf Builder L} {r : Rule Leaf Builder L} {ps : List Part} {i j : ℕ} → ArePlaced text 0 ts → IsGrammar S rows → Derives (source ts) rows c r ps i j → j < length ts → PartsLieIn text ps
+derived_lie text ts S rows {ps = ps} {i = i} placed is d lt = lie text (start_of ts i) ps (good text ts placed S rows is d lt)
+
 pub spans_lie : SpansLie
-spans_lie text ts l ps i j placed lt s = lie text (start_of ts i) ps (good text ts placed s.spelled lt)
+spans_lie text ts l ps i j placed lt s = derived_lie text ts sets table placed (is_grammar grammar sets ranks pass) s.spelled lt

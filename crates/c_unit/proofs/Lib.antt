@@ -1,6 +1,10 @@
 pub mod Passes
 pub mod Steps
 pub mod Rounds
+pub mod Nested
 pub mod Curlies
 pub mod Alike
 pub mod Wholes
+pub mod Placing
+pub mod Patterns
+pub mod Pieces

@@ -47,8 +47,13 @@ labelled_more ts room ps qs p n m i j h begins read pushed less = rw (rest_turn 
 pub labelled_last : (ts : List Token) (room : ℕ) (ps qs : List Part) (p : Part) (n i j : ℕ) → zero < n → marks (cut_source ts).cls i ≡ false → level ts room Statement i ≡ Some (p ∷ [], j) → qs ≡ ps ++ p ∷ [] → along ps (rest ts room Labelled n i) ≡ Some (qs, j)
 labelled_last ts room ps qs p n i j h ends read pushed = rw (rest_turn ts room Labelled n i h) (rw (ends, read, pushed) refl)
 
+-- behind a mark, which gives no part
+nothing_before : (p : Part) (r : Got) → ◌>>=◌ {B = List Part × ℕ} (◌>>=◌ {B = List Part × ℕ} r (λ y. Some (p ∷ y.0, y.1))) (λ y. Some (y.0, y.1)) ≡ ◌>>=◌ {B = List Part × ℕ} r (λ y. Some (p ∷ y.0, y.1))
+nothing_before p None = refl
+nothing_before p (Some y) = refl
+
 pub vars_more : (ts : List Token) (room : ℕ) (ps qs : List Part) (p : Part) (n m i j : ℕ) → zero < n → eqb (class w.Comma) (class (token_at ts i).word) ≡ true → level ts room (Expression e.Var) (i + 1) ≡ Some (p ∷ [], j) → qs ≡ ps ++ p ∷ [] → n - 1 ≡ m → along ps (rest ts room VarsTail n i) ≡ along qs (rest ts room VarsTail m j)
-vars_more ts room ps qs p n m i j h comma read pushed less = rw (rest_turn ts room VarsTail n i h) (rw (comma, (rw add-one at read)) (one_pushed (rest ts room VarsTail) ps qs p (n - 1) m j pushed less))
+vars_more ts room ps qs p n m i j h comma read pushed less = rw (rest_turn ts room VarsTail n i h) (rw (comma, (rw add-one at read)) (ap (along ps) (nothing_before p (rest ts room VarsTail (n - 1) j)) ∙ one_pushed (rest ts room VarsTail) ps qs p (n - 1) m j pushed less))
 
 -- ---- one part more at the end
 

@@ -1,21 +1,22 @@
 -- What is read of a whole text is what its tokens spell, and what they spell is read.
-use Rattle.std.proofs.Common.{◌≡◌, ℕ, zero, suc, ◌<◌, ◌≤◌, List, [], ◌∷◌, length, refl, sym, ap, ◌∙◌, arith, Option, Some, None, Bool, true, false}
-use Rattle.std.specs.Prelude.{eqb}
-use Rattle.grammar.specs.Rule.{has, Derives, outside, d_make}
+use Rattle.std.proofs.Common.{◌≡◌, ℕ, zero, suc, ◌<◌, ◌≤◌, List, [], ◌∷◌, length, refl, sym, ap, subst, ◌∙◌, arith, Option, Some, None, Bool, true, false}
+use Rattle.std.specs.Prelude.{eqb, Result}
+use Rattle.node_tree.specs.declared.fault.ReadFault.{ReadFault}
+use Rattle.node_tree.specs.Gives.{Gives}
+use Rattle.grammar.specs.Rule.{has}
 use Rattle.grammar.specs.Reader.{read_level}
 use Rattle.grammar.proofs.Theorem.{read_piece, piece_read}
 use Rattle.c_expr.specs.declared.word.Word.TheVariants.{End}
 use Rattle.c_expr.specs.declared.word.Token.{Token}
 use Rattle.c_expr.specs.declared.part.Part.{Part}
 use Rattle.c_expr.specs.Words.{class}
-use Rattle.c_expr.specs.Table.{Comma, Chain}
-use Rattle.c_expr.specs.Build.{token_at, tallest, built, source, cut_source}
+use Rattle.c_expr.specs.Build.{token_at, tallest, source, cut_source}
 use Rattle.c_expr.specs.Reading.{round_at}
 use Rattle.c_expr.proofs.Depths.{deepens}
 use Rattle.c_unit.proofs.Alike.{levels_alike, cut_reads, uncut_reads}
 use Rattle.c_unit.specs.declared.whole.Whole.{Whole}
 use Rattle.c_unit.specs.declared.whole.Whole.TheVariants as wholes
-use Rattle.c_unit.specs.Table.{Level, Expression, table, grammar}
+use Rattle.c_unit.specs.Table.{Level, grammar}
 use Rattle.c_unit.specs.Sets.{sets, ranks}
 use Rattle.c_unit.specs.Reading.{level}
 use Rattle.c_unit.specs.Units.{level_of, IsAll}
@@ -63,6 +64,26 @@ is_end ts end h = same (class End) (class (token_at ts end).word) h
     same : (a b : ℕ) → eqb a b ≡ true → b ≡ a
     same a b e = grind arith
 
--- an expression is one part
-pub one_expression : (ts : List Token) (ps : List Part) (i j : ℕ) → Derives (source ts) table outside (table (Expression Comma)) ps i j → (p : Part) × (ps ≡ p ∷ [])
-one_expression ts ps i j (d_make ys d e) = (built ts Chain i j ys, e)
+-- ---- what a reading gives, against what all tokens are
+
+-- what reading gives, it gives for all that the tokens are
+pub same_read : {X : Type 0} (view : X → List Part × ℕ) (given : Result X ReadFault) (r : Whole) (ts : List Token) (ps : List Part) (end : ℕ) → IsAll (level_of r) ts ps end → Gives view given (level ts 1002 (level_of r) 0) → Gives view given (Some (ps, end))
+same_read view given r ts ps end a g = subst (λ (o : Option (List Part × ℕ)). Gives view given o) (all_is_read r ts ps end a) g
+
+-- all that the tokens are is what was read
+pub one_reading : (r : Whole) (ts : List Token) (ps qs : List Part) (i j : ℕ) → IsAll (level_of r) ts ps i → level ts 1002 (level_of r) 0 ≡ Some (qs, j) → (ps ≡ qs) × (i ≡ j)
+one_reading r ts ps qs i j a h =
+    let k : ◌≡◌ {A = Option (List Part × ℕ)} (Some (ps, i)) (Some (qs, j)) = sym (all_is_read r ts ps i a) ∙ h in
+    let e : ◌≡◌ {A = List Part × ℕ} (ps, i) (qs, j) = cc in
+    (ap (λ (x : List Part × ℕ). x.0) e, ap (λ (x : List Part × ℕ). x.1) e)
+
+-- nothing that the tokens are goes past one that stands inside too many brackets
+pub not_past : (r : Whole) (ts : List Token) (ps : List Part) (end shallow : ℕ) → IsAll (level_of r) ts ps end → (shallow < length ts → 500 < round_at ts 0 shallow) → shallow < end → ⊥
+not_past r ts ps end shallow a many lt = omega (arith, many (omega (arith, lt, a.within)), all_is_bracketed r ts ps end a shallow lt)
+
+-- an end of the tokens is where the test says so
+pub no_end : (ts : List Token) (end : ℕ) → eqb (class End) (class (token_at ts end).word) ≡ false → class (token_at ts end).word ≡ class End → ⊥
+no_end ts end h e = other (class End) (class (token_at ts end).word) h e
+  where
+    other : (a b : ℕ) → eqb a b ≡ false → b ≡ a → ⊥
+    other a b f g = grind arith

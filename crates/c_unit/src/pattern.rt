@@ -2,6 +2,7 @@
 
 ghost use Rattle.std.specs.Prelude.{◌≡◌, ◌≤◌, length, IfOk, Some};
 ghost use Rattle.node_tree.specs.Gives.{Gives};
+ghost use Rattle.node_tree.specs.Spans.{SpansLieIn};
 ghost use Rattle.node_tree.specs.declared.node.Node.{Node as a_node};
 ghost use Rattle.node_tree.specs.declared.view.Shape.{Shape as a_shape};
 ghost use Rattle.c_unit.specs.Units.{level_of, IsExpression, IsRun, IsPattern};
@@ -49,6 +50,8 @@ pub fn read_c_pattern(alloc: Global, text: &str) -> Result<(Shape, Node), ReadFa
     requires { length text.now ≤ 1000000 }
     // What is read is the pattern that the text is.
     ensures found { IfOk result (λ x. IsPattern text.now x.0 x.1) }
+    // The spans of its tree lie in the text, and cut no character of it.
+    ensures placed { IfOk result (λ x. SpansLieIn text.now x.1) }
     // Each pattern that the text is, is the one that is read, unless memory runs out. So there is at most one.
     ensures only { (s : a_shape) (n : a_node) → IsPattern text.now s n → Gives (λ x. x) result (Some (s, n)) }
 {

@@ -218,6 +218,7 @@ fn refuses_files(rt: HostRuntime) -> Result<(), Fail> {
         ("}", "none"),
         ("int f() { } }", "none"),
         ("int f() {", "none"),
+        ("int main( {", "none"),
         ("int a, ;", "none"),
         ("if (a) x();", "none"),
         ("/* int x;", "none"),
@@ -375,6 +376,14 @@ fn tells_declarations(rt: HostRuntime) -> Result<(), Fail> {
             "If[Name(a) Block[ExprStmt[Binary(*)[Name(T) Name(b)]]] Absent]",
         ),
         ("T * const p;", "none"),
+        (
+            "g((T)a);",
+            "ExprStmt[Call[Name(g) List[Cast[TypeName[TypeSpec(T) Absent] Name(a)]]]]",
+        ),
+        (
+            "printf(\"%\" PRIu64 \"\\n\", va_arg(p, int));",
+            "ExprStmt[Call[Name(printf) List[StrJoin[Str(\"%) Name(PRIu64) Str(\"\\n)] Call[Name(va_arg) List[Name(p) TypeName[TypeSpec(int) Absent]]]]]]",
+        ),
     ];
     all_items(&rt, rt.alloc(), &rows)
 }
@@ -627,7 +636,7 @@ fn keeps_the_limits(rt: HostRuntime) -> Result<(), Fail> {
 #[test]
 fn reads_many_items(rt: HostRuntime) -> Result<(), Fail> {
     let alloc = rt.alloc();
-    assert!(rt; is_file(alloc, repeated(alloc, "int x;", 100_000, "", "")?.as_str())?);
+    assert!(rt; is_file(alloc, repeated(alloc, "int x;", 20_000, "", "")?.as_str())?);
     Ok(())
 }
 
@@ -637,7 +646,7 @@ fn refuses_many_functions(rt: HostRuntime) -> Result<(), Fail> {
     assert!(rt;
         !is_file(
             alloc,
-            repeated(alloc, "int f() {", 100_000, "", "")?.as_str()
+            repeated(alloc, "int f() {", 20_000, "", "")?.as_str()
         )?
     );
     Ok(())
@@ -649,7 +658,7 @@ fn refuses_many_blocks(rt: HostRuntime) -> Result<(), Fail> {
     assert!(rt;
         !is_file(
             alloc,
-            repeated(alloc, "int f() { if (a) {", 50_000, "", "")?.as_str()
+            repeated(alloc, "int f() { if (a) {", 20_000, "", "")?.as_str()
         )?
     );
     Ok(())
@@ -660,7 +669,7 @@ fn refuses_many_loops(rt: HostRuntime) -> Result<(), Fail> {
     let alloc = rt.alloc();
     let mut text = String::new(alloc);
     text.push_str("int f() {")?;
-    text.push_str(repeated(alloc, "for (;;) ", 100_000, ";", "")?.as_str())?;
+    text.push_str(repeated(alloc, "for (;;) ", 20_000, ";", "")?.as_str())?;
     text.push_str("}")?;
     assert!(rt; !is_file(alloc, text.as_str())?);
     Ok(())
@@ -669,6 +678,6 @@ fn refuses_many_loops(rt: HostRuntime) -> Result<(), Fail> {
 #[test]
 fn refuses_many_parameters(rt: HostRuntime) -> Result<(), Fail> {
     let alloc = rt.alloc();
-    assert!(rt; !is_file(alloc, repeated(alloc, "int f(", 100_000, "", "")?.as_str())?);
+    assert!(rt; !is_file(alloc, repeated(alloc, "int f(", 20_000, "", "")?.as_str())?);
     Ok(())
 }

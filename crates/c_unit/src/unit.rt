@@ -2,9 +2,11 @@
 
 ghost use Rattle.std.specs.Prelude.{◌≡◌, ◌≤◌, List as list, length, IfOk, Some};
 ghost use Rattle.node_tree.specs.Gives.{Gives};
+ghost use Rattle.node_tree.specs.Spans.{SpansLieIn};
 ghost use Rattle.node_tree.specs.declared.node.Node.{Node as a_node};
 ghost use Rattle.c_lex.specs.declared.token.CToken.{CToken as c_token};
 ghost use Rattle.c_lex.specs.Lexing.{IsTokensOf};
+ghost use Rattle.c_lex.specs.Places.{AreTokensIn};
 ghost use Rattle.c_expr.specs.Build.{nodes};
 ghost use Rattle.c_unit.specs.Units.{IsUnit};
 
@@ -21,6 +23,7 @@ pub const ITEM_DEPTH: u32 = 499;
 pub fn lexed(alloc: Global, text: &str, mode: Mode) -> Result<List<CToken>, ReadFault>
     requires { length text.now ≤ 1000000 }
     ensures given { IfOk result (λ l. IsTokensOf mode text.now l) }
+    ensures placed { IfOk result (AreTokensIn text.now) }
     ensures only { (ts : list c_token) → IsTokensOf mode text.now ts → Gives (λ l. l) result (Some ts) }
 {
     match c_tokens(alloc, text, mode) {
@@ -50,6 +53,8 @@ pub fn read_unit(alloc: Global, text: &str) -> Result<Node, ReadFault>
     requires { length text.now ≤ 1000000 }
     // What is read is the tree of the file.
     ensures found { IfOk result (IsUnit text.now) }
+    // Its spans lie in the text, and cut no character of it.
+    ensures placed { IfOk result (SpansLieIn text.now) }
     // Each tree of the file is the one that is read, unless memory runs out. So there is at most one.
     ensures only { (n : a_node) → IsUnit text.now n → Gives (λ m. m) result (Some n) }
 {

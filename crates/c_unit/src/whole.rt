@@ -57,13 +57,13 @@ fn first_end(tokens: &[Token<'_>]) -> usize
 }
 
 /// How deep the deepest of some parts is.
-#[tactic(auto, using(crate::proofs::Rounds::tallest_more))]
-fn deepest(parts: &[Part]) -> u32
+fn deepest(mut parts: &[Part]) -> u32
     ensures { result ≡ tallest parts.now }
 {
     let mut depth = 0;
-    for part in parts {
+    while let [part, rest @ ..] = parts {
         depth = depth.max(part.depth);
+        parts = rest;
     }
     depth
 }

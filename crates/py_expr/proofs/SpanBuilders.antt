@@ -35,13 +35,13 @@ divided : (text : List ℕ) (n : Node) (ns : List Node) → AllLieIn text (n ∷
 divided text n ns h = subst (λ (ms : List Node). All (Within text) ms) (flat_map-cons pre_of n ns) h
 
 -- some nodes lie where each does
-first_lies : (text : List ℕ) (n : Node) (ns : List Node) → AllLieIn text (n ∷ ns) → SpansLieIn text n
+pub first_lies : (text : List ℕ) (n : Node) (ns : List Node) → AllLieIn text (n ∷ ns) → SpansLieIn text n
 first_lies text n ns h = some_left (Within text) (pre_of n) (pre_all ns) (divided text n ns h)
 
 rest_lie : (text : List ℕ) (n : Node) (ns : List Node) → AllLieIn text (n ∷ ns) → AllLieIn text ns
 rest_lie text n ns h = some_right (Within text) (pre_of n) (pre_all ns) (divided text n ns h)
 
-both_lie : (text : List ℕ) (xs ys : List Node) → AllLieIn text xs → AllLieIn text ys → AllLieIn text (xs ++ ys)
+pub both_lie : (text : List ℕ) (xs ys : List Node) → AllLieIn text xs → AllLieIn text ys → AllLieIn text (xs ++ ys)
 both_lie text [] ys h g = g
 both_lie text (x ∷ xs) ys h g = more_lie text x (xs ++ ys) (first_lies text x xs h) (both_lie text xs ys (rest_lie text x xs h) g)
 
@@ -56,7 +56,7 @@ opened text n h = subst (λ (ms : List Node). All (Within text) ms) (pre_is n) h
 pub span_lies : (text : List ℕ) (n : Node) → SpansLieIn text n → LiesIn text (span_of n)
 span_lies text n h = All-head (Within text) n (pre_all (kids_of n)) (opened text n h)
 
-kids_lie : (text : List ℕ) (n : Node) → SpansLieIn text n → AllLieIn text (kids_of n)
+pub kids_lie : (text : List ℕ) (n : Node) → SpansLieIn text n → AllLieIn text (kids_of n)
 kids_lie text n h = All-tail (Within text) n (pre_all (kids_of n)) (opened text n h)
 
 pub at_place : (text : List ℕ) (at : ℕ) → IsCharBoundary text at → LiesIn text (record { from = at; to = at })

@@ -37,11 +37,11 @@ use Rattle.py_expr.proofs.SpanBuilders.{over_lies, span_lies, at_place, Lie, joi
 -- ---- items
 
 -- items lie in the text, one behind the other, and so do the nodes inside them
-abbrev ItemsLie : List ℕ → ℕ → List Item → ℕ → Type 0
+abbrev pub ItemsLie : List ℕ → ℕ → List Item → ℕ → Type 0
 ItemsLie text from [] to = from ≤ to
 ItemsLie text from (t ∷ ts) to = (from ≤ t.span.from) × LiesIn text t.span × AllLieIn text t.inside × ItemsLie text t.span.to ts to
 
-item_lies : (text : List ℕ) (from to : ℕ) (ts : List Item) (n : ℕ) → ItemsLie text from ts to → n < length ts → (from ≤ (token_at ts n).span.from) × LiesIn text (token_at ts n).span × AllLieIn text (token_at ts n).inside
+pub item_lies : (text : List ℕ) (from to : ℕ) (ts : List Item) (n : ℕ) → ItemsLie text from ts to → n < length ts → (from ≤ (token_at ts n).span.from) × LiesIn text (token_at ts n).span × AllLieIn text (token_at ts n).inside
 item_lies text from to [] n h lt = absurd (omega arith)
 item_lies text from to (t ∷ ts) zero h lt = (h.0, h.1, h.2)
 item_lies text from to (t ∷ ts) (suc n) h lt = let r = item_lies text t.span.to to ts n h.3 (omega arith) in (omega (arith, h.0, h.1.ordered, r.0), r.1, r.2)
@@ -54,11 +54,11 @@ in_order text from to (t ∷ ts) (suc i) zero h le lt = absurd (omega arith)
 in_order text from to (t ∷ ts) (suc i) (suc j) h le lt = in_order text t.span.to to ts i j h.3 (omega arith) (omega arith)
 
 -- behind where each item up to a place begins
-abbrev After : List Item → ℕ → ℕ → Type 0
+abbrev pub After : List Item → ℕ → ℕ → Type 0
 After ts i to = (h : ℕ) → h ≤ i → h < length ts → (token_at ts h).span.from ≤ to
 
 -- all builders but this stand over a token at least
-abbrev wide : Builder → Bool
+abbrev pub wide : Builder → Bool
 wide Further = false
 wide b = true
 
@@ -93,7 +93,7 @@ module _ (text : List ℕ) (to : ℕ) (ts : List Item) (lie : ItemsLie text 0 ts
   built_lies Further i j ps lt le h = (nodes_lie text (After ts i) ps h, tt)
   built_lies b i j ps lt le h = over_piece b i j ps (lt refl) le h
 
-  keeps : Keeps (source ts) wide (length ts) (λ i j. Lie text (After ts i))
+  pub keeps : Keeps (source ts) wide (length ts) (λ i j. Lie text (After ts i))
   keeps = record {
     nothing = λ i j le le'. tt;
     leaf = λ l i lt. part_lies l i lt;
@@ -308,9 +308,11 @@ inside_lies : (levels : ℕ) (mode : Mode) (text : List ℕ) (ps : List FPart) (
 inside_lies zero mode text ps ns from to h a = absurd a
 inside_lies (suc levels) mode text ps ns from to h a = parts_row text mode (InsideLies levels text) (HasNodes levels mode) (λ qs ms from to. inside_lies levels mode text qs ms from to) ps ns from to h a
 
+-- The items of tokens lie in the text in which the tokens lie.
+pub text_items_lie : (mode : Mode) (ts : List PyToken) (is : List Item) (text : List ℕ) → AreTokensIn text ts → AreItems (HasNodes 500 mode) mode ts is → ItemsLie text 0 is (length text)
+text_items_lie mode ts is text h are = items_lie text mode (InsideLies 500 text) (HasNodes 500 mode) (λ qs ms from to. inside_lies 500 mode text qs ms from to) ts is 0 (length text) (h 500) are
+
 -- The spans of a run's tree lie in the text in which the tokens lie.
 pub tree_lies : (mode : Mode) (ts : List PyToken) (l : PyLevel) (from : ℕ) (n : Node) (to : ℕ) (text : List ℕ) → AreTokensIn text ts → IsTree mode ts l from n to → SpansLieIn text n
 tree_lies mode ts l from n to text h r =
-    spelled_lies text (length text) r.items (level_at l) n from to
-    (items_lie text mode (InsideLies 500 text) (HasNodes 500 mode) (λ qs ms from to. inside_lies 500 mode text qs ms from to) ts r.items 0 (length text) (h 500) r.are)
-    r.reads.run.piece.spelled r.reads.within
+    spelled_lies text (length text) r.items (level_at l) n from to (text_items_lie mode ts r.items text h r.are) r.reads.run.piece.spelled r.reads.within

@@ -21,8 +21,8 @@ pub use item::Item;
 pub use level::PyLevel;
 pub use limits::{LIMIT, is_shallow, shallow_end};
 pub use look::{
-    end_before, is, is_comma, is_dots, is_name, start_at, starts_arg, starts_param,
-    starts_star, starts_test, word_at,
+    end_before, is, is_comma, is_dots, is_name, start_at, starts_arg, starts_param, starts_star,
+    starts_test, word_at,
 };
 pub use run::{read_level, read_py};
 pub use word::Word;

@@ -473,7 +473,10 @@ pub fn is_operator(items: &[Item<'_>], at: usize, level: Binary) -> bool
         Binary::Ampersand => matches!(word_at(items, at), Word::Ampersand),
         Binary::Shift => matches!(word_at(items, at), Word::Shift),
         Binary::Sign => matches!(word_at(items, at), Word::Sign),
-        Binary::Factor => matches!(word_at(items, at), Word::Times | Word::Slash | Word::Factor | Word::At),
+        Binary::Factor => matches!(
+            word_at(items, at),
+            Word::Times | Word::Slash | Word::Factor | Word::At
+        ),
     }
 }
 

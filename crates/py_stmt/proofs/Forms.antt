@@ -335,6 +335,7 @@ from_listless ts room i j t ns h origin list = from_behind ts room i j t ns h or
     by_word : (x : List Part) → level ts room Origin (suc i) ≡ Some (x, j) → eqb (class w.From) (class (token_at ts i).word) ≡ true → (b : Bool) → eqb (class w.Import) (class (token_at ts j).word) ≡ b → row ts room (table FromImport) i ≡ None
     by_word x is mark true word = rw (mark, is, word, rw add-one at list) refl
     by_word x is mark false word = rw (mark, is, word) refl
+
     by_mark : (x : List Part) → level ts room Origin (suc i) ≡ Some (x, j) → (b : Bool) → eqb (class w.From) (class (token_at ts i).word) ≡ b → row ts room (table FromImport) i ≡ None
     by_mark x is true mark = by_word x is mark (eqb (class w.Import) (class (token_at ts j).word)) refl
     by_mark x is false mark = rw mark refl

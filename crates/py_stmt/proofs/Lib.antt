@@ -1,6 +1,7 @@
 pub mod Passes
 pub mod Among
 pub mod Colons
+pub mod Defined
 pub mod Ends
 pub mod Steps
 pub mod Rounds
@@ -8,3 +9,9 @@ pub mod Forms
 pub mod Orders
 pub mod Suites
 pub mod Compounds
+pub mod Filled
+pub mod Depths
+pub mod Spans
+pub mod Wholes
+pub mod Modules
+pub mod Patterns

@@ -129,7 +129,7 @@ module _ (ts : List Item) (room : ℕ) (cs : List ℕ) (l q : Level) (n : ℕ) (
       let R : ℕ → Option (List Part × ℕ) = rest ts room q (rows.parted cs l) (n - 1) in
       let Y : Option (List Part × ℕ) = cond {A = Option (List Part × ℕ)} (has (sets.first l) (class (token_at ts (suc i)).word)) (◌>>=◌ {B = List Part × ℕ} (level ts room l (suc i)) (λ u. ◌>>=◌ {B = List Part × ℕ} (R u.1) (λ v. Some (u.0 ++ v.0, v.1)))) (Some ([], suc i)) in
       rw less (along_more o (rest ts room q (rows.parted cs l) n i) (R j) ks (x ∷ []) ls first
-          (parted_turn ts room cs l q n i by some ∙ (taken (has cs (class (token_at ts i).word)) Y (Some ([], i)) mark ∙ once (has (sets.first l) (class (token_at ts (suc i)).word)) (level ts room l (suc i)) (Some ([], suc i)) R (x ∷ []) j (rw next at starts) (rw next at item))) more)
+      (parted_turn ts room cs l q n i by some ∙ (taken (has cs (class (token_at ts i).word)) Y (Some ([], i)) mark ∙ once (has (sets.first l) (class (token_at ts (suc i)).word)) (level ts room l (suc i)) (Some ([], suc i)) R (x ∷ []) j (rw next at starts) (rw next at item))) more)
     where
       taken : (c : Bool) (X Z : Option (List Part × ℕ)) → c ≡ true → cond {A = Option (List Part × ℕ)} c X Z ≡ X
       taken c X Z h = rw h refl
@@ -232,7 +232,7 @@ module _ (ts : List Item) (room n i : ℕ) (o : Option (List ℕ × Bool × ℕ)
       let next : i + 1 ≡ suc i = omega arith in
       let two : j ≡ suc (suc i) = omega arith in
       rw (less, two, more, next) (first ∙ (ap (pointed_behind t) (signs_turn ts room n i some ∙ once_sign (has (class w.Dot ∷ []) (class (token_at ts i).word)) (row ts room rows.further_part i) (Some ([], i)) (rest ts room DottedTail (looped rows.further_part) (n - 1)) (token_at ts (suc i)).text (suc (suc i)) (has_one (class w.Dot) (class (token_at ts i).word) true dot) (part_read ts room i dot (rw next at name)))
-          ∙ pushed_part (rest ts room DottedTail (looped rows.further_part) (n - 1) (suc (suc i))) t (token_at ts (suc i)).text))
+      ∙ pushed_part (rest ts room DottedTail (looped rows.further_part) (n - 1) (suc (suc i))) t (token_at ts (suc i)).text))
 
   pub pointed_end : o ≡ pointed_behind t (rest ts room DottedTail (looped rows.further_part) n i) → eqb (class w.Dot) (class (token_at ts i).word) ≡ false → o ≡ Some (t, true, i)
   pointed_end first dot = first ∙ (ap (pointed_behind t) (signs_turn ts room n i some ∙ never (has (class w.Dot ∷ []) (class (token_at ts i).word)) (◌>>=◌ {B = List Part × ℕ} (row ts room rows.further_part i) (λ u. ◌>>=◌ {B = List Part × ℕ} (rest ts room DottedTail (looped rows.further_part) (n - 1) u.1) (λ v. Some (u.0 ++ v.0, v.1)))) (Some ([], i)) (has_one (class w.Dot) (class (token_at ts i).word) false dot)) ∙ ap (λ (xs : List ℕ). Some (xs, true, i)) (append-nil t))

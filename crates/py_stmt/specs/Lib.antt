@@ -2,3 +2,4 @@ pub mod Table
 pub mod Build
 pub mod Sets
 pub mod Reading
+pub mod Modules

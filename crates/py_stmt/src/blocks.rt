@@ -6,7 +6,7 @@ ghost use Rattle.py_stmt.specs.Reading as reading;
 ghost use Rattle.py_stmt.specs.Table.{Stmts, Stmt, Suite, Compound};
 
 use crate::build::plain;
-use crate::compound::{if_statement, tried, while_loop, for_loop, with_block};
+use crate::compound::{for_loop, if_statement, tried, while_loop, with_block};
 use crate::definitions::{class, decorated, function, waited};
 use crate::line::line;
 use crate::look::{starts_compound, starts_statement};
@@ -113,7 +113,10 @@ pub fn suite(
     if !is(items, end, Word::Dedent) {
         return Err(ReadFault::NoTree);
     }
-    Ok((plain(alloc, items, Kind::Block, at + 2, end, kids)?, end + 1))
+    Ok((
+        plain(alloc, items, Kind::Block, at + 2, end, kids)?,
+        end + 1,
+    ))
 }
 
 /// A compound statement.

@@ -10,8 +10,10 @@ use crate::build::{plain, statement};
 use crate::compound::{body, for_rest, with_rest};
 use crate::expression::expression;
 use crate::items::{bases, decorators, parameters};
-use node_tree::{Kind, List, Node, ReadFault, Text};
-use py_expr::{Item, PyLevel, Word, absent, empty_list, ident, is, is_name, one, start_at, text_at};
+use node_tree::{Kind, List, Node, ReadFault};
+use py_expr::{
+    Item, PyLevel, Word, absent, empty_list, ident, is, is_name, one, start_at, text_at,
+};
 use std::alloc::Global;
 
 /// `"def" rest`
@@ -170,11 +172,17 @@ pub fn waited(
     let text = text_at(alloc, items, at)?;
     if is(items, at + 1, Word::For) {
         let (kids, end) = for_rest(alloc, items, room, at + 2)?;
-        return Ok((statement(alloc, items, Kind::For, text, at, end, kids)?, end));
+        return Ok((
+            statement(alloc, items, Kind::For, text, at, end, kids)?,
+            end,
+        ));
     }
     if is(items, at + 1, Word::With) {
         let (kids, end) = with_rest(alloc, items, room, at + 2)?;
-        return Ok((statement(alloc, items, Kind::With, text, at, end, kids)?, end));
+        return Ok((
+            statement(alloc, items, Kind::With, text, at, end, kids)?,
+            end,
+        ));
     }
     if !is(items, at + 1, Word::Def) {
         return Err(ReadFault::NoTree);
@@ -182,7 +190,10 @@ pub fn waited(
     let from = start_at(items, at);
     let kids = one(alloc, empty_list(alloc, from))?;
     let (kids, end) = def_rest(alloc, items, room, from, kids, at + 2)?;
-    Ok((statement(alloc, items, Kind::FunctionDef, text, at, end, kids)?, end))
+    Ok((
+        statement(alloc, items, Kind::FunctionDef, text, at, end, kids)?,
+        end,
+    ))
 }
 
 /// Decorators, and the function or the class that they stand before.
@@ -211,7 +222,10 @@ pub fn decorated(
         }
         let text = text_at(alloc, items, end)?;
         let (kids, end) = def_rest(alloc, items, room, from, kids, end + 2)?;
-        return Ok((statement(alloc, items, Kind::FunctionDef, text, at, end, kids)?, end));
+        return Ok((
+            statement(alloc, items, Kind::FunctionDef, text, at, end, kids)?,
+            end,
+        ));
     }
     if is(items, end, Word::Def) {
         let (kids, end) = def_rest(alloc, items, room, from, kids, end + 1)?;

@@ -1,4 +1,4 @@
-//! Python's statements: from tokens to the tree of a module, and to that of a pattern.
+//! Python's statements: from a text to the tree of its module, and to the pattern that it is.
 //!
 //! The grammar is a table over the levels of expressions (`specs/Table.antt`), a row for each line of it.
 #![tactic(auto)]
@@ -13,5 +13,14 @@ mod imports;
 mod items;
 mod line;
 mod look;
+mod module;
+mod pattern;
 mod series;
 mod simple;
+mod whole;
+
+pub use module::read_module;
+pub use pattern::read_py_pattern;
+
+#[cfg(test)]
+mod tests;

@@ -112,29 +112,13 @@ const WORDED: [Word; 7] = [
     Word::Assert,
 ];
 
-const NAMING: [Word; 4] = [
-    Word::From,
-    Word::Global,
-    Word::Nonlocal,
-    Word::Import,
-];
+const NAMING: [Word; 4] = [Word::From, Word::Global, Word::Nonlocal, Word::Import];
 
-const DOTTED: [Word; 2] = [
-    Word::Name,
-    Word::Meta,
-];
+const DOTTED: [Word; 2] = [Word::Name, Word::Meta];
 
-const ALIAS: [Word; 4] = [
-    Word::Name,
-    Word::Meta,
-    Word::Dots,
-    Word::MetaDots,
-];
+const ALIAS: [Word; 4] = [Word::Name, Word::Meta, Word::Dots, Word::MetaDots];
 
-const BRANCHES: [Word; 2] = [
-    Word::Else,
-    Word::Elif,
-];
+const BRANCHES: [Word; 2] = [Word::Else, Word::Elif];
 
 /// Whether one of these words stands there.
 #[tactic(auto, using(crate::proofs::Among::has_more))]

@@ -10,12 +10,10 @@ use crate::annotated::annotates;
 use crate::build::{plain, statement, unless_dots};
 use crate::expression::{assigned, expression, marked, some_exprs, value};
 use crate::imports::{from_import, import};
-use crate::series::{Series, declared, further};
 use crate::look::{starts_naming, starts_worded};
+use crate::series::{Series, declared, further};
 use node_tree::{Kind, List, Memory, Node, ReadFault};
-use py_expr::{
-    Item, PyLevel, Word, is, is_comma, one, starts_test, text_at, two,
-};
+use py_expr::{Item, PyLevel, Word, is, is_comma, one, starts_test, text_at, two};
 use std::alloc::Global;
 
 /// A simple statement.

@@ -1,4 +1,4 @@
-use Rattle.std.proofs.Common.{arith, sym, refl, true, false, zero, suc, length, ◌∙◌, ◌-◌, ◌+◌, ◌++◌, ◌∷◌, []}
+use Rattle.std.proofs.Common.{arith, sym, refl, ap, true, false, zero, suc, length, ◌∙◌, ◌-◌, ◌+◌, ◌++◌, ◌∷◌, []}
 use Rattle.node_tree.specs.declared.kind.Kind.TheVariants as k
 use Rattle.grammar.specs.Rule.{ref}
 use Rattle.py_expr.specs.declared.word.Word.TheVariants as words
@@ -8,10 +8,11 @@ use Rattle.py_stmt.specs.Table.{Stmt, StmtsTail, Handler, HandlersTail, TryRest,
 use Rattle.py_stmt.specs.Reading as reading
 use Rattle.py_stmt.specs.Reading.{level}
 use Rattle.py_stmt.proofs.Rounds as by
-use Rattle.py_stmt.proofs.Rounds.{chained_more, chained_end, chained_lost, along_turned, has_one}
+use Rattle.py_stmt.proofs.Rounds.{chained_more, chained_end, chained_lost, along_turned, has_one, statements_rest}
 use Rattle.py_stmt.proofs.Forms.{passed_on, collected_some, collected_none}
-use Rattle.py_stmt.proofs.Suites.{gives_same, stmts_read, suite_line, suite_block, if_alone, if_more, branches_alone, branches_more, else_alone, else_more, while_read, while_none, for_rest_read, for_read, with_read, tried_over, def_over, class_over, over_read, over_lost}
+use Rattle.py_stmt.proofs.Suites.{gives_same, stmts_read, suite_line, suite_block, if_alone, if_more, branches_alone, branches_more, else_alone, else_more, while_read, while_none, for_rest_read, for_read, with_read, tried_over, def_over, class_over, waited_for, waited_with, waited_over, decorated_async, decorated_def, decorated_class, over_read, over_lost}
 use Rattle.py_stmt.proofs.Compounds.{body_read, branches_else, else_read, finally_read, else_kid, handlers_read, handler_read, handler_none, handler_open, try_finally, try_no_else, try_no_finally, handled_alone, handled_finally, handled_none, handled_no_else, handled_no_finally}
+use Rattle.py_stmt.proofs.Defined.{class_rest_read, def_rest_read, def_rest_no_body}
 use Rattle.py_stmt.proofs.+blocks.Goals as goal
 
 pub blocks::statements-returns-clause-gives : goal.blocks::statements-returns-clause-gives
@@ -27,8 +28,23 @@ pub blocks::more_statements-loop-turn-preserved : goal.blocks::more_statements-l
 blocks::more_statements-loop-turn-preserved t c = record {
   within = c.in_ok-more.ensures.within;
   turns = omega arith;
-  rest = chained_more c.args.items.now c.args.room Stmt StmtsTail (suc (length c.args.items.now) - c.loop-turn.turn) _ c.loop-turn.end c.in_ok-more.next _ c.loop-turn.kids c.in_ok-more.more _ by.statements c.loop-turn.invariant.rest (omega arith) (omega arith) (sym c.if-not-starts_statement.ensures) c.in_ok-more.ensures.gives c.in_ok-append.ensures;
+  rest = chained_more c.args.items.now c.args.room Stmt StmtsTail (suc (length c.args.items.now) - c.loop-turn.turn) _ c.loop-turn.end c.in_ok-more.next _ c.loop-turn.kids c.in_ok-more.more _ by.statements c.loop-turn.invariant.rest (omega arith) (omega arith) (sym c.if-not-starts_statement.ensures) c.in_ok-more.ensures.gives c.in_ok-kids.ensures;
 }
+
+pub blocks::more_statements-loop-turn-init : goal.blocks::more_statements-loop-turn-init
+blocks::more_statements-loop-turn-init t c = record {
+  within = omega arith;
+  turns = omega arith;
+  rest = ap (reading.along c.args.kids) (statements_rest c.args.items.now c.args.room c.args.at (suc (length c.args.items.now) - zero) (omega arith));
+}
+
+pub blocks::more_statements-returns-clause-gives : goal.blocks::more_statements-returns-clause-gives
+blocks::more_statements-returns-clause-gives t c = elim c.loop-turn-test.branch [
+  | goal.blocks::more_statements-else-loop-turn-test w ↦ along_turned c.args.items.now c.args.room StmtsTail (looped (ref Stmt)) (suc (length c.args.items.now) - c.loop-turn.turn) c.loop-turn.end _ c.loop-turn.kids c.loop-turn.invariant.rest (omega arith)
+  | goal.blocks::more_statements-then-loop-turn-test+else-not-starts_statement+in_ok-more+in_ok-kids+else-turn-turn-end w ↦ along_turned c.args.items.now c.args.room StmtsTail (looped (ref Stmt)) zero w.in_ok-more.next _ (c.loop-turn.kids ++ w.in_ok-more.more)
+      (chained_more c.args.items.now c.args.room Stmt StmtsTail (suc (length c.args.items.now) - c.loop-turn.turn) zero c.loop-turn.end w.in_ok-more.next _ c.loop-turn.kids w.in_ok-more.more (c.loop-turn.kids ++ w.in_ok-more.more) by.statements c.loop-turn.invariant.rest (omega arith) (omega arith) (sym w.if-not-starts_statement.ensures) w.in_ok-more.ensures.gives refl)
+      refl
+]
 
 pub blocks::suite-returns-then-not-is-clause-gives : goal.blocks::suite-returns-then-not-is-clause-gives
 blocks::suite-returns-then-not-is-clause-gives t c = suite_line c.args.items.now c.args.room c.args.at c.in_ok-kids.end c.in_ok-kids.kids c.in_ok-plain.field-0 (grind (arith, c.if-room-eq0.false)) (sym c.if-not-is.ensures.test) c.in_ok-kids.ensures.gives c.in_ok-plain.ensures
@@ -161,3 +177,42 @@ definitions::class-returns-clause-gives t c = class_over c.args.items.now c.args
 
 pub definitions::class-returns-in_err-kids-2-clause-gives : goal.definitions::class-returns-in_err-kids-2-clause-gives
 definitions::class-returns-in_err-kids-2-clause-gives t c = passed_on reading.one reading.kids_alone c.from_residual-in_err-kids-2.result c.in_err-kids-2.field-0.0 _ _ c.from_residual-in_err-kids-2.ensures.1 (rw (c.in_ok-kids.ensures, c.empty_list.ensures, c.start_at-from.ensures) at c.in_err-kids-2.ensures.gives) (λ none. class_over c.args.items.now c.args.room c.args.at (grind (arith, c.if-room-eq0.false)) (sym c.if-not-is.ensures.test) ∙ over_lost c.args.items.now k.ClassDef c.args.at [] (empty_list (token_at c.args.items.now c.args.at).span.from ∷ []) (level c.args.items.now c.args.room ClassRest (c.args.at + 1)) (token_at c.args.items.now c.args.at).span.from none)
+
+pub definitions::class_rest-returns-clause-gives : goal.definitions::class_rest-returns-clause-gives
+definitions::class_rest-returns-clause-gives t c = class_rest_read c.args.items.now c.args.room c.args.from c.args.at c.in_ok-ident.field-0 c.args.kids (grind (arith, c.if-room-eq0.false)) (sym c.if-not-is_name.ensures.test) c.in_ok-ident.ensures c.in_ok-list.end c.in_ok-block.end c.in_ok-list.list c.in_ok-block.block _ _ _ c.in_ok-list.ensures.gives c.in_ok-block.ensures.gives c.in_ok-push.ensures.ok c.in_ok-push-2.ensures.ok c.in_ok-push-3.ensures.ok
+
+pub definitions::def_rest-returns-clause-gives : goal.definitions::def_rest-returns-clause-gives
+definitions::def_rest-returns-clause-gives t c = def_rest_read c.args.items.now c.args.room c.args.from c.args.at c.in_ok-ident.field-0 c.args.kids (grind (arith, c.if-room-eq0.false)) (sym c.if-not-is_name.ensures.test) c.in_ok-ident.ensures c.in_ok-list.end c.in_ok-returns.end c.in_ok-block.end c.in_ok-list.list c.in_ok-returns.returns c.in_ok-block.block _ _ _ _ c.in_ok-list.ensures.gives c.in_ok-returns.ensures.gives c.in_ok-block.ensures.gives c.in_ok-push.ensures.ok c.in_ok-push-2.ensures.ok c.in_ok-push-3.ensures.ok c.in_ok-push-4.ensures.ok
+
+pub definitions::def_rest-returns-in_err-block-clause-gives : goal.definitions::def_rest-returns-in_err-block-clause-gives
+definitions::def_rest-returns-in_err-block-clause-gives t c = passed_on reading.kids_alone reading.one c.from_residual-in_err-block.result c.in_err-block.field-0.0 _ _ c.from_residual-in_err-block.ensures.1 c.in_err-block.ensures.gives (λ none. def_rest_no_body c.args.items.now c.args.room c.args.from c.args.at c.in_ok-ident.field-0 c.args.kids (grind (arith, c.if-room-eq0.false)) (sym c.if-not-is_name.ensures.test) c.in_ok-ident.ensures c.in_ok-list.end c.in_ok-returns.end c.in_ok-list.list c.in_ok-returns.returns c.in_ok-list.ensures.gives c.in_ok-returns.ensures.gives none)
+
+pub definitions::waited-returns-then-is-clause-gives : goal.definitions::waited-returns-then-is-clause-gives
+definitions::waited-returns-then-is-clause-gives t c = waited_for c.args.items.now c.args.room c.args.at c.in_ok-kids.end c.in_ok-kids.kids c.in_ok-statement.field-0 (grind (arith, c.if-room-eq0.false)) (sym c.if-not-is.ensures.test) (sym c.if-is.ensures.test) c.in_ok-kids.ensures.gives (rw c.in_ok-text.ensures at c.in_ok-statement.ensures)
+
+pub definitions::waited-returns-then-is-2-clause-gives : goal.definitions::waited-returns-then-is-2-clause-gives
+definitions::waited-returns-then-is-2-clause-gives t c = waited_with c.args.items.now c.args.room c.args.at c.in_ok-kids-2.end c.in_ok-kids-2.kids c.in_ok-statement-2.field-0 (grind (arith, c.if-room-eq0.false)) (sym c.if-not-is.ensures.test) (sym c.if-is.ensures.test) (sym c.if-is-2.ensures.test) c.in_ok-kids-2.ensures.gives (rw c.in_ok-text.ensures at c.in_ok-statement-2.ensures)
+
+pub definitions::waited-returns-clause-gives : goal.definitions::waited-returns-clause-gives
+definitions::waited-returns-clause-gives t c = waited_over c.args.items.now c.args.room c.args.at (grind (arith, c.if-room-eq0.false)) (sym c.if-not-is.ensures.test) (sym c.if-is.ensures.test) (sym c.if-is-2.ensures.test) (sym c.if-not-is-2.ensures.test) ∙ over_read c.args.items.now k.FunctionDef c.args.at c.in_ok-kids-4.end (token_at c.args.items.now c.args.at).text (empty_list (token_at c.args.items.now c.args.at).span.from ∷ []) c.in_ok-kids-4.kids c.in_ok-statement-3.field-0 (level c.args.items.now c.args.room DefRest (c.args.at + 2)) (token_at c.args.items.now c.args.at).span.from refl (rw (c.in_ok-kids-3.ensures, c.empty_list.ensures, c.start_at-from.ensures) at c.in_ok-kids-4.ensures.gives) (rw c.in_ok-text.ensures at c.in_ok-statement-3.ensures)
+
+pub definitions::decorated-returns-then-is-clause-gives : goal.definitions::decorated-returns-then-is-clause-gives
+definitions::decorated-returns-then-is-clause-gives t c = decorated_async c.args.items.now c.args.room c.args.at c.in_ok-list.end c.in_ok-list.list (grind (arith, c.if-room-eq0.false)) c.in_ok-list.ensures.gives (sym c.if-is.ensures.test) (sym c.if-not-is.ensures.test) ∙ over_read c.args.items.now k.FunctionDef c.args.at c.in_ok-kids-2.end (token_at c.args.items.now c.in_ok-list.end).text (c.in_ok-list.list ∷ []) c.in_ok-kids-2.kids c.in_ok-statement.field-0 (level c.args.items.now c.args.room DefRest (c.in_ok-list.end + 2)) c.start_at-from.result c.start_at-from.ensures (rw c.in_ok-kids.ensures at c.in_ok-kids-2.ensures.gives) (rw c.in_ok-text.ensures at c.in_ok-statement.ensures)
+
+pub definitions::decorated-returns-then-is-2-clause-gives : goal.definitions::decorated-returns-then-is-2-clause-gives
+definitions::decorated-returns-then-is-2-clause-gives t c = decorated_def c.args.items.now c.args.room c.args.at c.in_ok-list.end c.in_ok-list.list (grind (arith, c.if-room-eq0.false)) c.in_ok-list.ensures.gives (sym c.if-is.ensures.test) (sym c.if-is-2.ensures.test) ∙ over_read c.args.items.now k.FunctionDef c.args.at c.in_ok-kids-3.end [] (c.in_ok-list.list ∷ []) c.in_ok-kids-3.kids c.in_ok-plain.field-0 (level c.args.items.now c.args.room DefRest (c.in_ok-list.end + 1)) c.start_at-from.result c.start_at-from.ensures (rw c.in_ok-kids.ensures at c.in_ok-kids-3.ensures.gives) c.in_ok-plain.ensures
+
+pub definitions::decorated-returns-clause-gives : goal.definitions::decorated-returns-clause-gives
+definitions::decorated-returns-clause-gives t c = decorated_class c.args.items.now c.args.room c.args.at c.in_ok-list.end c.in_ok-list.list (grind (arith, c.if-room-eq0.false)) c.in_ok-list.ensures.gives (sym c.if-is.ensures.test) (sym c.if-is-2.ensures.test) (sym c.if-not-is-2.ensures.test) ∙ over_read c.args.items.now k.ClassDef c.args.at c.in_ok-kids-4.end [] (c.in_ok-list.list ∷ []) c.in_ok-kids-4.kids c.in_ok-plain-2.field-0 (level c.args.items.now c.args.room ClassRest (c.in_ok-list.end + 1)) c.start_at-from.result c.start_at-from.ensures (rw c.in_ok-kids.ensures at c.in_ok-kids-4.ensures.gives) c.in_ok-plain-2.ensures
+
+pub definitions::decorated-returns-in_err-kids-2-clause-gives : goal.definitions::decorated-returns-in_err-kids-2-clause-gives
+definitions::decorated-returns-in_err-kids-2-clause-gives t c = passed_on reading.one reading.kids_alone c.from_residual-in_err-kids-2.result c.in_err-kids-2.field-0.0 _ _ c.from_residual-in_err-kids-2.ensures.1 (rw c.in_ok-kids.ensures at c.in_err-kids-2.ensures.gives) (λ none. decorated_async c.args.items.now c.args.room c.args.at c.in_ok-list.end c.in_ok-list.list (grind (arith, c.if-room-eq0.false)) c.in_ok-list.ensures.gives (sym c.if-is.ensures.test) (sym c.if-not-is.ensures.test) ∙ over_lost c.args.items.now k.FunctionDef c.args.at (token_at c.args.items.now c.in_ok-list.end).text (c.in_ok-list.list ∷ []) (level c.args.items.now c.args.room DefRest (c.in_ok-list.end + 2)) c.start_at-from.result none)
+
+pub definitions::decorated-returns-in_err-kids-3-clause-gives : goal.definitions::decorated-returns-in_err-kids-3-clause-gives
+definitions::decorated-returns-in_err-kids-3-clause-gives t c = passed_on reading.one reading.kids_alone c.from_residual-in_err-kids-3.result c.in_err-kids-3.field-0.0 _ _ c.from_residual-in_err-kids-3.ensures.1 (rw c.in_ok-kids.ensures at c.in_err-kids-3.ensures.gives) (λ none. decorated_def c.args.items.now c.args.room c.args.at c.in_ok-list.end c.in_ok-list.list (grind (arith, c.if-room-eq0.false)) c.in_ok-list.ensures.gives (sym c.if-is.ensures.test) (sym c.if-is-2.ensures.test) ∙ over_lost c.args.items.now k.FunctionDef c.args.at [] (c.in_ok-list.list ∷ []) (level c.args.items.now c.args.room DefRest (c.in_ok-list.end + 1)) c.start_at-from.result none)
+
+pub definitions::decorated-returns-in_err-kids-4-clause-gives : goal.definitions::decorated-returns-in_err-kids-4-clause-gives
+definitions::decorated-returns-in_err-kids-4-clause-gives t c = passed_on reading.one reading.kids_alone c.from_residual-in_err-kids-4.result c.in_err-kids-4.field-0.0 _ _ c.from_residual-in_err-kids-4.ensures.1 (rw c.in_ok-kids.ensures at c.in_err-kids-4.ensures.gives) (λ none. decorated_class c.args.items.now c.args.room c.args.at c.in_ok-list.end c.in_ok-list.list (grind (arith, c.if-room-eq0.false)) c.in_ok-list.ensures.gives (sym c.if-is.ensures.test) (sym c.if-is-2.ensures.test) (sym c.if-not-is-2.ensures.test) ∙ over_lost c.args.items.now k.ClassDef c.args.at [] (c.in_ok-list.list ∷ []) (level c.args.items.now c.args.room ClassRest (c.in_ok-list.end + 1)) c.start_at-from.result none)
+
+pub definitions::waited-returns-in_err-kids-4-clause-gives : goal.definitions::waited-returns-in_err-kids-4-clause-gives
+definitions::waited-returns-in_err-kids-4-clause-gives t c = passed_on reading.one reading.kids_alone c.from_residual-in_err-kids-4.result c.in_err-kids-4.field-0.0 _ _ c.from_residual-in_err-kids-4.ensures.1 (rw (c.in_ok-kids-3.ensures, c.empty_list.ensures, c.start_at-from.ensures) at c.in_err-kids-4.ensures.gives) (λ none. waited_over c.args.items.now c.args.room c.args.at (grind (arith, c.if-room-eq0.false)) (sym c.if-not-is.ensures.test) (sym c.if-is.ensures.test) (sym c.if-is-2.ensures.test) (sym c.if-not-is-2.ensures.test) ∙ over_lost c.args.items.now k.FunctionDef c.args.at (token_at c.args.items.now c.args.at).text (empty_list (token_at c.args.items.now c.args.at).span.from ∷ []) (level c.args.items.now c.args.room DefRest (c.args.at + 2)) (token_at c.args.items.now c.args.at).span.from none)

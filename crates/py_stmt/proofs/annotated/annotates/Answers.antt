@@ -13,19 +13,19 @@ returns-then-is c = sym (ended c.args.items.now zero c.loop-turn.end zero _ (tab
 pub loop-turn-preserved : goal.loop-turn-preserved
 loop-turn-preserved c = elim c.if-is_among.branch [
   | then-is_among w ↦ record {
-      few = omega (arith, w.open-is);
-      rest = opened c.args.items.now _ c.loop-turn.end _ _ (table.most - c.loop-turn.turn) c.loop-turn.open _ c.loop-turn.invariant.rest (omega arith) (omega arith) (omega arith) (omega (arith, w.open-is)) (sym w.if-is_among.ensures);
-    }
+    few = omega (arith, w.open-is);
+    rest = opened c.args.items.now _ c.loop-turn.end _ _ (table.most - c.loop-turn.turn) c.loop-turn.open _ c.loop-turn.invariant.rest (omega arith) (omega arith) (omega arith) (omega (arith, w.open-is)) (sym w.if-is_among.ensures);
+  }
   | else-is_among+then-open-eq0+else-not-is_among w ↦ record {
-      few = omega (arith, w.open-is);
-      rest = rw w.open-is (went c.args.items.now _ c.loop-turn.end _ _ (table.most - c.loop-turn.turn) c.loop-turn.open c.loop-turn.invariant.rest w.if-open-eq0.true (omega arith) (omega arith) (omega arith) (sym w.if-is_among.ensures) (sym w.if-not-is_among.ensures));
-    }
+    few = omega (arith, w.open-is);
+    rest = rw w.open-is (went c.args.items.now _ c.loop-turn.end _ _ (table.most - c.loop-turn.turn) c.loop-turn.open c.loop-turn.invariant.rest w.if-open-eq0.true (omega arith) (omega arith) (omega arith) (sym w.if-is_among.ensures) (sym w.if-not-is_among.ensures));
+  }
   | else-is_among+else-open-eq0+then-is_among-2 w ↦ record {
-      few = omega (arith, w.open-is);
-      rest = closed c.args.items.now _ c.loop-turn.end _ _ (table.most - c.loop-turn.turn) c.loop-turn.open _ c.loop-turn.invariant.rest (omega (arith, w.if-open-eq0.false)) (omega arith) (omega arith) (omega arith) (omega (arith, w.open-is)) (sym w.if-is_among.ensures) (sym w.if-is_among-2.ensures);
-    }
+    few = omega (arith, w.open-is);
+    rest = closed c.args.items.now _ c.loop-turn.end _ _ (table.most - c.loop-turn.turn) c.loop-turn.open _ c.loop-turn.invariant.rest (omega (arith, w.if-open-eq0.false)) (omega arith) (omega arith) (omega arith) (omega (arith, w.open-is)) (sym w.if-is_among.ensures) (sym w.if-is_among-2.ensures);
+  }
   | else-is_among+else-open-eq0+else-is_among-2+else-is w ↦ record {
-      few = omega (arith, w.open-is);
-      rest = rw w.open-is (inside c.args.items.now _ c.loop-turn.end _ _ (table.most - c.loop-turn.turn) c.loop-turn.open c.loop-turn.invariant.rest (omega (arith, w.if-open-eq0.false)) (omega arith) (omega arith) (omega arith) (sym w.if-is_among.ensures) (sym w.if-is_among-2.ensures) (sym w.if-is.ensures.test));
-    }
+    few = omega (arith, w.open-is);
+    rest = rw w.open-is (inside c.args.items.now _ c.loop-turn.end _ _ (table.most - c.loop-turn.turn) c.loop-turn.open c.loop-turn.invariant.rest (omega (arith, w.if-open-eq0.false)) (omega arith) (omega arith) (omega arith) (sym w.if-is_among.ensures) (sym w.if-is_among-2.ensures) (sym w.if-is.ensures.test));
+  }
 ]
