@@ -1,10 +1,12 @@
 -- The first set of a formula that has more than 10,000 members.
-use Rattle.std.specs.Prelude.{◌≡◌, ◌⊎◌, ℕ, zero, suc, List, [], ◌∷◌, Option, None, Some, Bool, true, false, if◌then◌else◌, slice_get}
+use Rattle.std.specs.Prelude.{◌≡◌, ◌⊎◌, ℕ, zero, suc, List, [], ◌∷◌, Option, None, Some, Bool, MatchBool, slice_get, reverse}
 use Rattle.tree_match.specs.declared.leaf.Leaf.{Leaf}
 use Rattle.tree_match.specs.declared.leaf.Leaf.TheVariants.{Full, Crowded}
 use Rattle.tree_match.specs.Sets.{Among}
 use Rattle.range_algebra.specs.declared.join.Role.{Role}
 use Rattle.range_algebra.specs.declared.join.Role.TheVariants.{Plain, Inside}
+use Rattle.range_algebra.specs.declared.fault.EvalFault.{EvalFault}
+use Rattle.range_algebra.specs.declared.fault.EvalFault.TheVariants as faults
 use Rattle.range_algebra.specs.Sizes.{HasAtMost, HasMoreThan}
 use Rattle.range_algebra.specs.Trees
 use Rattle.range_algebra.specs.Choices.{Chosen, NoneOf, IsCounted}
@@ -13,6 +15,21 @@ use Rattle.range_algebra.specs.Meets.{Meets, MeetsSome, OneOfEach, OneAnd}
 -- which of some sets is the first with more than 10,000 members, by child numbers; none, where none has more
 abbrev pub Search : Type 1
 Search = Option (List ℕ) → Type 0
+
+-- a fault names the set that the search finds; want of memory has no cause
+abbrev pub IsFault : Search → EvalFault → Type 0
+IsFault Found faults.Memory = Unit {0}
+IsFault Found (faults.Crowded numbers) = Found (Some numbers)
+
+-- the same with the numbers from the set up
+abbrev pub IsFaultFrom : Search → EvalFault → Type 0
+IsFaultFrom Found faults.Memory = Unit {0}
+IsFaultFrom Found (faults.Crowded numbers) = Found (Some (reverse numbers))
+
+-- want of memory, or that a set with these numbers has too many members
+abbrev pub NamesSet : List ℕ → EvalFault → Type 0
+NamesSet numbers faults.Memory = Unit {0}
+NamesSet numbers (faults.Crowded given) = given ≡ numbers
 
 -- the search of no set
 abbrev pub Nothing : Search
@@ -55,16 +72,16 @@ module _ (leaves : List Leaf) (bytes : List ℕ) where
   abbrev pub PlainPrefixes : Role → Trees.Branches → ℕ → Trees.Branches → Search
   PlainPrefixes role all i Trees.no_branches o = o ≡ None
   PlainPrefixes role all i (Trees.branch_then b bs) o =
-      if is_operand role b then Then (OneSet (i ∷ []) (IsCounted (OneOfFirst role (suc i) all) NoneOf)) (PlainPrefixes role all (suc i) bs) o else PlainPrefixes role all (suc i) bs o
+      MatchBool (is_operand role b) (Then (OneSet (i ∷ []) (IsCounted (OneOfFirst role (suc i) all) NoneOf)) (PlainPrefixes role all (suc i) bs) o) (PlainPrefixes role all (suc i) bs o)
 
   -- the prefixes of all plain operands that end with an inside
   abbrev pub InsidePrefixes : Trees.Branches → ℕ → Trees.Branches → Search
   InsidePrefixes all i Trees.no_branches o = o ≡ None
   InsidePrefixes all i (Trees.branch_then b bs) o =
-      if Trees.is_inside b then Then (OneSet (i ∷ []) (IsCounted (OneOfEach leaves bytes Plain all) (OneOfFirst Inside (suc i) all))) (InsidePrefixes all (suc i) bs) o else InsidePrefixes all (suc i) bs o
+      MatchBool (Trees.is_inside b) (Then (OneSet (i ∷ []) (IsCounted (OneOfEach leaves bytes Plain all) (OneOfFirst Inside (suc i) all))) (InsidePrefixes all (suc i) bs) o) (InsidePrefixes all (suc i) bs o)
 
   abbrev pub Prefixes : Trees.Branches → Search
-  Prefixes bs o = if Trees.has Trees.is_positive bs then Then (PlainPrefixes Plain bs 0 bs) (InsidePrefixes bs 0 bs) o else PlainPrefixes Inside bs 0 bs o
+  Prefixes bs o = MatchBool (Trees.has Trees.is_positive bs) (Then (PlainPrefixes Plain bs 0 bs) (InsidePrefixes bs 0 bs) o) (PlainPrefixes Inside bs 0 bs o)
 
   abbrev mutual
     -- the sets of a formula: those of its children in order, then the prefixes of its operands, then its own

@@ -7,7 +7,7 @@ use Rattle.node_tree.specs.Span.{span_cmp}
 use Rattle.meta_bind.specs.declared.bound.Bound.{Bound}
 use Rattle.meta_bind.specs.Bounds.{Agree, binding_cmp}
 use Rattle.meta_bind.specs.Merges.{merged}
-use Rattle.tree_match.specs.Sets.{Among}
+use Rattle.range_algebra.specs.Sizes.{Any}
 use Rattle.tree_match.specs.Members.{Member}
 use Rattle.range_algebra.specs.declared.state.State.{State}
 use Rattle.range_algebra.specs.declared.operand.Operand.{Operand}
@@ -33,22 +33,29 @@ joined Inside s m =
     record { range = range; marked = s.marked && same_range range s.range; plain = s.plain; inside = merged s.inside m.1 }
 
 -- the state is this one, or one of these, with a member that agrees
+abbrev pub IsJoinedWith : Role → State → State → Member → Type 0
+IsJoinedWith role b s m = AgreesWith b.plain b.inside m.1 × (joined role b m ≡ s)
+
 abbrev pub IsJoinedFrom : Role → State → List Member → State → Type 0
-IsJoinedFrom role b members s = (m : Member) × Among members m × AgreesWith b.plain b.inside m.1 × (joined role b m ≡ s)
+IsJoinedFrom role b members s = Any (IsJoinedWith role b s) members
 
 abbrev pub IsJoined : Role → List State → List Member → State → Type 0
-IsJoined role before members s = (b : State) × Among before b × IsJoinedFrom role b members s
+IsJoined role before members s = Any (λ (b : State). IsJoinedFrom role b members s) before
 
 -- some member of the operands has the range
 abbrev pub IsRangeOf : List Member → Span → Type 0
-IsRangeOf members range = (m : Member) × Among members m × (m.0 ≡ range)
+IsRangeOf members range = Any (λ (m : Member). m.0 ≡ range) members
 
 abbrev pub HasRange : List Operand → Span → Type 0
-HasRange operands range = (o : Operand) × Among operands o × IsRangeOf o.members.now range
+HasRange operands range = Any (λ (o : Operand). IsRangeOf o.members.now range) operands
 
 -- the state can lead to a member: it has a byte; or it is empty, and that is a chosen plain range or one of those to come
 abbrev pub IsNeeded : List Operand → State → Type 0
 IsNeeded later s = HasBytes s.range ⊎ ((s.range.from ≡ s.range.to) × ((s.marked ≡ true) ⊎ HasRange later s.range))
+
+-- the state of one member of a plain operand
+abbrev pub begun : Member → State
+begun m = record { range = m.0; marked = true; plain = m.1; inside = [] }
 
 -- by range, then mark, then bindings
 abbrev pub state_cmp : State → State → Ordering

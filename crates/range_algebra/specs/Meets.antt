@@ -1,5 +1,5 @@
 -- The members of a formula.
-use Rattle.std.specs.Prelude.{◌≡◌, ◌≤◌, ◌<◌, ◌⊎◌, ℕ, zero, suc, List, [], ◌∷◌, Option, None, Some, MatchOption, IsTrue, true, false, if◌then◌else◌, slice_get}
+use Rattle.std.specs.Prelude.{◌≡◌, ◌≤◌, ◌<◌, ◌⊎◌, ℕ, zero, suc, List, [], ◌∷◌, Option, None, Some, MatchOption, IsTrue, MatchBool, slice_get}
 use Rattle.node_tree.specs.declared.span.Span.{Span}
 use Rattle.meta_bind.specs.declared.bound.Bound.{Bound}
 use Rattle.meta_bind.specs.Bounds.{Agree, bound_at}
@@ -28,13 +28,12 @@ IsGiven (Some range) m = m ≡ (range, [])
 -- the operands: the positive children and the insides, or the insides alone as plain ones, or the given range
 abbrev pub IsOperandsMember : Trees.Branches → Chosen → Chosen → Option Span → Member → Type 0
 IsOperandsMember bs Positives Insides given m =
-    if Trees.has Trees.is_positive bs then IsMet Positives Insides m else (if Trees.has Trees.is_inside bs then IsMet Insides NoneOf m else IsGiven given m)
+    MatchBool (Trees.has Trees.is_positive bs) (IsMet Positives Insides m) (MatchBool (Trees.has Trees.is_inside bs) (IsMet Insides NoneOf m) (IsGiven given m))
 
 -- what is shown of a choice: without a focus the choice; else the choice at each range in focus that isn't empty
 abbrev pub IsShown : Trees.Branches → Member → Member → Type 0
 IsShown bs c m =
-    if Trees.has Trees.is_focus bs then ((name : List ℕ) × Among (Trees.focused bs) name × (b : Bound) × (bound_at name c.1 ≡ Some b) × HasBytes b.span × (m ≡ (b.span, c.1)))
-    else (m ≡ c)
+    MatchBool (Trees.has Trees.is_focus bs) ((name : List ℕ) × Among (Trees.focused bs) name × (b : Bound) × (bound_at name c.1 ≡ Some b) × HasBytes b.span × (m ≡ (b.span, c.1))) (m ≡ c)
 
 module _ (leaves : List Leaf) (bytes : List ℕ) where
   abbrev mutual

@@ -6,6 +6,10 @@ use Rattle.tree_match.specs.Sets.{Among}
 abbrev pub Each : {X : Type 0} → (X → Type 0) → List X → Type 0
 Each {X} P xs = (x : X) → Among xs x → P x
 
+-- it holds of some item
+abbrev pub Any : {X : Type 0} → (X → Type 0) → List X → Type 0
+Any {X} P xs = (x : X) × Among xs x × P x
+
 -- no item stands in the list twice
 abbrev pub IsDistinct : {X : Type 0} → List X → Type 0
 IsDistinct [] = Unit {0}

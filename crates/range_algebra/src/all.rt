@@ -1,5 +1,7 @@
 //! What all the children of a formula allow.
 
+ghost use Rattle.std.specs.Prelude.{◌≡◌, length};
+
 use crate::choice::choices;
 use crate::condition::{allows, has_focus};
 use crate::evaluate::limited;
@@ -17,7 +19,9 @@ fn is_allowed<'t>(
     children: &[Child],
     parts: &[Vec<Vec<Member<'t>>>],
     one: &Member<'t>,
-) -> Result<bool, Memory> {
+) -> Result<bool, Memory>
+    requires { length parts.now ≡ length children.now }
+{
     for (i, child) in children.iter().enumerate() {
         if !allows(alloc, scene, child, parts[i].as_slice(), one.0, &one.1)? {
             return Ok(false);
@@ -76,7 +80,9 @@ pub fn all_members<'t>(
     scene: Scene<'t>,
     children: &[Child],
     parts: &[Vec<Vec<Member<'t>>>],
-) -> Result<Vec<Member<'t>>, EvalFault> {
+) -> Result<Vec<Member<'t>>, EvalFault>
+    requires { length parts.now ≡ length children.now }
+{
     let chosen = choices(alloc, children, parts)?;
     let mut members = Vec::new(alloc);
     for one in chosen.as_slice() {

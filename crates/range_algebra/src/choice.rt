@@ -1,5 +1,7 @@
 //! The choices of one member of each operand.
 
+ghost use Rattle.std.specs.Prelude.{◌≡◌, length};
+
 use crate::evaluate::crowded;
 use crate::fault::EvalFault;
 use crate::join::{Role, begin, count, join};
@@ -49,7 +51,9 @@ pub fn choices<'t>(
     alloc: Global,
     children: &[Child],
     parts: &[Vec<Vec<Member<'t>>>],
-) -> Result<Vec<Member<'t>>, EvalFault> {
+) -> Result<Vec<Member<'t>>, EvalFault>
+    requires { length parts.now ≡ length children.now }
+{
     let plains = operands(alloc, children, parts, true)?;
     let insides = operands(alloc, children, parts, false)?;
     let states = if plains.is_empty() {

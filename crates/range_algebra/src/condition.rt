@@ -1,7 +1,8 @@
 //! What is taken away from the choices, and the conditions on what is bound.
 
 ghost use Rattle.std.specs.Prelude.{◌≡◌, ◌↔◌, [], map, IsTrue};
-ghost use Rattle.range_algebra.specs.Conditions.{HasEqual, HasAround};
+ghost use Rattle.range_algebra.specs.Conditions.{IsEqualTo, IsAround};
+ghost use Rattle.range_algebra.specs.Sizes.{Any};
 ghost use Rattle.range_algebra.specs.Trees.{branch_of, branches_of, has, is_focus};
 
 use crate::operand::is_bare;
@@ -13,35 +14,49 @@ use node_tree::{Memory, Span};
 use rule_form::{Child, Formula};
 use std::alloc::Global;
 
+// Whether the member has that range, with a binding that agrees.
+fn is_equal_to<'t>(member: &Member<'t>, range: Span, trail: &Trail<'t>) -> bool
+    ensures { IsTrue result ↔ IsEqualTo range trail.now member.now }
+{
+    is_equal(member.0, range) && trail.agrees(&member.1)
+}
+
 // Whether a member has that range, with a binding that agrees.
 fn has_equal<'t>(members: &[Member<'t>], range: Span, trail: &Trail<'t>) -> bool
-    ensures { IsTrue result ↔ HasEqual members.now range trail.now }
+    ensures { IsTrue result ↔ Any (IsEqualTo range trail.now) members.now }
 {
     for member in members {
-        if is_equal(member.0, range) && trail.agrees(&member.1) {
+        if is_equal_to(member, range, trail) {
             return true;
         }
     }
     false
+}
+
+// Whether the range lies in the member's, with a binding that agrees.
+fn is_around<'t>(member: &Member<'t>, range: Span, trail: &Trail<'t>) -> bool
+    ensures { IsTrue result ↔ IsAround range trail.now member.now }
+{
+    lies_in(range, member.0) && trail.agrees(&member.1)
 }
 
 // Whether the range lies in a member's, with a binding that agrees.
 fn has_around<'t>(members: &[Member<'t>], range: Span, trail: &Trail<'t>) -> bool
-    ensures { IsTrue result ↔ HasAround members.now range trail.now }
+    ensures { IsTrue result ↔ Any (IsAround range trail.now) members.now }
 {
     for member in members {
-        if lies_in(range, member.0) && trail.agrees(&member.1) {
+        if is_around(member, range, trail) {
             return true;
         }
     }
     false
 }
 
-// The members of the only formula that a child holds.
-fn only<'s, 't>(sets: &'s [Vec<Member<'t>>]) -> &'s [Member<'t>] {
-    match sets {
-        [] => &[],
-        [first, ..] => first.as_slice(),
+// The set at that place, without members past the end.
+fn set_at<'s, 't>(sets: &'s [Vec<Member<'t>>], at: usize) -> &'s [Member<'t>] {
+    match sets.get(at) {
+        None => &[],
+        Some(set) => set.as_slice(),
     }
 }
 
@@ -82,8 +97,8 @@ fn allows_bare<'t>(
     let empty = Trail::new(alloc);
     for (i, child) in children.iter().enumerate() {
         let allowed = match child {
-            Child::Not(_) => !has_equal(only(&sets[i..]), range, &empty),
-            Child::NotInside(_) => !has_around(only(&sets[i..]), range, &empty),
+            Child::Not(_) => !has_equal(set_at(sets, i), range, &empty),
+            Child::NotInside(_) => !has_around(set_at(sets, i), range, &empty),
             Child::MetaRegex(_, _) => false,
             Child::MetaPattern(_, _) => false,
             Child::MetaCompare(comparison) => {
@@ -112,7 +127,7 @@ fn matches<'t>(
             return allows_bare(alloc, scene, children.as_slice(), sets, held.span);
         }
     }
-    Ok(has_equal(only(sets), held.span, trail))
+    Ok(has_equal(set_at(sets, 0), held.span, trail))
 }
 
 /// Whether the child takes the choice not away, and its condition holds.
@@ -125,8 +140,8 @@ pub fn allows<'t>(
     trail: &Trail<'t>,
 ) -> Result<bool, Memory> {
     match child {
-        Child::Not(_) => Ok(!has_equal(only(sets), range, trail)),
-        Child::NotInside(_) => Ok(!has_around(only(sets), range, trail)),
+        Child::Not(_) => Ok(!has_equal(set_at(sets, 0), range, trail)),
+        Child::NotInside(_) => Ok(!has_around(set_at(sets, 0), range, trail)),
         Child::MetaRegex(_, _) => Ok(false),
         Child::MetaCompare(comparison) => {
             Ok(holds_comparison(comparison, &trail.keep()?, scene.bytes))

@@ -1,5 +1,9 @@
 //! The members of a formula.
 
+ghost use Rattle.std.specs.Prelude.{◌≡◌, ◌≤◌, ◌<◌, [], length, IfOk, IfErr};
+ghost use Rattle.std.specs.Option.{option_to_list};
+ghost use Rattle.range_algebra.specs.Crowds.{NamesSet};
+
 use crate::all::all_members;
 use crate::fault::EvalFault;
 use crate::leaf::leaf_members;
@@ -11,7 +15,10 @@ use rule_form::{Child, Formula};
 use std::alloc::Global;
 
 /// That a set has too many members: the formula's own, or that of the child with this number.
-pub fn crowded<T>(alloc: Global, number: Option<usize>) -> Result<T, EvalFault> {
+pub fn crowded<T>(alloc: Global, number: Option<usize>) -> Result<T, EvalFault>
+    ensures none { IfOk result (λ _. ⊥) }
+    ensures named { IfErr result (NamesSet (option_to_list number)) }
+{
     let mut numbers = List::new(alloc);
     if let Some(number) = number {
         numbers.push(number as u64)?;
@@ -23,7 +30,11 @@ pub fn crowded<T>(alloc: Global, number: Option<usize>) -> Result<T, EvalFault> 
 pub fn limited<'t>(
     alloc: Global,
     members: Vec<Member<'t>>,
-) -> Result<Vec<Member<'t>>, EvalFault> {
+) -> Result<Vec<Member<'t>>, EvalFault>
+    ensures few { IfOk result (λ v. (v.items ≡ members.entry.items) × (length members.entry.items ≤ 10000)) }
+    ensures named { IfErr result (NamesSet []) }
+    ensures many { IfErr result (λ _. 10000 < length members.entry.items) }
+{
     if members.len() > MOST {
         return crowded(alloc, None);
     }
@@ -99,7 +110,9 @@ fn parts_of_each<'t>(
     alloc: Global,
     scene: Scene<'t>,
     children: &'t [Child],
-) -> Result<Vec<Vec<Vec<Member<'t>>>>, EvalFault> {
+) -> Result<Vec<Vec<Vec<Member<'t>>>>, EvalFault>
+    ensures { IfOk result (λ parts. length parts.items ≡ length children.now) }
+{
     let mut parts = Vec::new(alloc);
     for (i, child) in children.iter().enumerate() {
         parts.push(inside(i, parts_of(alloc, scene, child))?)?;

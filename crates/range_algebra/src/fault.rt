@@ -1,5 +1,8 @@
 //! Why a formula has no set.
 
+ghost use Rattle.std.specs.Prelude.{◌≡◌};
+ghost use Rattle.range_algebra.specs.declared.fault.EvalFault.TheVariants.{Memory as no_memory};
+
 use node_tree::{List, Memory};
 use std::alloc::{AllocError, AllocFailed};
 
@@ -12,18 +15,24 @@ pub enum EvalFault {
 }
 
 impl From<Memory> for EvalFault {
+    ghost from_gives = { λ _ e. e ≡ no_memory };
+
     fn from(_: Memory) -> EvalFault {
         EvalFault::Memory
     }
 }
 
 impl From<AllocError> for EvalFault {
+    ghost from_gives = { λ _ e. e ≡ no_memory };
+
     fn from(_: AllocError) -> EvalFault {
         EvalFault::Memory
     }
 }
 
 impl<T: Drop> From<AllocFailed<T>> for EvalFault {
+    ghost from_gives = { λ _ e. e ≡ no_memory };
+
     fn from(_: AllocFailed<T>) -> EvalFault {
         EvalFault::Memory
     }

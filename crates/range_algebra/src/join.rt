@@ -1,9 +1,11 @@
 //! One operand more to a choice.
 
 ghost use Rattle.std.specs.Prelude.{◌≡◌, ◌↔◌, IsTrue, OnOk, IfOk, count_by};
-ghost use Rattle.tree_match.specs.Sets.{Adds};
+ghost use Rattle.tree_match.specs.Sets.{Among, Adds};
+ghost use Rattle.tree_match.specs.Ascending.{IsAscending};
+ghost use Rattle.range_algebra.specs.Sizes.{Any};
 ghost use Rattle.range_algebra.specs.Agreements.{has_bytes as has};
-ghost use Rattle.range_algebra.specs.Joins.{joined as with_member, IsRangeOf, HasRange, IsNeeded, IsJoinedFrom};
+ghost use Rattle.range_algebra.specs.Joins.{joined as with_member, begun as begun_of, state_cmp, IsRangeOf, HasRange, IsNeeded, IsJoinedWith, IsJoinedFrom};
 ghost use Rattle.range_algebra.specs.declared.state.State.{State as state_value};
 
 use crate::operand::Operand;
@@ -78,23 +80,30 @@ fn joined<'t>(role: Role, state: &State<'t>, member: &Member<'t>) -> Result<Stat
     }
 }
 
+// The state of this member.
+fn begun<'t>(alloc: Global, member: &Member<'t>) -> Result<State<'t>, Memory>
+    ensures { IfOk result (λ s. s ≡ begun_of member.now) }
+{
+    Ok(State {
+        range: member.0,
+        marked: true,
+        plain: member.1.copy()?,
+        inside: Trail::new(alloc),
+    })
+}
+
 /// The states with no other operand before this plain one.
 pub fn begin<'t>(
     alloc: Global,
     members: &[Member<'t>],
     later: &[Operand<'_, 't>],
-) -> Result<Vec<State<'t>>, Memory> {
+) -> Result<Vec<State<'t>>, Memory>
+    ensures ordered { IfOk result (λ v. IsAscending state_cmp v.items) }
+    ensures exact { IfOk result (λ v. (s : state_value) → Among v.items s ↔ (Any (λ m. begun_of m ≡ s) members.now × IsNeeded later.now s)) }
+{
     let mut states = Vec::new(alloc);
-    for (range, trail) in members {
-        let state = State {
-            range: *range,
-            marked: true,
-            plain: trail.copy()?,
-            inside: Trail::new(alloc),
-        };
-        if is_needed(&state, later) {
-            states.push(state)?;
-        }
+    for member in members {
+        add_needed(begun(alloc, member)?, later, &mut states)?;
     }
     settled(alloc, states)
 }
@@ -126,6 +135,22 @@ fn add_needed<'t>(
     Ok(())
 }
 
+// Adds the state with this member more, where it agrees.
+fn add_one<'t>(
+    role: Role,
+    state: &State<'t>,
+    member: &Member<'t>,
+    later: &[Operand<'_, 't>],
+    states: &mut Vec<State<'t>>,
+) -> Result<(), Memory>
+    ensures { OnOk result (Adds states.old.items states.new.items (λ s. IsJoinedWith role state.now s member.now × IsNeeded later.now s)) }
+{
+    if !state.agrees(&member.1) {
+        return Ok(());
+    }
+    add_needed(joined(role, state, member)?, later, states)
+}
+
 // Adds the states that one state and the members of the operand give.
 fn add_joined<'t>(
     role: Role,
@@ -137,9 +162,7 @@ fn add_joined<'t>(
     ensures { OnOk result (Adds states.old.items states.new.items (λ s. IsJoinedFrom role state.now members.now s × IsNeeded later.now s)) }
 {
     for member in members {
-        if state.agrees(&member.1) {
-            add_needed(joined(role, state, member)?, later, states)?;
-        }
+        add_one(role, state, member, later, states)?;
     }
     Ok(())
 }

@@ -1,6 +1,6 @@
 //! The operands of `All`.
 
-ghost use Rattle.std.specs.Prelude.{◌≡◌, map, not, ◌||◌};
+ghost use Rattle.std.specs.Prelude.{◌≡◌, map, not, length, ◌||◌};
 ghost use Rattle.range_algebra.specs.Trees.{branch_of, branches_of, has, is_positive, is_inside as inside};
 
 use crate::scene::Member;
@@ -55,7 +55,9 @@ pub fn operands<'s, 't>(
     children: &[Child],
     parts: &'s [Vec<Vec<Member<'t>>>],
     plain: bool,
-) -> Result<Vec<Operand<'s, 't>>, Memory> {
+) -> Result<Vec<Operand<'s, 't>>, Memory>
+    requires { length parts.now ≡ length children.now }
+{
     let mut operands = Vec::new(alloc);
     for (number, child) in children.iter().enumerate() {
         let wanted = if plain { is_plain(child) } else { is_inside(child) };

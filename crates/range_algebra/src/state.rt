@@ -38,6 +38,15 @@ impl<'t> State<'t> {
 }
 
 impl<'t> Ordered for State<'t> {
+    ghost use Rattle.range_algebra.specs.Joins.{state_cmp};
+    ghost use Rattle.range_algebra.specs.Orders.{state_total, state_apart};
+
+    ghost before = { state_cmp };
+
+    ghost total = { state_total };
+
+    ghost apart = { state_apart };
+
     fn order(&self, other: &State<'t>) -> Ordering {
         match self.range.order(other.range) {
             Ordering::Less => return Ordering::Less,
