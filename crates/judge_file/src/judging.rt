@@ -50,9 +50,7 @@ fn search(
 {
     let outcome = match eval(alloc, view, formula, leaves) {
         Ok(members) => Outcome::Findings(findings_of(alloc, &members)?),
-        Err(EvalFault::Crowded(numbers)) => {
-            Outcome::Crowded(dotted(alloc, numbers.as_slice())?)
-        }
+        Err(EvalFault::Crowded(numbers)) => Outcome::Crowded(dotted(alloc, numbers.as_slice())?),
         Err(EvalFault::Memory) => return Err(Memory),
     };
     Ok(Found::of(outcome))

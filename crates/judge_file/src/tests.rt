@@ -42,10 +42,26 @@ fn opens_files(rt: HostRuntime) -> Result<(), Fail> {
     let rows = [
         (Lang::Python, b"\xff".as_slice(), ("NotUtf8", None)),
         (Lang::Regex, b"\xff".as_slice(), ("NotUtf8", None)),
-        (Lang::C, b"int main( {\n".as_slice(), ("NoTree", Some(Lang::Regex))),
-        (Lang::C, b"int main(void) {}\n".as_slice(), ("Read", Some(Lang::C))),
-        (Lang::Python, b"f(1)\n".as_slice(), ("Read", Some(Lang::Python))),
-        (Lang::Python, b"f(\n".as_slice(), ("NoTree", Some(Lang::Regex))),
+        (
+            Lang::C,
+            b"int main( {\n".as_slice(),
+            ("NoTree", Some(Lang::Regex)),
+        ),
+        (
+            Lang::C,
+            b"int main(void) {}\n".as_slice(),
+            ("Read", Some(Lang::C)),
+        ),
+        (
+            Lang::Python,
+            b"f(1)\n".as_slice(),
+            ("Read", Some(Lang::Python)),
+        ),
+        (
+            Lang::Python,
+            b"f(\n".as_slice(),
+            ("NoTree", Some(Lang::Regex)),
+        ),
         (Lang::Json, b"".as_slice(), ("NoTree", Some(Lang::Regex))),
         (Lang::Json, b"[1]".as_slice(), ("Read", Some(Lang::Json))),
         (Lang::Regex, b"f(\n".as_slice(), ("Read", Some(Lang::Regex))),
@@ -69,7 +85,10 @@ fn many(alloc: Global, count: usize) -> Result<Vec<u8>, Memory> {
 fn opens_large_files(rt: HostRuntime) -> Result<(), Fail> {
     let alloc = rt.alloc();
     let mut bytes = many(alloc, 1_000_000)?;
-    assert_eq!(rt; answer(alloc, Lang::Regex, &bytes)?, ("Read", Some(Lang::Regex)));
+    assert_eq!(rt;
+        answer(alloc, Lang::Regex, &bytes)?,
+        ("Read", Some(Lang::Regex))
+    );
     bytes.push(255)?;
     assert_eq!(rt; answer(alloc, Lang::Regex, &bytes)?, ("TooLarge", None));
     assert_eq!(rt; answer(alloc, Lang::Python, &bytes)?, ("TooLarge", None));
@@ -239,7 +258,10 @@ fn zeros(alloc: Global, count: usize) -> Result<String, Memory> {
 
 // What a formula over the pattern `0` finds in a list of so many zeros.
 fn zeros_found(alloc: Global, count: usize, formula: Formula) -> Result<String, Memory> {
-    let zero = pattern(Lang::Json, node(alloc, Kind::Number, "0", List::new(alloc))?);
+    let zero = pattern(
+        Lang::Json,
+        node(alloc, Kind::Number, "0", List::new(alloc))?,
+    );
     let rule = rule(alloc, zero, formula)?;
     found(alloc, Lang::Json, zeros(alloc, count)?.as_bytes(), &rule)
 }
