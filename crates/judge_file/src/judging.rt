@@ -56,8 +56,8 @@ fn search(
     Ok(Found::of(outcome))
 }
 
-/// What the part of the rule with that number finds in the file, where `leaves` has the members of its patterns by number.
-/// `specs/Findings.antt` says what that is: the members of its formula, or a notice where a set has too many. So far regular
+/// What the part of the rule with that number finds in the file, where `leaves` has the members of the part's patterns by
+/// number: the members of its formula in order, or the notice that a set of the formula has more than 10,000. So far regular
 /// expressions have no matches, and a rule on tainted data finds nothing.
 pub fn judge(
     alloc: Global,

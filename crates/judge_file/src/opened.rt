@@ -56,8 +56,10 @@ fn open_text(alloc: Global, lang: Lang, text: &str) -> Result<Opened, Memory>
     }
 }
 
-/// What the bytes of a file are in the language. `specs/Opening.antt` says when each answer comes; there is no other way to
-/// read the file. It is one step, whatever it answers. So far no name of a file is known to hold a literal.
+/// What the bytes of a file are in the language. TooLarge comes exactly where there are more than 1,000,000, else NotUtf8
+/// exactly where they are no UTF-8, else NoTree exactly where the text has no tree in the language. A text of the language
+/// `Regex` always has one: a `Root` without kids that spans all of it. It is one step, whatever it answers. So far no name of
+/// a file is known to hold a literal.
 pub fn open_file<L: Ledger>(
     alloc: Global,
     lang: Lang,
