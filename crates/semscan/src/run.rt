@@ -65,7 +65,8 @@ pub fn run<S: Source, K: Sink, L: Ledger>(
     if bytes.len() == MOST {
         return Status::OverLimit(LimitKind::Target, MOST as u64);
     }
-    let file = match read_file(alloc, lang, bytes.as_slice(), steps) {
+    steps.tick();
+    let file = match read_file(alloc, lang, bytes) {
         Ok(file) => file,
         Err(ReadFault::Memory) => return Status::Memory,
         Err(ReadFault::NoTree) => return Status::BadTarget,

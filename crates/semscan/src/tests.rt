@@ -245,10 +245,7 @@ fn refuses_what_is_no_python(rt: HostRuntime) -> Result<(), Fail> {
         ("x", b"if x:\ny\n", Status::BadTarget),
     ];
     for (pattern, input, status) in rows {
-        assert!(rt;
-            gives_in(rt.alloc(), "python", pattern, input, status, b"")?,
-            "{pattern}"
-        );
+        assert!(rt; gives_in(rt.alloc(), "python", pattern, input, status, b"")?, "{pattern}");
     }
     Ok(())
 }

@@ -3,23 +3,10 @@ use Rattle.pattern_read.proofs.Laws.{refused}
 use Rattle.tree_match.specs.declared.leaf.Leaf.{Leaf}
 use Rattle.tree_match.specs.Members.{IsMember}
 use Rattle.tree_match.specs.Leaf.{IsLeaf}
-use Rattle.node_tree.specs.declared.node.Node.{Node}
-use Rattle.node_tree.specs.declared.view.Lang.{Lang}
 use Rattle.semscan.specs.Words.{AreOtherWords}
-use Rattle.semscan.specs.Reading.{IsFileOf, IsOnlyFile, HasNoFile}
 use Rattle.semscan.specs.Run.{usage, bad_pattern}
 use Rattle.semscan.proofs.Runs.{asked, only_end, unread, ends_over_limit, ends_bad_target, ends_too_many, ends_done, ends_cut, ends_short, settles}
 use Rattle.semscan.proofs.run.run.Goals as goal
-
--- what is said of the bytes that are lent holds of those that were read
-file_of : {lang : Lang} {lent read : List ℕ} {tree : Node} → lent ≡ read → IsFileOf lang lent tree → IsFileOf lang read tree
-file_of {lang} {lent} {read} {tree} e file = subst (λ (bytes : List ℕ). IsFileOf lang bytes tree) e file
-
-only_of : {lang : Lang} {lent read : List ℕ} {tree : Node} → lent ≡ read → IsOnlyFile lang lent tree → IsOnlyFile lang read tree
-only_of {lang} {lent} {read} {tree} e only = subst (λ (bytes : List ℕ). IsOnlyFile lang bytes tree) e only
-
-none_of : {lang : Lang} {lent read : List ℕ} → lent ≡ read → HasNoFile lang lent → HasNoFile lang read
-none_of {lang} {lent} {read} e none = subst (λ (bytes : List ℕ). HasNoFile lang bytes) e none
 
 pub returns-in_default-clause-ends : goal.returns-in_default-clause-ends
 returns-in_default-clause-ends g c h =
@@ -54,7 +41,7 @@ returns-in-Err-NoTree-clause-ends g c h =
     ends_bad_target _ c.in-Some.lang c.in-Some.word.now c.in-Ok.pattern are c.in-Ok.ensures.pattern _ _ _ c.in-Ok-read_input.bytes.items c.in-Ok-read_input.ensures.bytes
     (c.in-Ok-read_input.ensures.end (omega (arith, c.in-Ok-read_input.ensures.limit, c.if-len-eq-MOST.false, c.len.ensures)))
     (omega (arith, c.in-Ok-read_input.ensures.limit, c.if-len-eq-MOST.false, c.len.ensures, c.in-Ok-read_input.bytes.ok.0))
-    (none_of c.as_slice.ensures.value (c.in-Err-NoTree.ensures.none (ap Err c.in-Err-NoTree.field-0-is)))
+    (c.in-Err-NoTree.ensures.none (ap Err c.in-Err-NoTree.field-0-is))
 
 pub returns-in-Err-NoTree-clause-only : goal.returns-in-Err-NoTree-clause-only
 returns-in-Err-NoTree-clause-only g c h bytes s lines e ends =
@@ -65,14 +52,14 @@ returns-in-Ok-Crowded-clause-ends g c h =
     let are = asked _ _ _ _ (ap (map string_bytes) c.deref.ensures.value) c.in-Some.ensures.asked in
     let end = c.in-Ok-read_input.ensures.end (omega (arith, c.in-Ok-read_input.ensures.limit, c.if-len-eq-MOST.false, c.len.ensures)) in
     ends_too_many _ c.in-Some.lang c.in-Some.word.now c.in-Ok.pattern are c.in-Ok.ensures.pattern _ _ c.in-Ok-read_input.bytes.items c.in-Ok-read_input.ensures.bytes end
-    c.in-Ok-read_file.file.tree (file_of c.as_slice.ensures.value c.in-Ok-read_file.ensures.file) _ (subst (λ (x : Leaf). IsLeaf (IsMember c.in-Ok.pattern c.in-Ok-read_file.file.tree) x) c.in-Ok-Crowded.field-0-is c.in-Ok-Crowded.ensures.exact)
+    c.in-Ok-read_file.file.tree c.in-Ok-read_file.ensures.file _ (subst (λ (x : Leaf). IsLeaf (IsMember c.in-Ok.pattern c.in-Ok-read_file.file.tree) x) c.in-Ok-Crowded.field-0-is c.in-Ok-Crowded.ensures.exact)
 
 pub returns-in-Ok-Crowded-clause-only : goal.returns-in-Ok-Crowded-clause-only
 returns-in-Ok-Crowded-clause-only g c h bytes s lines e ends =
     let are = asked _ _ _ _ (ap (map string_bytes) c.deref.ensures.value) c.in-Some.ensures.asked in
     let end = c.in-Ok-read_input.ensures.end (omega (arith, c.in-Ok-read_input.ensures.limit, c.if-len-eq-MOST.false, c.len.ensures)) in
     let settled = settles _ c.in-Some.lang c.in-Some.word.now c.in-Ok.pattern are c.in-Ok.ensures.pattern _ _ c.in-Ok-read_input.bytes.items c.in-Ok-read_input.ensures.bytes end
-    c.in-Ok-read_file.file.tree (file_of c.as_slice.ensures.value c.in-Ok-read_file.ensures.file) c.in-Ok.ensures.only (only_of c.as_slice.ensures.value c.in-Ok-read_file.ensures.only) in
+    c.in-Ok-read_file.file.tree c.in-Ok-read_file.ensures.file c.in-Ok.ensures.only c.in-Ok-read_file.ensures.only in
     only_end _ _ _ _ _ (λ searched. settled) (returns-in-Ok-Crowded-clause-ends g c h) bytes s lines e ends
 
 pub returns-in-Ok-print_all-clause-ends : goal.returns-in-Ok-print_all-clause-ends
@@ -80,14 +67,14 @@ returns-in-Ok-print_all-clause-ends g c h =
     let are = asked _ _ _ _ (ap (map string_bytes) c.deref.ensures.value) c.in-Some.ensures.asked in
     let end = c.in-Ok-read_input.ensures.end (omega (arith, c.in-Ok-read_input.ensures.limit, c.if-len-eq-MOST.false, c.len.ensures)) in
     ends_done _ c.in-Some.lang c.in-Some.word.now c.in-Ok.pattern are c.in-Ok.ensures.pattern _ _ c.in-Ok-read_input.bytes.items c.in-Ok-read_input.ensures.bytes end
-    c.in-Ok-read_file.file.tree (file_of c.as_slice.ensures.value c.in-Ok-read_file.ensures.file) c.in-Ok-Full.members (subst (λ (x : Leaf). IsLeaf (IsMember c.in-Ok.pattern c.in-Ok-read_file.file.tree) x) c.in-Ok-Full.field-0-is c.in-Ok-Full.ensures.exact) _ _ c.in-Ok-print_all.ensures.ok
+    c.in-Ok-read_file.file.tree c.in-Ok-read_file.ensures.file c.in-Ok-Full.members (subst (λ (x : Leaf). IsLeaf (IsMember c.in-Ok.pattern c.in-Ok-read_file.file.tree) x) c.in-Ok-Full.field-0-is c.in-Ok-Full.ensures.exact) _ _ c.in-Ok-print_all.ensures.ok
 
 pub returns-in-Ok-print_all-clause-only : goal.returns-in-Ok-print_all-clause-only
 returns-in-Ok-print_all-clause-only g c h bytes s lines e ends =
     let are = asked _ _ _ _ (ap (map string_bytes) c.deref.ensures.value) c.in-Some.ensures.asked in
     let end = c.in-Ok-read_input.ensures.end (omega (arith, c.in-Ok-read_input.ensures.limit, c.if-len-eq-MOST.false, c.len.ensures)) in
     let settled = settles _ c.in-Some.lang c.in-Some.word.now c.in-Ok.pattern are c.in-Ok.ensures.pattern _ _ c.in-Ok-read_input.bytes.items c.in-Ok-read_input.ensures.bytes end
-    c.in-Ok-read_file.file.tree (file_of c.as_slice.ensures.value c.in-Ok-read_file.ensures.file) c.in-Ok.ensures.only (only_of c.as_slice.ensures.value c.in-Ok-read_file.ensures.only) in
+    c.in-Ok-read_file.file.tree c.in-Ok-read_file.ensures.file c.in-Ok.ensures.only c.in-Ok-read_file.ensures.only in
     only_end _ _ _ _ _ (λ searched. settled) (returns-in-Ok-print_all-clause-ends g c h) bytes s lines e ends
 
 pub returns-in-Err-Memory-print_all-clause-whole_lines : goal.returns-in-Err-Memory-print_all-clause-whole_lines
@@ -95,11 +82,11 @@ returns-in-Err-Memory-print_all-clause-whole_lines g c h =
     let are = asked _ _ _ _ (ap (map string_bytes) c.deref.ensures.value) c.in-Some.ensures.asked in
     let end = c.in-Ok-read_input.ensures.end (omega (arith, c.in-Ok-read_input.ensures.limit, c.if-len-eq-MOST.false, c.len.ensures)) in
     inr (ends_short _ c.in-Some.lang c.in-Some.word.now c.in-Ok.pattern are c.in-Ok.ensures.pattern _ _ c.in-Ok-read_input.bytes.items c.in-Ok-read_input.ensures.bytes end
-    c.in-Ok-read_file.file.tree (file_of c.as_slice.ensures.value c.in-Ok-read_file.ensures.file) c.in-Ok-Full.members (subst (λ (x : Leaf). IsLeaf (IsMember c.in-Ok.pattern c.in-Ok-read_file.file.tree) x) c.in-Ok-Full.field-0-is c.in-Ok-Full.ensures.exact) _ _ (c.in-Err-Memory-print_all.ensures.whole (ap Err c.in-Err-Memory-print_all.field-0-is)))
+    c.in-Ok-read_file.file.tree c.in-Ok-read_file.ensures.file c.in-Ok-Full.members (subst (λ (x : Leaf). IsLeaf (IsMember c.in-Ok.pattern c.in-Ok-read_file.file.tree) x) c.in-Ok-Full.field-0-is c.in-Ok-Full.ensures.exact) _ _ (c.in-Err-Memory-print_all.ensures.whole (ap Err c.in-Err-Memory-print_all.field-0-is)))
 
 pub returns-clause-front_written : goal.returns-clause-front_written
 returns-clause-front_written g c h =
     let are = asked _ _ _ _ (ap (map string_bytes) c.deref.ensures.value) c.in-Some.ensures.asked in
     let end = c.in-Ok-read_input.ensures.end (omega (arith, c.in-Ok-read_input.ensures.limit, c.if-len-eq-MOST.false, c.len.ensures)) in
     ends_cut _ c.in-Some.lang c.in-Some.word.now c.in-Ok.pattern are c.in-Ok.ensures.pattern _ _ c.in-Ok-read_input.bytes.items c.in-Ok-read_input.ensures.bytes end
-    c.in-Ok-read_file.file.tree (file_of c.as_slice.ensures.value c.in-Ok-read_file.ensures.file) c.in-Ok-Full.members (subst (λ (x : Leaf). IsLeaf (IsMember c.in-Ok.pattern c.in-Ok-read_file.file.tree) x) c.in-Ok-Full.field-0-is c.in-Ok-Full.ensures.exact) _ _ c.in-Err-Failed-print_all.ensures.front
+    c.in-Ok-read_file.file.tree c.in-Ok-read_file.ensures.file c.in-Ok-Full.members (subst (λ (x : Leaf). IsLeaf (IsMember c.in-Ok.pattern c.in-Ok-read_file.file.tree) x) c.in-Ok-Full.field-0-is c.in-Ok-Full.ensures.exact) _ _ c.in-Err-Failed-print_all.ensures.front
