@@ -7,10 +7,9 @@ writes crates/py_stmt/specs/Sets.antt, as unit_sets.py does for C. The check of 
 a row fails it, this script says which part and which classes clash, and ends with status 1.
 """
 import re
-import sys
 
 import table_sets
-from unit_sets import CRATES, KNOWN, OverSets, ranks_of
+from unit_sets import CRATES, KNOWN, OverSets, made
 
 HEAD = '''-- The sets and ranks of the table, which the check of the table goes by. tools/table_sets.py makes them of expressions; these are theirs, and those of statements beside them.
 use Rattle.std.specs.Prelude.{ℕ, Bool, true, false, List, [], ◌∷◌}
@@ -21,18 +20,6 @@ use Rattle.py_expr.specs.Words.{class}
 use Rattle.py_expr.specs.Sets as known
 use Rattle.py_stmt.specs.Table.{Level, Expression, %s, Builder, strong}
 '''
-
-TAIL = '''-- closed runs are promised of no level
-abbrev pub no_level : Level → Bool
-no_level l = false
-
-abbrev pub sets : Sets Level
-sets = record { first = first; more = more; empty = empty }
-
-abbrev pub ranks : Ranks Builder Level
-ranks = record { strong = strong; rank = rank; top = %d; shut = no_level }
-'''
-
 
 def tables():
     """The table of expressions, and that of statements with its sets."""
@@ -50,28 +37,7 @@ def tables():
 
 def main():
     below, table, sets = tables()
-    clashes = [c for level, row in table.rows.items() for c in sets.clashes(None, row, level)]
-    for where, why, classes in clashes:
-        print('%s: %s: %s' % (where, why, ' '.join(sorted(classes))))
-    if clashes:
-        sys.exit(1)
-    known_top = int(re.search(r'^ranks = record \{.*top = (\d+)', (CRATES / 'py_expr/specs/Sets.antt').read_text(), re.M)[1])
-    order = below.order + [c for c in table.order if c not in below.order]
-
-    def written(classes):
-        return ''.join(c + ' ∷ ' for c in order if c in classes) + '[]'
-
-    ranks = ranks_of(table)
-    parts = [HEAD % ', '.join(table.rows)]
-    for name, found in (('first', sets.first), ('more', sets.more)):
-        parts.append('abbrev pub %s : Level → List ℕ\n%s (Expression l) = known.%s l\n' % (name, name, name)
-                     + ''.join('%s %s = %s\n' % (name, l, written(found[l])) for l in table.rows))
-    parts.append('abbrev pub empty : Level → Bool\nempty (Expression l) = known.empty l\n'
-                 + ''.join('empty %s = true\n' % l for l in table.rows if sets.empty[l]) + 'empty _ = false\n')
-    parts.append('abbrev pub rank : Level → ℕ\nrank (Expression l) = known.rank l\n'
-                 + ''.join('rank %s = %d\n' % (l, known_top - 1 + ranks[l]) for l in table.rows))
-    parts.append(TAIL % (known_top + max(ranks.values())))
-    (CRATES / 'py_stmt/specs/Sets.antt').write_text('\n'.join(parts))
+    (CRATES / 'py_stmt/specs/Sets.antt').write_text(made(HEAD, 'py_expr', below, table, sets))
 
 
 if __name__ == '__main__':

@@ -106,21 +106,26 @@ ranks = record { strong = strong; rank = rank; top = %d; shut = no_level }
 '''
 
 
-def main():
-    below, _, table, sets = tables()
+def checked(table, sets):
+    """Ends with status 1 where rows fail the check, and says which."""
     clashes = [c for level, row in table.rows.items() for c in sets.clashes(None, row, level)]
     for where, why, classes in clashes:
         print('%s: %s: %s' % (where, why, ' '.join(sorted(classes))))
     if clashes:
         sys.exit(1)
-    known_top = int(re.search(r'^ranks = record \{.*top = (\d+)', (CRATES / 'c_expr/specs/Sets.antt').read_text(), re.M)[1])
+
+
+def made(head, below_crate, below, table, sets):
+    """The text of the sets and ranks of a table over that of a crate below, behind this head, which names the levels."""
+    checked(table, sets)
+    known_top = int(re.search(r'^ranks = record \{.*top = (\d+)', (CRATES / below_crate / 'specs/Sets.antt').read_text(), re.M)[1])
     order = below.order + [c for c in table.order if c not in below.order]
 
     def written(classes):
         return ''.join(c + ' ∷ ' for c in order if c in classes) + '[]'
 
     ranks = ranks_of(table)
-    parts = [HEAD % ', '.join(table.rows)]
+    parts = [head % ', '.join(table.rows)]
     for name, found in (('first', sets.first), ('more', sets.more)):
         parts.append('abbrev pub %s : Level → List ℕ\n%s (Expression l) = known.%s l\n' % (name, name, name)
                      + ''.join('%s %s = %s\n' % (name, l, written(found[l])) for l in table.rows))
@@ -129,7 +134,12 @@ def main():
     parts.append('abbrev pub rank : Level → ℕ\nrank (Expression l) = known.rank l\n'
                  + ''.join('rank %s = %d\n' % (l, known_top - 1 + ranks[l]) for l in table.rows))
     parts.append(TAIL % (known_top + max(ranks.values())))
-    (CRATES / 'c_unit/specs/Sets.antt').write_text('\n'.join(parts))
+    return '\n'.join(parts)
+
+
+def main():
+    below, _, table, sets = tables()
+    (CRATES / 'c_unit/specs/Sets.antt').write_text(made(HEAD, 'c_expr', below, table, sets))
 
 
 if __name__ == '__main__':
