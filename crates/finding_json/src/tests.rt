@@ -15,14 +15,18 @@ fn empty(rt: &HostRuntime) -> Report {
     }
 }
 
-// Binds a name at a range, if it isn't bound.
-fn add(rt: &HostRuntime, binding: &mut Binding, name: &str, span: Span) -> Result<(), Memory> {
-    let bound = Bound {
+// A bound of that name at a range, without nodes.
+fn bound(rt: &HostRuntime, name: &str, span: Span) -> Result<Bound, Memory> {
+    Ok(Bound {
         name: text(rt, name)?,
         span,
         nodes: List::new(rt.alloc()),
-    };
-    match binding.get(name) {
+    })
+}
+
+// Binds the name of the bound, if it isn't bound.
+fn add(binding: &mut Binding, bound: Bound) -> Result<(), Memory> {
+    match binding.get(bound.name.as_str()) {
         Some(_) => Ok(()),
         None => binding.bind(bound),
     }
@@ -83,7 +87,7 @@ fn an_empty_report_has_its_line(rt: HostRuntime) -> Result<(), Fail> {
 fn a_taint_finding_has_its_source(rt: HostRuntime) -> Result<(), Fail> {
     let span = Span { from: 67, to: 81 };
     let mut binding = Binding::empty(rt.alloc());
-    add(&rt, &mut binding, "$DB", Span { from: 67, to: 70 })?;
+    add(&mut binding, bound(&rt, "$DB", Span { from: 67, to: 70 })?)?;
     let source = Some(Span { from: 23, to: 40 });
     let mut report = empty(&rt);
     let finding = Finding {
@@ -102,8 +106,8 @@ fn a_taint_finding_has_its_source(rt: HostRuntime) -> Result<(), Fail> {
 fn fixes_and_metavariables_stand_in_order(rt: HostRuntime) -> Result<(), Fail> {
     let span = Span { from: 67, to: 81 };
     let mut binding = Binding::empty(rt.alloc());
-    add(&rt, &mut binding, "$Y", Span { from: 5, to: 6 })?;
-    add(&rt, &mut binding, "$...A", Span { from: 2, to: 4 })?;
+    add(&mut binding, bound(&rt, "$Y", Span { from: 5, to: 6 })?)?;
+    add(&mut binding, bound(&rt, "$...A", Span { from: 2, to: 4 })?)?;
     let mut report = empty(&rt);
     let fix = Some(text(&rt, "g(1)")?);
     let finding = Finding {
