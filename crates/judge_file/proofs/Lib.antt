@@ -1,0 +1,2 @@
+mod PlainTrees
+mod Mapped

@@ -1,0 +1,6 @@
+pub mod Layers
+pub mod Merged
+pub mod Steps
+pub mod Searches
+pub mod Settling
+pub mod Added

@@ -1,0 +1,11 @@
+pub mod Ranges
+pub mod Sizes
+pub mod Ends
+pub mod Trees
+pub mod Choices
+pub mod Agreements
+pub mod Joins
+pub mod Conditions
+pub mod Orders
+pub mod Meets
+pub mod Crowds

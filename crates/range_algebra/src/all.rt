@@ -1,0 +1,97 @@
+//! What all the children of a formula allow.
+
+ghost use Rattle.std.specs.Prelude.{◌≡◌, length};
+
+use crate::choice::choices;
+use crate::condition::{allows, has_focus};
+use crate::evaluate::limited;
+use crate::fault::EvalFault;
+use crate::order::settled;
+use crate::scene::{Member, ROOM, Scene};
+use node_tree::Memory;
+use rule_form::Child;
+use std::alloc::Global;
+
+// Whether all the children allow the choice.
+fn is_allowed<'t>(
+    alloc: Global,
+    scene: Scene<'t>,
+    children: &[Child],
+    parts: &[Vec<Vec<Member<'t>>>],
+    one: &Member<'t>,
+) -> Result<bool, Memory>
+    requires { length parts.now ≡ length children.now }
+{
+    for (i, child) in children.iter().enumerate() {
+        if !allows(alloc, scene, child, parts[i].as_slice(), one.0, &one.1)? {
+            return Ok(false);
+        }
+    }
+    Ok(true)
+}
+
+// Adds the choice at the range of the name, where it is bound to a range that isn't empty.
+fn add_at<'t>(
+    name: &str,
+    one: &Member<'t>,
+    members: &mut Vec<Member<'t>>,
+) -> Result<(), Memory> {
+    if let Some(held) = one.1.get(name) {
+        if held.span.from < held.span.to {
+            members.push((held.span, one.1.copy()?))?;
+        }
+    }
+    Ok(())
+}
+
+// Adds the choice at the ranges of the names that the child focuses on.
+fn add_focused<'t>(
+    child: &Child,
+    one: &Member<'t>,
+    members: &mut Vec<Member<'t>>,
+) -> Result<(), Memory> {
+    if let Child::Focus(names) = child {
+        for name in names.as_slice() {
+            add_at(name.as_str(), one, members)?;
+        }
+    }
+    Ok(())
+}
+
+// Adds what is shown of a choice: itself, or its ranges in focus.
+fn add_shown<'t>(
+    children: &[Child],
+    one: &Member<'t>,
+    members: &mut Vec<Member<'t>>,
+) -> Result<(), Memory> {
+    if !has_focus(children) {
+        members.push((one.0, one.1.copy()?))?;
+        return Ok(());
+    }
+    for child in children {
+        add_focused(child, one, members)?;
+    }
+    Ok(())
+}
+
+/// The members that all the children allow, from the sets of their formulas.
+pub fn all_members<'t>(
+    alloc: Global,
+    scene: Scene<'t>,
+    children: &[Child],
+    parts: &[Vec<Vec<Member<'t>>>],
+) -> Result<Vec<Member<'t>>, EvalFault>
+    requires { length parts.now ≡ length children.now }
+{
+    let chosen = choices(alloc, children, parts)?;
+    let mut members = Vec::new(alloc);
+    for one in chosen.as_slice() {
+        if is_allowed(alloc, scene, children, parts, one)? {
+            add_shown(children, one, &mut members)?;
+            if members.len() > ROOM {
+                members = limited(alloc, settled(alloc, members)?)?;
+            }
+        }
+    }
+    limited(alloc, settled(alloc, members)?)
+}
