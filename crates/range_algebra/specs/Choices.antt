@@ -1,5 +1,5 @@
 -- Choices of one member of each operand.
-use Rattle.std.specs.Prelude.{◌≡◌, ◌↔◌, ℕ, List, [], ◌∷◌, ◌++◌, map, IsTrue, true}
+use Rattle.std.specs.Prelude.{◌≡◌, ◌↔◌, ◌≤◌, ℕ, List, [], ◌∷◌, ◌++◌, map, IsTrue, true}
 use Rattle.node_tree.specs.declared.span.Span.{Span}
 use Rattle.meta_bind.specs.declared.bound.Bound.{Bound}
 use Rattle.meta_bind.specs.Bounds.{Agree}
@@ -56,11 +56,12 @@ pub record IsChoice (Plain Inside : Chosen) (s : State) : Type 0 where
   pub plain : s.plain ≡ merged_all (map binding_of chosen)
   pub inside : s.inside ≡ merged_all (map binding_of around)
 
--- the range and the binding of a choice whose range is a chosen plain one; the place of a name is that of the plain
--- operands, where they bind it
+-- the range and the binding of a choice whose range is a chosen plain one, where the chosen ranges have an intersection: that
+-- of ranges that lie apart would end before it begins; the place of a name is that of the plain operands, where they bind it
 pub record IsMet (Plain Inside : Chosen) (m : Member) : Type 0 where
   pub state : State
   pub choice : IsChoice Plain Inside state
+  pub ends_last : state.range.from ≤ state.range.to
   pub marked : state.marked ≡ true
   pub range : m.0 ≡ state.range
   pub binding : m.1 ≡ extended state.plain state.inside

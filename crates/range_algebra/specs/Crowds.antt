@@ -83,13 +83,17 @@ module _ (leaves : List Leaf) (bytes : List ℕ) where
   abbrev pub Prefixes : Trees.Branches → Search
   Prefixes bs o = MatchBool (Trees.has Trees.is_positive bs) (Then (PlainPrefixes Plain bs 0 bs) (InsidePrefixes bs 0 bs) o) (PlainPrefixes Inside bs 0 bs o)
 
+  -- the prefixes of the operands, then the set of all that the children allow
+  abbrev pub AtAll : Trees.Branches → Search
+  AtAll bs o = Then (Prefixes bs) (OneSet [] (Meets leaves bytes (Trees.all_of bs) None)) o
+
   abbrev mutual
     -- the sets of a formula: those of its children in order, then the prefixes of its operands, then its own
     pub Over : Trees.Tree → Search
     Over (Trees.leaf k) o = LeafSearch (slice_get leaves k) o
     Over (Trees.regex k) o = Nothing o
     Over (Trees.some_of ts) o = Then (OverTrees 0 ts) (OneSet [] (MeetsSome leaves bytes ts)) o
-    Over (Trees.all_of bs) o = Then (OverBranches 0 bs) (Then (Prefixes bs) (OneSet [] (Meets leaves bytes (Trees.all_of bs) None))) o
+    Over (Trees.all_of bs) o = Then (OverBranches 0 bs) (AtAll bs) o
 
     pub OverTrees : ℕ → Trees.Trees → Search
     OverTrees i Trees.no_trees o = Nothing o

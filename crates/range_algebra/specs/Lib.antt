@@ -8,4 +8,5 @@ pub mod Joins
 pub mod Conditions
 pub mod Orders
 pub mod Meets
+pub mod Parts
 pub mod Crowds

@@ -11,6 +11,7 @@ use Rattle.tree_match.specs.Members.{Member}
 use Rattle.range_algebra.specs.declared.join.Role.{Role}
 use Rattle.range_algebra.specs.declared.join.Role.TheVariants.{Plain, Inside}
 use Rattle.range_algebra.specs.Ranges.{IsWithin, HasBytes}
+use Rattle.range_algebra.specs.Sizes.{Any}
 use Rattle.range_algebra.specs.Trees
 use Rattle.range_algebra.specs.Choices.{Chosen, FirstOf, NoneOf, IsMet}
 
@@ -30,10 +31,17 @@ abbrev pub IsOperandsMember : Trees.Branches → Chosen → Chosen → Option Sp
 IsOperandsMember bs Positives Insides given m =
     MatchBool (Trees.has Trees.is_positive bs) (IsMet Positives Insides m) (MatchBool (Trees.has Trees.is_inside bs) (IsMet Insides NoneOf m) (IsGiven given m))
 
+-- the choice at the range of the name, where it is bound to one that isn't empty
+abbrev pub IsShownAt : List ℕ → Member → Member → Type 0
+IsShownAt name c m = (b : Bound) × (bound_at name c.1 ≡ Some b) × HasBytes b.span × (m ≡ (b.span, c.1))
+
+-- the same for one of the names
+abbrev pub IsShownAmong : List (List ℕ) → Member → Member → Type 0
+IsShownAmong names c m = Any (λ (name : List ℕ). IsShownAt name c m) names
+
 -- what is shown of a choice: without a focus the choice; else the choice at each range in focus that isn't empty
 abbrev pub IsShown : Trees.Branches → Member → Member → Type 0
-IsShown bs c m =
-    MatchBool (Trees.has Trees.is_focus bs) ((name : List ℕ) × Among (Trees.focused bs) name × (b : Bound) × (bound_at name c.1 ≡ Some b) × HasBytes b.span × (m ≡ (b.span, c.1))) (m ≡ c)
+IsShown bs c m = MatchBool (Trees.has Trees.is_focus bs) (IsShownAmong (Trees.focused bs) c m) (m ≡ c)
 
 module _ (leaves : List Leaf) (bytes : List ℕ) where
   abbrev mutual
@@ -76,3 +84,7 @@ module _ (leaves : List Leaf) (bytes : List ℕ) where
     Allows (Trees.meta_compare x) c = IsTrue (holds c.1 bytes x)
     Allows (Trees.meta_pattern name t) c = MatchOption (bound_at name c.1) ⊥ (λ b. (d : List Bound) × Meets t (Some b.span) (b.span, d) × Agree c.1 d)
     Allows (Trees.focus names) c = Unit {0}
+
+  -- the choices of one member of each operand of the children
+  abbrev pub IsChosen : Trees.Branches → Member → Type 0
+  IsChosen bs m = IsOperandsMember bs (OneOfEach Plain bs) (OneOfEach Inside bs) None m

@@ -1,12 +1,18 @@
 //! What all the children of a formula allow.
 
-ghost use Rattle.std.specs.Prelude.{◌≡◌, length};
+ghost use Rattle.std.specs.Prelude.{◌≡◌, ◌↔◌, map, None, IsTrue, IfOk, IfErr, OnOk};
+ghost use Rattle.tree_match.specs.Sets.{Adds};
+ghost use Rattle.range_algebra.specs.Trees.{all_of, branch_of, branches_of, names_of};
+ghost use Rattle.range_algebra.specs.Meets.{Allowed, IsShown, IsShownAt, IsShownAmong};
+ghost use Rattle.range_algebra.specs.Parts.{AreParts, IsSetOf};
+ghost use Rattle.range_algebra.specs.Crowds.{AtAll, IsFaultFrom};
 
 use crate::choice::choices;
 use crate::condition::{allows, has_focus};
 use crate::evaluate::limited;
 use crate::fault::EvalFault;
 use crate::order::settled;
+use crate::part::Part;
 use crate::scene::{Member, ROOM, Scene};
 use node_tree::Memory;
 use rule_form::Child;
@@ -17,13 +23,14 @@ fn is_allowed<'t>(
     alloc: Global,
     scene: Scene<'t>,
     children: &[Child],
-    parts: &[Vec<Vec<Member<'t>>>],
+    parts: &[Part<'t>],
     one: &Member<'t>,
 ) -> Result<bool, Memory>
-    requires { length parts.now ≡ length children.now }
+    requires parts { AreParts scene.leaves.now scene.bytes.now (branches_of (map branch_of children.now)) parts.now }
+    ensures { IfOk result (λ y. IsTrue y ↔ Allowed scene.leaves.now scene.bytes.now (branches_of (map branch_of children.now)) one.now) }
 {
     for (i, child) in children.iter().enumerate() {
-        if !allows(alloc, scene, child, parts[i].as_slice(), one.0, &one.1)? {
+        if !allows(alloc, scene, child, &parts[i], one)? {
             return Ok(false);
         }
     }
@@ -35,7 +42,9 @@ fn add_at<'t>(
     name: &str,
     one: &Member<'t>,
     members: &mut Vec<Member<'t>>,
-) -> Result<(), Memory> {
+) -> Result<(), Memory>
+    ensures { OnOk result (Adds members.old.items members.new.items (IsShownAt name.now one.now)) }
+{
     if let Some(held) = one.1.get(name) {
         if held.span.from < held.span.to {
             members.push((held.span, one.1.copy()?))?;
@@ -49,7 +58,9 @@ fn add_focused<'t>(
     child: &Child,
     one: &Member<'t>,
     members: &mut Vec<Member<'t>>,
-) -> Result<(), Memory> {
+) -> Result<(), Memory>
+    ensures { OnOk result (Adds members.old.items members.new.items (IsShownAmong (names_of (branch_of child.now)) one.now)) }
+{
     if let Child::Focus(names) = child {
         for name in names.as_slice() {
             add_at(name.as_str(), one, members)?;
@@ -63,7 +74,9 @@ fn add_shown<'t>(
     children: &[Child],
     one: &Member<'t>,
     members: &mut Vec<Member<'t>>,
-) -> Result<(), Memory> {
+) -> Result<(), Memory>
+    ensures { OnOk result (Adds members.old.items members.new.items (IsShown (branches_of (map branch_of children.now)) one.now)) }
+{
     if !has_focus(children) {
         members.push((one.0, one.1.copy()?))?;
         return Ok(());
@@ -79,11 +92,14 @@ pub fn all_members<'t>(
     alloc: Global,
     scene: Scene<'t>,
     children: &[Child],
-    parts: &[Vec<Vec<Member<'t>>>],
+    parts: &[Part<'t>],
 ) -> Result<Vec<Member<'t>>, EvalFault>
-    requires { length parts.now ≡ length children.now }
+    requires parts { AreParts scene.leaves.now scene.bytes.now (branches_of (map branch_of children.now)) parts.now }
+    ensures exact { IfOk result (λ v. IsSetOf scene.leaves.now scene.bytes.now (all_of (branches_of (map branch_of children.now))) v.items) }
+    ensures few { IfOk result (λ _. AtAll scene.leaves.now scene.bytes.now (branches_of (map branch_of children.now)) None) }
+    ensures crowded { IfErr result (IsFaultFrom (AtAll scene.leaves.now scene.bytes.now (branches_of (map branch_of children.now)))) }
 {
-    let chosen = choices(alloc, children, parts)?;
+    let chosen = choices(alloc, scene, children, parts)?;
     let mut members = Vec::new(alloc);
     for one in chosen.as_slice() {
         if is_allowed(alloc, scene, children, parts, one)? {

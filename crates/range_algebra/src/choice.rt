@@ -1,8 +1,13 @@
 //! The choices of one member of each operand.
 
-ghost use Rattle.std.specs.Prelude.{◌≡◌, ◌≤◌, ◌<◌, [], ◌∷◌, length, count_by, IfOk, IfErr};
+ghost use Rattle.std.specs.Prelude.{◌≡◌, ◌↔◌, ◌≤◌, ◌<◌, [], ◌∷◌, length, map, count_by, None, IfOk, IfErr};
 ghost use Rattle.range_algebra.specs.Agreements.{has_bytes as has};
-ghost use Rattle.range_algebra.specs.Crowds.{NamesSet};
+ghost use Rattle.range_algebra.specs.Crowds.{NamesSet, Prefixes, IsFaultFrom};
+ghost use Rattle.range_algebra.specs.Meets.{IsChosen};
+ghost use Rattle.range_algebra.specs.Parts.{AreParts};
+ghost use Rattle.range_algebra.specs.Trees.{branch_of, branches_of};
+ghost use Rattle.tree_match.specs.Sets.{Among};
+ghost use Rattle.tree_match.specs.Members.{Member as member_value};
 ghost use Rattle.range_algebra.specs.declared.state.State.{State as state_value};
 
 use crate::evaluate::crowded;
@@ -10,7 +15,8 @@ use crate::fault::EvalFault;
 use crate::join::{Role, begin, count, join};
 use crate::operand::{Operand, operands};
 use crate::order::settled;
-use crate::scene::{MOST, Member};
+use crate::part::Part;
+use crate::scene::{MOST, Member, Scene};
 use crate::state::State;
 use rule_form::Child;
 use std::alloc::Global;
@@ -53,13 +59,18 @@ fn states_of<'t>(
     Ok(states)
 }
 
-/// The ranges that the operands among the children allow, with their bindings. Where no operand is plain, all count so.
+/// The ranges that the operands among the children allow, with their bindings. Where no operand is plain, all count so. Where
+/// there is no operand there are none.
 pub fn choices<'t>(
     alloc: Global,
+    scene: Scene<'t>,
     children: &[Child],
-    parts: &[Vec<Vec<Member<'t>>>],
+    parts: &[Part<'t>],
 ) -> Result<Vec<Member<'t>>, EvalFault>
-    requires { length parts.now ≡ length children.now }
+    requires parts { AreParts scene.leaves.now scene.bytes.now (branches_of (map branch_of children.now)) parts.now }
+    ensures exact { IfOk result (λ v. (m : member_value) → Among v.items m ↔ IsChosen scene.leaves.now scene.bytes.now (branches_of (map branch_of children.now)) m) }
+    ensures few { IfOk result (λ _. Prefixes scene.leaves.now scene.bytes.now (branches_of (map branch_of children.now)) None) }
+    ensures crowded { IfErr result (IsFaultFrom (Prefixes scene.leaves.now scene.bytes.now (branches_of (map branch_of children.now)))) }
 {
     let plains = operands(alloc, children, parts, true)?;
     let insides = operands(alloc, children, parts, false)?;

@@ -1,14 +1,16 @@
 //! What is taken away from the choices, and the conditions on what is bound.
 
-ghost use Rattle.std.specs.Prelude.{◌≡◌, ◌↔◌, [], map, IsTrue};
-ghost use Rattle.range_algebra.specs.Conditions.{IsEqualTo, IsAround};
+ghost use Rattle.std.specs.Prelude.{◌≡◌, ◌↔◌, [], map, false, Some, IsTrue, IfOk};
+ghost use Rattle.range_algebra.specs.Conditions.{IsEqualTo, IsAround, AllowsBy};
+ghost use Rattle.range_algebra.specs.Meets.{Meets, Allows};
+ghost use Rattle.range_algebra.specs.Parts.{IsPart, AreTakenAway, has_operands};
 ghost use Rattle.range_algebra.specs.Sizes.{Any};
-ghost use Rattle.range_algebra.specs.Trees.{branch_of, branches_of, has, is_focus};
+ghost use Rattle.range_algebra.specs.Trees.{all_of, meta_pattern, tree_of, branch_of, branches_of, has, is_focus};
 
-use crate::operand::is_bare;
+use crate::part::Part;
 use crate::range::{is_equal, lies_in};
 use crate::scene::{Member, Scene};
-use meta_bind::{Held, Trail};
+use meta_bind::Trail;
 use meta_filter::holds_comparison;
 use node_tree::{Memory, Span};
 use rule_form::{Child, Formula};
@@ -52,20 +54,6 @@ fn has_around<'t>(members: &[Member<'t>], range: Span, trail: &Trail<'t>) -> boo
     false
 }
 
-// The first of these sets, without members where there is none.
-fn first_of<'s, 't>(sets: &'s [Vec<Member<'t>>]) -> &'s [Member<'t>] {
-    match sets {
-        [] => &[],
-        [first, ..] => first.as_slice(),
-    }
-}
-
-// The set at that place, without members past the end.
-fn set_at<'s, 't>(sets: &'s [Vec<Member<'t>>], at: usize) -> &'s [Member<'t>] {
-    let from = at.min(sets.len());
-    first_of(&sets[from..])
-}
-
 // Whether the child puts names in focus.
 #[tactic(auto, using(crate::proofs::Layers::branch_layers))]
 fn focuses(child: &Child) -> bool
@@ -89,51 +77,74 @@ pub fn has_focus(children: &[Child]) -> bool
     false
 }
 
-// Whether children that have no operand allow the range that is bound to a metavariable.
+// Whether a child allows the choice, where these are the members of its formula. A condition on a metavariable isn't asked of
+// what it matches: none allows the choice.
+fn allows_by<'t>(
+    alloc: Global,
+    scene: Scene<'t>,
+    child: &Child,
+    members: &[Member<'t>],
+    one: &Member<'t>,
+) -> Result<bool, Memory>
+    ensures { IfOk result (λ y. IsTrue y ↔ AllowsBy scene.bytes.now members.now one.now (branch_of child.now)) }
+{
+    match child {
+        Child::Not(_) => Ok(!has_equal(members, one.0, &one.1)),
+        Child::NotInside(_) => Ok(!has_around(members, one.0, &one.1)),
+        Child::MetaRegex(_, _) => Ok(false),
+        Child::MetaPattern(_, _) => Ok(false),
+        Child::MetaCompare(comparison) => {
+            Ok(holds_comparison(comparison, &one.1.keep()?, scene.bytes))
+        }
+        _ => Ok(true),
+    }
+}
+
+// Whether the children of a formula without operands, each with its set, allow the range that is bound to a metavariable.
 fn allows_bare<'t>(
     alloc: Global,
     scene: Scene<'t>,
     children: &[Child],
     sets: &[Vec<Member<'t>>],
     range: Span,
-) -> Result<bool, Memory> {
+) -> Result<bool, Memory>
+    requires bare { has_operands (branches_of (map branch_of children.now)) ≡ false }
+    requires sets { AreTakenAway scene.leaves.now scene.bytes.now (branches_of (map branch_of children.now)) sets.now }
+    ensures { IfOk result (λ y. IsTrue y ↔ Meets scene.leaves.now scene.bytes.now (all_of (branches_of (map branch_of children.now))) (Some range) (range, [])) }
+{
     if has_focus(children) {
         return Ok(false);
     }
-    let empty = Trail::new(alloc);
+    let one = (range, Trail::new(alloc));
     for (i, child) in children.iter().enumerate() {
-        let allowed = match child {
-            Child::Not(_) => !has_equal(set_at(sets, i), range, &empty),
-            Child::NotInside(_) => !has_around(set_at(sets, i), range, &empty),
-            Child::MetaRegex(_, _) => false,
-            Child::MetaPattern(_, _) => false,
-            Child::MetaCompare(comparison) => {
-                holds_comparison(comparison, &empty.keep()?, scene.bytes)
-            }
-            _ => true,
-        };
-        if !allowed {
+        if !allows_by(alloc, scene, child, sets[i].as_slice(), &one)? {
             return Ok(false);
         }
     }
     Ok(true)
 }
 
-// Whether what is bound matches the formula, with a binding that agrees.
+// Whether what is bound to the name matches the formula, with a binding that agrees.
 fn matches<'t>(
     alloc: Global,
     scene: Scene<'t>,
+    name: &str,
     formula: &Formula,
-    sets: &[Vec<Member<'t>>],
-    held: Held<'t>,
-    trail: &Trail<'t>,
-) -> Result<bool, Memory> {
-    if let Formula::All(children) = formula {
-        if is_bare(children.as_slice()) {
-            return allows_bare(alloc, scene, children.as_slice(), sets, held.span);
+    part: &Part<'t>,
+    one: &Member<'t>,
+) -> Result<bool, Memory>
+    requires part { IsPart scene.leaves.now scene.bytes.now (meta_pattern name.now (tree_of formula.now)) part.now }
+    ensures { IfOk result (λ y. IsTrue y ↔ Allows scene.leaves.now scene.bytes.now (meta_pattern name.now (tree_of formula.now)) one.now) }
+{
+    let Some(held) = one.1.get(name) else {
+        return Ok(false);
+    };
+    if let Part::Bare(sets) = part {
+        if let Formula::All(children) = formula {
+            return allows_bare(alloc, scene, children.as_slice(), sets.as_slice(), held.span);
         }
     }
-    Ok(has_equal(set_at(sets, 0), held.span, trail))
+    Ok(has_equal(part.members(), held.span, &one.1))
 }
 
 /// Whether the child takes the choice not away, and its condition holds.
@@ -141,21 +152,16 @@ pub fn allows<'t>(
     alloc: Global,
     scene: Scene<'t>,
     child: &Child,
-    sets: &[Vec<Member<'t>>],
-    range: Span,
-    trail: &Trail<'t>,
-) -> Result<bool, Memory> {
+    part: &Part<'t>,
+    one: &Member<'t>,
+) -> Result<bool, Memory>
+    requires part { IsPart scene.leaves.now scene.bytes.now (branch_of child.now) part.now }
+    ensures { IfOk result (λ y. IsTrue y ↔ Allows scene.leaves.now scene.bytes.now (branch_of child.now) one.now) }
+{
     match child {
-        Child::Not(_) => Ok(!has_equal(set_at(sets, 0), range, trail)),
-        Child::NotInside(_) => Ok(!has_around(set_at(sets, 0), range, trail)),
-        Child::MetaRegex(_, _) => Ok(false),
-        Child::MetaCompare(comparison) => {
-            Ok(holds_comparison(comparison, &trail.keep()?, scene.bytes))
+        Child::MetaPattern(name, formula) => {
+            matches(alloc, scene, name.as_str(), formula, part, one)
         }
-        Child::MetaPattern(name, formula) => match trail.get(name.as_str()) {
-            None => Ok(false),
-            Some(held) => matches(alloc, scene, formula, sets, held, trail),
-        },
-        _ => Ok(true),
+        _ => allows_by(alloc, scene, child, part.members(), one),
     }
 }

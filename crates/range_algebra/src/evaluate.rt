@@ -1,14 +1,20 @@
 //! The members of a formula.
 
-ghost use Rattle.std.specs.Prelude.{◌≡◌, ◌≤◌, ◌<◌, [], length, IfOk, IfErr};
+ghost use Rattle.std.specs.Prelude.{◌≡◌, ◌↔◌, ◌≤◌, ◌<◌, ℕ, List, [], length, map, None, IfOk, IfErr};
 ghost use Rattle.std.specs.Option.{option_to_list};
-ghost use Rattle.range_algebra.specs.Crowds.{NamesSet};
+ghost use Rattle.tree_match.specs.Sets.{Among};
+ghost use Rattle.tree_match.specs.Ascending.{IsAscending};
+ghost use Rattle.tree_match.specs.Members.{Member as member_value, member_cmp};
+ghost use Rattle.range_algebra.specs.Trees.{tree_of, trees_of, branch_of, branches_of, meta_pattern};
+ghost use Rattle.range_algebra.specs.Parts.{IsSetOf, AreSetsOf, IsInSome, IsPart, AreParts, AreTakenAway};
+ghost use Rattle.range_algebra.specs.Crowds.{NamesSet, IsFaultFrom, OneSet, Over, OverTrees, OverBranches, OverBranch};
 
 use crate::all::all_members;
 use crate::fault::EvalFault;
 use crate::leaf::leaf_members;
 use crate::operand::is_bare;
 use crate::order::settled;
+use crate::part::Part;
 use crate::scene::{MOST, Member, ROOM, Scene};
 use node_tree::List;
 use rule_form::{Child, Formula};
@@ -57,7 +63,12 @@ fn inside<T: Drop>(number: usize, found: Result<T, EvalFault>) -> Result<T, Eval
 fn union<'t>(
     alloc: Global,
     sets: &[Vec<Member<'t>>],
-) -> Result<Vec<Member<'t>>, EvalFault> {
+) -> Result<Vec<Member<'t>>, EvalFault>
+    ensures ordered { IfOk result (λ v. IsAscending member_cmp v.items) }
+    ensures exact { IfOk result (λ v. (m : member_value) → Among v.items m ↔ IsInSome sets.now m) }
+    ensures crowded { IfErr result (IsFaultFrom (OneSet [] (IsInSome sets.now))) }
+    ensures few { IfOk result (λ v. length v.items ≤ 10000) }
+{
     let mut members = Vec::new(alloc);
     for set in sets {
         for (range, trail) in set.as_slice() {
@@ -76,7 +87,11 @@ pub fn members_of<'t>(
     alloc: Global,
     scene: Scene<'t>,
     formula: &'t Formula,
-) -> Result<Vec<Member<'t>>, EvalFault> {
+) -> Result<Vec<Member<'t>>, EvalFault>
+    ensures exact { IfOk result (λ v. IsSetOf scene.leaves.now scene.bytes.now (tree_of formula.now) v.items) }
+    ensures few { IfOk result (λ _. Over scene.leaves.now scene.bytes.now (tree_of formula.now) None) }
+    ensures crowded { IfErr result (IsFaultFrom (Over scene.leaves.now scene.bytes.now (tree_of formula.now))) }
+{
     match formula {
         Formula::Leaf(number) => leaf_members(alloc, scene, *number),
         Formula::Regex(_) => Ok(Vec::new(alloc)),
@@ -91,12 +106,17 @@ pub fn members_of<'t>(
     }
 }
 
+// The sets of the formulas, in order.
 #[cycle(evaluate)]
 fn members_of_each<'t>(
     alloc: Global,
     scene: Scene<'t>,
     formulas: &'t [Formula],
-) -> Result<Vec<Vec<Member<'t>>>, EvalFault> {
+) -> Result<Vec<Vec<Member<'t>>>, EvalFault>
+    ensures exact { IfOk result (λ sets. AreSetsOf scene.leaves.now scene.bytes.now (trees_of (map tree_of formulas.now)) sets.items) }
+    ensures few { IfOk result (λ _. OverTrees scene.leaves.now scene.bytes.now 0 (trees_of (map tree_of formulas.now)) None) }
+    ensures crowded { IfErr result (IsFaultFrom (OverTrees scene.leaves.now scene.bytes.now 0 (trees_of (map tree_of formulas.now)))) }
+{
     let mut sets = Vec::new(alloc);
     for (i, formula) in formulas.iter().enumerate() {
         sets.push(inside(i, members_of(alloc, scene, formula))?)?;
@@ -104,57 +124,79 @@ fn members_of_each<'t>(
     Ok(sets)
 }
 
-// The members of the formula of each child, and for a formula without operands those of its children.
+// What the children need, in order.
 #[cycle(evaluate)]
 fn parts_of_each<'t>(
     alloc: Global,
     scene: Scene<'t>,
     children: &'t [Child],
-) -> Result<Vec<Vec<Vec<Member<'t>>>>, EvalFault>
-    ensures { IfOk result (λ parts. length parts.items ≡ length children.now) }
+) -> Result<Vec<Part<'t>>, EvalFault>
+    ensures exact { IfOk result (λ parts. AreParts scene.leaves.now scene.bytes.now (branches_of (map branch_of children.now)) parts.items) }
+    ensures few { IfOk result (λ _. OverBranches scene.leaves.now scene.bytes.now 0 (branches_of (map branch_of children.now)) None) }
+    ensures crowded { IfErr result (IsFaultFrom (OverBranches scene.leaves.now scene.bytes.now 0 (branches_of (map branch_of children.now)))) }
 {
     let mut parts = Vec::new(alloc);
     for (i, child) in children.iter().enumerate() {
-        parts.push(inside(i, parts_of(alloc, scene, child))?)?;
+        parts.push(inside(i, part_of(alloc, scene, child))?)?;
     }
     Ok(parts)
 }
 
+// What the child needs.
 #[cycle(evaluate)]
-fn parts_of<'t>(
+fn part_of<'t>(
     alloc: Global,
     scene: Scene<'t>,
     child: &'t Child,
-) -> Result<Vec<Vec<Member<'t>>>, EvalFault> {
-    let mut sets = Vec::new(alloc);
+) -> Result<Part<'t>, EvalFault>
+    ensures exact { IfOk result (IsPart scene.leaves.now scene.bytes.now (branch_of child.now)) }
+    ensures few { IfOk result (λ _. OverBranch scene.leaves.now scene.bytes.now (branch_of child.now) None) }
+    ensures crowded { IfErr result (IsFaultFrom (OverBranch scene.leaves.now scene.bytes.now (branch_of child.now))) }
+{
     match child {
-        Child::Positive(formula) => sets.push(members_of(alloc, scene, formula)?)?,
-        Child::Inside(formula) => sets.push(members_of(alloc, scene, formula)?)?,
-        Child::Not(formula) => sets.push(members_of(alloc, scene, formula)?)?,
-        Child::NotInside(formula) => sets.push(members_of(alloc, scene, formula)?)?,
-        Child::MetaPattern(_, formula) => return nested(alloc, scene, formula),
-        _ => {}
+        Child::Positive(formula) => Ok(Part::Members(members_of(alloc, scene, formula)?)),
+        Child::Inside(formula) => Ok(Part::Members(members_of(alloc, scene, formula)?)),
+        Child::Not(formula) => Ok(Part::Members(members_of(alloc, scene, formula)?)),
+        Child::NotInside(formula) => Ok(Part::Members(members_of(alloc, scene, formula)?)),
+        Child::MetaPattern(_, formula) => asked(alloc, scene, formula),
+        _ => Ok(Part::Nothing),
     }
-    Ok(sets)
 }
 
-// The sets that a condition on a metavariable asks for.
+// What a condition on a metavariable needs.
 #[cycle(evaluate)]
-fn nested<'t>(
+fn asked<'t>(
     alloc: Global,
     scene: Scene<'t>,
     formula: &'t Formula,
-) -> Result<Vec<Vec<Member<'t>>>, EvalFault> {
-    let mut sets = Vec::new(alloc);
+) -> Result<Part<'t>, EvalFault>
+    ensures exact { IfOk result (λ part. (name : List ℕ) → IsPart scene.leaves.now scene.bytes.now (meta_pattern name (tree_of formula.now)) part) }
+    ensures few { IfOk result (λ _. Over scene.leaves.now scene.bytes.now (tree_of formula.now) None) }
+    ensures crowded { IfErr result (IsFaultFrom (Over scene.leaves.now scene.bytes.now (tree_of formula.now))) }
+{
     if let Formula::All(children) = formula {
         if is_bare(children.as_slice()) {
-            for (i, child) in children.as_slice().iter().enumerate() {
-                let mut found = inside(i, parts_of(alloc, scene, child))?;
-                sets.push(found.pop().unwrap_or(Vec::new(alloc)))?;
-            }
-            return Ok(sets);
+            return Ok(Part::Bare(taken_away(alloc, scene, children.as_slice())?));
         }
     }
-    sets.push(members_of(alloc, scene, formula)?)?;
+    Ok(Part::Members(members_of(alloc, scene, formula)?))
+}
+
+// The sets of the children of a formula without operands, in order.
+#[cycle(evaluate)]
+fn taken_away<'t>(
+    alloc: Global,
+    scene: Scene<'t>,
+    children: &'t [Child],
+) -> Result<Vec<Vec<Member<'t>>>, EvalFault>
+    ensures exact { IfOk result (λ sets. AreTakenAway scene.leaves.now scene.bytes.now (branches_of (map branch_of children.now)) sets.items) }
+    ensures few { IfOk result (λ _. OverBranches scene.leaves.now scene.bytes.now 0 (branches_of (map branch_of children.now)) None) }
+    ensures crowded { IfErr result (IsFaultFrom (OverBranches scene.leaves.now scene.bytes.now 0 (branches_of (map branch_of children.now)))) }
+{
+    let mut sets = Vec::new(alloc);
+    for (i, child) in children.iter().enumerate() {
+        let part = inside(i, part_of(alloc, scene, child))?;
+        sets.push(part.into_members(alloc))?;
+    }
     Ok(sets)
 }

@@ -1,11 +1,11 @@
 //! One operand more to a choice.
 
-ghost use Rattle.std.specs.Prelude.{◌≡◌, ◌↔◌, IsTrue, OnOk, IfOk, count_by};
+ghost use Rattle.std.specs.Prelude.{◌≡◌, ◌↔◌, ◌≤◌, IsTrue, OnOk, IfOk, count_by};
 ghost use Rattle.tree_match.specs.Sets.{Among, Adds};
 ghost use Rattle.tree_match.specs.Ascending.{IsAscending};
 ghost use Rattle.range_algebra.specs.Sizes.{Any};
 ghost use Rattle.range_algebra.specs.Agreements.{has_bytes as has};
-ghost use Rattle.range_algebra.specs.Joins.{joined as with_member, begun as begun_of, state_cmp, IsRangeOf, HasRange, IsNeeded, IsJoinedWith, IsJoinedFrom};
+ghost use Rattle.range_algebra.specs.Joins.{joined as with_member, begun as begun_of, state_cmp, IsRangeOf, HasRange, IsNeeded, IsJoinedWith, IsJoinedFrom, IsJoined};
 ghost use Rattle.range_algebra.specs.declared.state.State.{State as state_value};
 
 use crate::operand::Operand;
@@ -174,7 +174,11 @@ pub fn join<'t>(
     before: &[State<'t>],
     members: &[Member<'t>],
     later: &[Operand<'_, 't>],
-) -> Result<Vec<State<'t>>, Memory> {
+) -> Result<Vec<State<'t>>, Memory>
+    ensures ordered { IfOk result (λ v. IsAscending state_cmp v.items) }
+    ensures sound { IfOk result (λ v. (s : state_value) → Among v.items s → IsJoined role before.now members.now s × IsNeeded later.now s) }
+    ensures whole { IfOk result (λ v. count_by (λ (s : state_value). has s.range) v.items ≤ 10000 → (s : state_value) → IsJoined role before.now members.now s → IsNeeded later.now s → Among v.items s) }
+{
     let mut states = Vec::new(alloc);
     for state in before {
         add_joined(role, state, members, later, &mut states)?;

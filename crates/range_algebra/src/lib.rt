@@ -11,6 +11,7 @@ mod join;
 mod leaf;
 mod operand;
 mod order;
+mod part;
 mod range;
 mod scene;
 mod set;

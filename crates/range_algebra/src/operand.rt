@@ -3,6 +3,7 @@
 ghost use Rattle.std.specs.Prelude.{◌≡◌, map, not, length, ◌||◌};
 ghost use Rattle.range_algebra.specs.Trees.{branch_of, branches_of, has, is_positive, is_inside as inside};
 
+use crate::part::Part;
 use crate::scene::Member;
 use node_tree::Memory;
 use rule_form::Child;
@@ -53,7 +54,7 @@ pub fn is_bare(children: &[Child]) -> bool
 pub fn operands<'s, 't>(
     alloc: Global,
     children: &[Child],
-    parts: &'s [Vec<Vec<Member<'t>>>],
+    parts: &'s [Part<'t>],
     plain: bool,
 ) -> Result<Vec<Operand<'s, 't>>, Memory>
     requires { length parts.now ≡ length children.now }
@@ -62,12 +63,8 @@ pub fn operands<'s, 't>(
     for (number, child) in children.iter().enumerate() {
         let wanted = if plain { is_plain(child) } else { is_inside(child) };
         if wanted {
-            for set in parts[number].as_slice() {
-                operands.push(Operand {
-                    number,
-                    members: set.as_slice(),
-                })?;
-            }
+            let members = parts[number].members();
+            operands.push(Operand { number, members })?;
         }
     }
     Ok(operands)
