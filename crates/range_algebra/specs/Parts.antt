@@ -1,5 +1,6 @@
 -- The sets that the children of `All` ask for.
 use Rattle.std.specs.Prelude.{◌≡◌, ℕ, List, [], ◌∷◌, Vec, Bool, false, None, ◌||◌}
+use Rattle.std.specs.declared.alloc.Global.{Global}
 use Rattle.tree_match.specs.declared.leaf.Leaf.{Leaf}
 use Rattle.tree_match.specs.Sets.{Among}
 use Rattle.tree_match.specs.Members.{Member}
@@ -29,8 +30,8 @@ HasNoFormula (Trees.meta_pattern name t) = ⊥
 HasNoFormula _ = Unit {0}
 
 -- one of the sets has the member
-abbrev pub IsInSome : List (Vec Member) → Member → Type 0
-IsInSome sets m = Any (λ (v : Vec Member). Among v.items m) sets
+abbrev pub IsInSome : List (Vec Member Global) → Member → Type 0
+IsInSome sets m = Any (λ (v : Vec Member Global). Among v.items m) sets
 
 module _ (leaves : List Leaf) (bytes : List ℕ) where
   -- the members of the formula, all of them, in order and each once
@@ -38,7 +39,7 @@ module _ (leaves : List Leaf) (bytes : List ℕ) where
   IsSetOf t members = IsWhole (Meets leaves bytes t None) members
 
   -- one such set for each formula
-  abbrev pub AreSetsOf : Trees.Trees → List (Vec Member) → Type 0
+  abbrev pub AreSetsOf : Trees.Trees → List (Vec Member Global) → Type 0
   AreSetsOf Trees.no_trees sets = sets ≡ []
   AreSetsOf (Trees.tree_then t ts) [] = ⊥
   AreSetsOf (Trees.tree_then t ts) (v ∷ sets) = IsSetOf t v.items × AreSetsOf ts sets
@@ -59,13 +60,13 @@ module _ (leaves : List Leaf) (bytes : List ℕ) where
   IsTakenAway _ members = Unit {0}
 
   -- one such set for each child
-  abbrev pub AreTakenAway : Trees.Branches → List (Vec Member) → Type 0
+  abbrev pub AreTakenAway : Trees.Branches → List (Vec Member Global) → Type 0
   AreTakenAway Trees.no_branches sets = sets ≡ []
   AreTakenAway (Trees.branch_then b bs) [] = ⊥
   AreTakenAway (Trees.branch_then b bs) (v ∷ sets) = IsTakenAway b v.items × AreTakenAway bs sets
 
   -- the child is a condition by a bare formula, of which these are the sets
-  abbrev pub IsBarePart : Trees.Branch → List (Vec Member) → Type 0
+  abbrev pub IsBarePart : Trees.Branch → List (Vec Member Global) → Type 0
   IsBarePart (Trees.meta_pattern name (Trees.all_of bs)) sets = (has_operands bs ≡ false) × AreTakenAway bs sets
   IsBarePart _ sets = ⊥
 

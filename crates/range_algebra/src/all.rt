@@ -27,7 +27,7 @@ fn is_allowed<'t>(
     one: &Member<'t>,
 ) -> Result<bool, Memory>
     requires parts { AreParts scene.leaves.now scene.bytes.now (branches_of (map branch_of children.now)) parts.now }
-    ensures { IfOk result (λ y. IsTrue y ↔ Allowed scene.leaves.now scene.bytes.now (branches_of (map branch_of children.now)) one.now) }
+    ensures { IfOk result (λ y. IsTrue y ↔ Allowed scene.entry.leaves.now scene.entry.bytes.now (branches_of (map branch_of children.now)) one.now) }
 {
     for (i, child) in children.iter().enumerate() {
         if !allows(alloc, scene, child, &parts[i], one)? {
@@ -95,9 +95,9 @@ pub fn all_members<'t>(
     parts: &[Part<'t>],
 ) -> Result<Vec<Member<'t>>, EvalFault>
     requires parts { AreParts scene.leaves.now scene.bytes.now (branches_of (map branch_of children.now)) parts.now }
-    ensures exact { IfOk result (λ v. IsSetOf scene.leaves.now scene.bytes.now (all_of (branches_of (map branch_of children.now))) v.items) }
-    ensures few { IfOk result (λ _. AtAll scene.leaves.now scene.bytes.now (branches_of (map branch_of children.now)) None) }
-    ensures crowded { IfErr result (IsFaultFrom (AtAll scene.leaves.now scene.bytes.now (branches_of (map branch_of children.now)))) }
+    ensures exact { IfOk result (λ v. IsSetOf scene.entry.leaves.now scene.entry.bytes.now (all_of (branches_of (map branch_of children.now))) v.items) }
+    ensures few { IfOk result (λ _. AtAll scene.entry.leaves.now scene.entry.bytes.now (branches_of (map branch_of children.now)) None) }
+    ensures crowded { IfErr result (IsFaultFrom (AtAll scene.entry.leaves.now scene.entry.bytes.now (branches_of (map branch_of children.now)))) }
 {
     let chosen = choices(alloc, scene, children, parts)?;
     let mut members = Vec::new(alloc);

@@ -68,9 +68,9 @@ pub fn choices<'t>(
     parts: &[Part<'t>],
 ) -> Result<Vec<Member<'t>>, EvalFault>
     requires parts { AreParts scene.leaves.now scene.bytes.now (branches_of (map branch_of children.now)) parts.now }
-    ensures exact { IfOk result (λ v. (m : member_value) → Among v.items m ↔ IsChosen scene.leaves.now scene.bytes.now (branches_of (map branch_of children.now)) m) }
-    ensures few { IfOk result (λ _. Prefixes scene.leaves.now scene.bytes.now (branches_of (map branch_of children.now)) None) }
-    ensures crowded { IfErr result (IsFaultFrom (Prefixes scene.leaves.now scene.bytes.now (branches_of (map branch_of children.now)))) }
+    ensures exact { IfOk result (λ v. (m : member_value) → Among v.items m ↔ IsChosen scene.entry.leaves.now scene.entry.bytes.now (branches_of (map branch_of children.now)) m) }
+    ensures few { IfOk result (λ _. Prefixes scene.entry.leaves.now scene.entry.bytes.now (branches_of (map branch_of children.now)) None) }
+    ensures crowded { IfErr result (IsFaultFrom (Prefixes scene.entry.leaves.now scene.entry.bytes.now (branches_of (map branch_of children.now)))) }
 {
     let plains = operands(alloc, children, parts, true)?;
     let insides = operands(alloc, children, parts, false)?;

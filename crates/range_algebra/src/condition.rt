@@ -86,7 +86,7 @@ fn allows_by<'t>(
     members: &[Member<'t>],
     one: &Member<'t>,
 ) -> Result<bool, Memory>
-    ensures { IfOk result (λ y. IsTrue y ↔ AllowsBy scene.bytes.now members.now one.now (branch_of child.now)) }
+    ensures { IfOk result (λ y. IsTrue y ↔ AllowsBy scene.entry.bytes.now members.now one.now (branch_of child.now)) }
 {
     match child {
         Child::Not(_) => Ok(!has_equal(members, one.0, &one.1)),
@@ -110,7 +110,7 @@ fn allows_bare<'t>(
 ) -> Result<bool, Memory>
     requires bare { has_operands (branches_of (map branch_of children.now)) ≡ false }
     requires sets { AreTakenAway scene.leaves.now scene.bytes.now (branches_of (map branch_of children.now)) sets.now }
-    ensures { IfOk result (λ y. IsTrue y ↔ Meets scene.leaves.now scene.bytes.now (all_of (branches_of (map branch_of children.now))) (Some range) (range, [])) }
+    ensures { IfOk result (λ y. IsTrue y ↔ Meets scene.entry.leaves.now scene.entry.bytes.now (all_of (branches_of (map branch_of children.now))) (Some range) (range, [])) }
 {
     if has_focus(children) {
         return Ok(false);
@@ -134,7 +134,7 @@ fn matches<'t>(
     one: &Member<'t>,
 ) -> Result<bool, Memory>
     requires part { IsPart scene.leaves.now scene.bytes.now (meta_pattern name.now (tree_of formula.now)) part.now }
-    ensures { IfOk result (λ y. IsTrue y ↔ Allows scene.leaves.now scene.bytes.now (meta_pattern name.now (tree_of formula.now)) one.now) }
+    ensures { IfOk result (λ y. IsTrue y ↔ Allows scene.entry.leaves.now scene.entry.bytes.now (meta_pattern name.now (tree_of formula.now)) one.now) }
 {
     let Some(held) = one.1.get(name) else {
         return Ok(false);
@@ -156,7 +156,7 @@ pub fn allows<'t>(
     one: &Member<'t>,
 ) -> Result<bool, Memory>
     requires part { IsPart scene.leaves.now scene.bytes.now (branch_of child.now) part.now }
-    ensures { IfOk result (λ y. IsTrue y ↔ Allows scene.leaves.now scene.bytes.now (branch_of child.now) one.now) }
+    ensures { IfOk result (λ y. IsTrue y ↔ Allows scene.entry.leaves.now scene.entry.bytes.now (branch_of child.now) one.now) }
 {
     match child {
         Child::MetaPattern(name, formula) => {

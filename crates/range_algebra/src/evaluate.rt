@@ -88,9 +88,9 @@ pub fn members_of<'t>(
     scene: Scene<'t>,
     formula: &'t Formula,
 ) -> Result<Vec<Member<'t>>, EvalFault>
-    ensures exact { IfOk result (λ v. IsSetOf scene.leaves.now scene.bytes.now (tree_of formula.now) v.items) }
-    ensures few { IfOk result (λ _. Over scene.leaves.now scene.bytes.now (tree_of formula.now) None) }
-    ensures crowded { IfErr result (IsFaultFrom (Over scene.leaves.now scene.bytes.now (tree_of formula.now))) }
+    ensures exact { IfOk result (λ v. IsSetOf scene.entry.leaves.now scene.entry.bytes.now (tree_of formula.now) v.items) }
+    ensures few { IfOk result (λ _. Over scene.entry.leaves.now scene.entry.bytes.now (tree_of formula.now) None) }
+    ensures crowded { IfErr result (IsFaultFrom (Over scene.entry.leaves.now scene.entry.bytes.now (tree_of formula.now))) }
 {
     match formula {
         Formula::Leaf(number) => leaf_members(alloc, scene, *number),
@@ -113,9 +113,9 @@ fn members_of_each<'t>(
     scene: Scene<'t>,
     formulas: &'t [Formula],
 ) -> Result<Vec<Vec<Member<'t>>>, EvalFault>
-    ensures exact { IfOk result (λ sets. AreSetsOf scene.leaves.now scene.bytes.now (trees_of (map tree_of formulas.now)) sets.items) }
-    ensures few { IfOk result (λ _. OverTrees scene.leaves.now scene.bytes.now 0 (trees_of (map tree_of formulas.now)) None) }
-    ensures crowded { IfErr result (IsFaultFrom (OverTrees scene.leaves.now scene.bytes.now 0 (trees_of (map tree_of formulas.now)))) }
+    ensures exact { IfOk result (λ sets. AreSetsOf scene.entry.leaves.now scene.entry.bytes.now (trees_of (map tree_of formulas.now)) sets.items) }
+    ensures few { IfOk result (λ _. OverTrees scene.entry.leaves.now scene.entry.bytes.now 0 (trees_of (map tree_of formulas.now)) None) }
+    ensures crowded { IfErr result (IsFaultFrom (OverTrees scene.entry.leaves.now scene.entry.bytes.now 0 (trees_of (map tree_of formulas.now)))) }
 {
     let mut sets = Vec::new(alloc);
     for (i, formula) in formulas.iter().enumerate() {
@@ -131,9 +131,9 @@ fn parts_of_each<'t>(
     scene: Scene<'t>,
     children: &'t [Child],
 ) -> Result<Vec<Part<'t>>, EvalFault>
-    ensures exact { IfOk result (λ parts. AreParts scene.leaves.now scene.bytes.now (branches_of (map branch_of children.now)) parts.items) }
-    ensures few { IfOk result (λ _. OverBranches scene.leaves.now scene.bytes.now 0 (branches_of (map branch_of children.now)) None) }
-    ensures crowded { IfErr result (IsFaultFrom (OverBranches scene.leaves.now scene.bytes.now 0 (branches_of (map branch_of children.now)))) }
+    ensures exact { IfOk result (λ parts. AreParts scene.entry.leaves.now scene.entry.bytes.now (branches_of (map branch_of children.now)) parts.items) }
+    ensures few { IfOk result (λ _. OverBranches scene.entry.leaves.now scene.entry.bytes.now 0 (branches_of (map branch_of children.now)) None) }
+    ensures crowded { IfErr result (IsFaultFrom (OverBranches scene.entry.leaves.now scene.entry.bytes.now 0 (branches_of (map branch_of children.now)))) }
 {
     let mut parts = Vec::new(alloc);
     for (i, child) in children.iter().enumerate() {
@@ -149,9 +149,9 @@ fn part_of<'t>(
     scene: Scene<'t>,
     child: &'t Child,
 ) -> Result<Part<'t>, EvalFault>
-    ensures exact { IfOk result (IsPart scene.leaves.now scene.bytes.now (branch_of child.now)) }
-    ensures few { IfOk result (λ _. OverBranch scene.leaves.now scene.bytes.now (branch_of child.now) None) }
-    ensures crowded { IfErr result (IsFaultFrom (OverBranch scene.leaves.now scene.bytes.now (branch_of child.now))) }
+    ensures exact { IfOk result (IsPart scene.entry.leaves.now scene.entry.bytes.now (branch_of child.now)) }
+    ensures few { IfOk result (λ _. OverBranch scene.entry.leaves.now scene.entry.bytes.now (branch_of child.now) None) }
+    ensures crowded { IfErr result (IsFaultFrom (OverBranch scene.entry.leaves.now scene.entry.bytes.now (branch_of child.now))) }
 {
     match child {
         Child::Positive(formula) => Ok(Part::Members(members_of(alloc, scene, formula)?)),
@@ -170,9 +170,9 @@ fn asked<'t>(
     scene: Scene<'t>,
     formula: &'t Formula,
 ) -> Result<Part<'t>, EvalFault>
-    ensures exact { IfOk result (λ part. (name : List ℕ) → IsPart scene.leaves.now scene.bytes.now (meta_pattern name (tree_of formula.now)) part) }
-    ensures few { IfOk result (λ _. Over scene.leaves.now scene.bytes.now (tree_of formula.now) None) }
-    ensures crowded { IfErr result (IsFaultFrom (Over scene.leaves.now scene.bytes.now (tree_of formula.now))) }
+    ensures exact { IfOk result (λ part. (name : List ℕ) → IsPart scene.entry.leaves.now scene.entry.bytes.now (meta_pattern name (tree_of formula.now)) part) }
+    ensures few { IfOk result (λ _. Over scene.entry.leaves.now scene.entry.bytes.now (tree_of formula.now) None) }
+    ensures crowded { IfErr result (IsFaultFrom (Over scene.entry.leaves.now scene.entry.bytes.now (tree_of formula.now))) }
 {
     if let Formula::All(children) = formula {
         if is_bare(children.as_slice()) {
@@ -189,9 +189,9 @@ fn taken_away<'t>(
     scene: Scene<'t>,
     children: &'t [Child],
 ) -> Result<Vec<Vec<Member<'t>>>, EvalFault>
-    ensures exact { IfOk result (λ sets. AreTakenAway scene.leaves.now scene.bytes.now (branches_of (map branch_of children.now)) sets.items) }
-    ensures few { IfOk result (λ _. OverBranches scene.leaves.now scene.bytes.now 0 (branches_of (map branch_of children.now)) None) }
-    ensures crowded { IfErr result (IsFaultFrom (OverBranches scene.leaves.now scene.bytes.now 0 (branches_of (map branch_of children.now)))) }
+    ensures exact { IfOk result (λ sets. AreTakenAway scene.entry.leaves.now scene.entry.bytes.now (branches_of (map branch_of children.now)) sets.items) }
+    ensures few { IfOk result (λ _. OverBranches scene.entry.leaves.now scene.entry.bytes.now 0 (branches_of (map branch_of children.now)) None) }
+    ensures crowded { IfErr result (IsFaultFrom (OverBranches scene.entry.leaves.now scene.entry.bytes.now 0 (branches_of (map branch_of children.now)))) }
 {
     let mut sets = Vec::new(alloc);
     for (i, child) in children.iter().enumerate() {
