@@ -15,6 +15,11 @@ use Rattle.range_algebra.specs.Meets.{Meets}
 abbrev pub has_operands : Trees.Branches → Bool
 has_operands bs = Trees.has Trees.is_positive bs || Trees.has Trees.is_inside bs
 
+-- the members that the part has, none where it isn't a set of members
+abbrev pub members_in : Part → List Member
+members_in (Members v) = v.items
+members_in _ = []
+
 -- the formula is one of children none of which is an operand
 abbrev pub IsBare : Trees.Tree → Type 0
 IsBare (Trees.all_of bs) = has_operands bs ≡ false

@@ -1,5 +1,8 @@
 //! The sets that the children of `All` ask for.
 
+ghost use Rattle.std.specs.Prelude.{◌≡◌};
+ghost use Rattle.range_algebra.specs.Parts.{members_in};
+
 use crate::scene::Member;
 use std::alloc::Global;
 
@@ -17,7 +20,9 @@ pub enum Part<'t> {
 
 impl<'t> Part<'t> {
     /// The members, none where there are no members of a whole formula.
-    pub fn members(&self) -> &[Member<'t>] {
+    pub fn members(&self) -> &[Member<'t>]
+        ensures { result.now ≡ members_in self.now }
+    {
         match self {
             Part::Members(members) => members.as_slice(),
             _ => &[],
@@ -25,7 +30,9 @@ impl<'t> Part<'t> {
     }
 
     /// The same by value.
-    pub fn into_members(self, alloc: Global) -> Vec<Member<'t>> {
+    pub fn into_members(self, alloc: Global) -> Vec<Member<'t>>
+        ensures { result.items ≡ members_in self }
+    {
         match self {
             Part::Members(members) => members,
             _ => Vec::new(alloc),
