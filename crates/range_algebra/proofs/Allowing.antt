@@ -303,7 +303,3 @@ no_pattern c other name t = by_layer (λ b. b ≡ meta_pattern name t → ⊥) c
 pub if_ok_says : {E : Type 0} (A B : Type 0) (r : Result Bool E) → A ↔ B → IfOk r (λ y. IsTrue y ↔ A) → IfOk r (λ y. IsTrue y ↔ B)
 if_ok_says A B (Ok y) same h = (λ t. same.0 (h.0 t), λ b. h.1 (same.1 b))
 if_ok_says A B (Err e) same h = tt
-
-pub if_ok_as : {E : Type 0} (A B : Bool → Type 0) (r : Result Bool E) → ((y : Bool) → A y → B y) → IfOk r A → IfOk r B
-if_ok_as A B (Ok y) f h = f y h
-if_ok_as A B (Err e) f h = tt

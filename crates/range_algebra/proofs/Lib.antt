@@ -6,3 +6,4 @@ pub mod Settling
 pub mod Added
 pub mod Openings
 pub mod Allowing
+pub mod Gathering

@@ -37,6 +37,10 @@ module _ {X : Type 0} (P : X → Type 0) (xs : List X) (i : ℕ) where
       from : Any P (drop (i + 1) xs) → Any P (drop i xs)
       from a = let Q : List X → Type 0 = Any P in subst Q (sym (opened xs i x lt is)) ((any_cons P x (drop (i + 1) xs)).1 (inr a))
 
+  -- the item at i, and those after it
+  pub any_parted : (x : X) → i < length xs → x ≡ get_or xs i x → Any P (drop i xs) ↔ (P x ⊎ Any P (drop (i + 1) xs))
+  any_parted x lt is = let Q : List X → Type 0 = λ ys. Any P ys ↔ (P x ⊎ Any P (drop (i + 1) xs)) in subst Q (sym (opened xs i x lt is)) (any_cons P x (drop (i + 1) xs))
+
   pub any_end : length xs ≤ i → Any P (drop i xs) → ⊥
   any_end le a = let Q : List X → Type 0 = Any P in none (subst Q (drop_all i xs le) a)
     where

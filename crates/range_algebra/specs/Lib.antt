@@ -10,3 +10,4 @@ pub mod Orders
 pub mod Meets
 pub mod Parts
 pub mod Crowds
+pub mod Shown

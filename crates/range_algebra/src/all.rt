@@ -1,11 +1,14 @@
 //! What all the children of a formula allow.
 
-ghost use Rattle.std.specs.Prelude.{◌≡◌, ◌↔◌, map, None, IsTrue, IfOk, IfErr, OnOk};
-ghost use Rattle.tree_match.specs.Sets.{Adds};
+ghost use Rattle.std.specs.Prelude.{◌≡◌, ◌↔◌, ◌≤◌, [], length, map, None, IsTrue, IfOk, IfErr, OnOk};
+ghost use Rattle.tree_match.specs.Ascending.{IsAscending};
+ghost use Rattle.tree_match.specs.Members.{Member as member_value, member_cmp};
+ghost use Rattle.tree_match.specs.Sets.{Among, Adds};
 ghost use Rattle.range_algebra.specs.Trees.{all_of, branch_of, branches_of, names_of};
 ghost use Rattle.range_algebra.specs.Meets.{Allowed, IsShown, IsShownAt, IsShownAmong};
 ghost use Rattle.range_algebra.specs.Parts.{AreParts, IsSetOf};
-ghost use Rattle.range_algebra.specs.Crowds.{AtAll, IsFaultFrom};
+ghost use Rattle.range_algebra.specs.Shown.{Shows, IsShownOfSome};
+ghost use Rattle.range_algebra.specs.Crowds.{AtAll, IsFaultFrom, OneSet};
 
 use crate::choice::choices;
 use crate::condition::{allows, has_focus};
@@ -45,11 +48,13 @@ fn add_at<'t>(
 ) -> Result<(), Memory>
     ensures { OnOk result (Adds members.old.items members.new.items (IsShownAt name.now one.now)) }
 {
-    if let Some(held) = one.1.get(name) {
-        if held.span.from < held.span.to {
-            members.push((held.span, one.1.copy()?))?;
-        }
+    let Some(held) = one.1.get(name) else {
+        return Ok(());
+    };
+    if held.span.to <= held.span.from {
+        return Ok(());
     }
+    members.push((held.span, one.1.copy()?))?;
     Ok(())
 }
 
@@ -61,10 +66,11 @@ fn add_focused<'t>(
 ) -> Result<(), Memory>
     ensures { OnOk result (Adds members.old.items members.new.items (IsShownAmong (names_of (branch_of child.now)) one.now)) }
 {
-    if let Child::Focus(names) = child {
-        for name in names.as_slice() {
-            add_at(name.as_str(), one, members)?;
-        }
+    let Child::Focus(names) = child else {
+        return Ok(());
+    };
+    for name in names.as_slice() {
+        add_at(name.as_str(), one, members)?;
     }
     Ok(())
 }
@@ -87,6 +93,71 @@ fn add_shown<'t>(
     Ok(())
 }
 
+// Adds what is shown of a choice, where all the children allow it.
+fn add_allowed<'t>(
+    alloc: Global,
+    scene: Scene<'t>,
+    children: &[Child],
+    parts: &[Part<'t>],
+    one: &Member<'t>,
+    members: &mut Vec<Member<'t>>,
+) -> Result<(), Memory>
+    requires parts { AreParts scene.leaves.now scene.bytes.now (branches_of (map branch_of children.now)) parts.now }
+    ensures { OnOk result (Adds members.old.items members.new.items (Shows scene.entry.leaves.now scene.entry.bytes.now (branches_of (map branch_of children.now)) one.now)) }
+{
+    if !is_allowed(alloc, scene, children, parts, one)? {
+        return Ok(());
+    }
+    add_shown(children, one, members)
+}
+
+// The members in order, each once, unless there are more than 10,000.
+fn gathered<'t>(
+    alloc: Global,
+    members: Vec<Member<'t>>,
+) -> Result<Vec<Member<'t>>, EvalFault>
+    ensures ordered { IfOk result (λ v. IsAscending member_cmp v.items) }
+    ensures same { IfOk result (λ v. (m : member_value) → Among v.items m ↔ Among members.entry.items m) }
+    ensures few { IfOk result (λ v. length v.items ≤ 10000) }
+    ensures crowded { IfErr result (IsFaultFrom (OneSet [] (Among members.entry.items))) }
+{
+    limited(alloc, settled(alloc, members)?)
+}
+
+// The same members, put in order where many are gathered.
+fn thinned<'t>(
+    alloc: Global,
+    members: Vec<Member<'t>>,
+) -> Result<Vec<Member<'t>>, EvalFault>
+    ensures same { IfOk result (λ v. (m : member_value) → Among v.items m ↔ Among members.entry.items m) }
+    ensures crowded { IfErr result (IsFaultFrom (OneSet [] (Among members.entry.items))) }
+{
+    if members.len() <= ROOM {
+        return Ok(members);
+    }
+    gathered(alloc, members)
+}
+
+// What the choices show that all the children allow.
+fn shown_of<'t>(
+    alloc: Global,
+    scene: Scene<'t>,
+    children: &[Child],
+    parts: &[Part<'t>],
+    chosen: &[Member<'t>],
+) -> Result<Vec<Member<'t>>, EvalFault>
+    requires parts { AreParts scene.leaves.now scene.bytes.now (branches_of (map branch_of children.now)) parts.now }
+    ensures exact { IfOk result (λ v. (m : member_value) → Among v.items m ↔ IsShownOfSome scene.entry.leaves.now scene.entry.bytes.now (branches_of (map branch_of children.now)) chosen.now m) }
+    ensures crowded { IfErr result (IsFaultFrom (OneSet [] (IsShownOfSome scene.entry.leaves.now scene.entry.bytes.now (branches_of (map branch_of children.now)) chosen.now))) }
+{
+    let mut members = Vec::new(alloc);
+    for one in chosen {
+        add_allowed(alloc, scene, children, parts, one, &mut members)?;
+        members = thinned(alloc, members)?;
+    }
+    Ok(members)
+}
+
 /// The members that all the children allow, from the sets of their formulas.
 pub fn all_members<'t>(
     alloc: Global,
@@ -100,14 +171,6 @@ pub fn all_members<'t>(
     ensures crowded { IfErr result (IsFaultFrom (AtAll scene.entry.leaves.now scene.entry.bytes.now (branches_of (map branch_of children.now)))) }
 {
     let chosen = choices(alloc, scene, children, parts)?;
-    let mut members = Vec::new(alloc);
-    for one in chosen.as_slice() {
-        if is_allowed(alloc, scene, children, parts, one)? {
-            add_shown(children, one, &mut members)?;
-            if members.len() > ROOM {
-                members = limited(alloc, settled(alloc, members)?)?;
-            }
-        }
-    }
-    limited(alloc, settled(alloc, members)?)
+    let members = shown_of(alloc, scene, children, parts, chosen.as_slice())?;
+    gathered(alloc, members)
 }

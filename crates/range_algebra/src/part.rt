@@ -31,7 +31,7 @@ impl<'t> Part<'t> {
 
     /// The same by value.
     pub fn into_members(self, alloc: Global) -> Vec<Member<'t>>
-        ensures { result.items ≡ members_in self }
+        ensures { result.items ≡ members_in self.entry }
     {
         match self {
             Part::Members(members) => members,

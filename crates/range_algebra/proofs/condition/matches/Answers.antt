@@ -6,7 +6,8 @@ use Rattle.tree_match.specs.Members.{Member}
 use Rattle.range_algebra.specs.Trees.{tree_of}
 use Rattle.range_algebra.specs.Meets.{Allows}
 use Rattle.range_algebra.specs.declared.part.Part.TheVariants as parts
-use Rattle.range_algebra.proofs.Allowing.{bare_part, no_bare, bare_match, set_match, if_ok_as}
+use Rattle.range_algebra.proofs.Allowing.{bare_part, no_bare, bare_match, set_match}
+use Rattle.std.proofs.lemmas.Result.{IfOk-weaker}
 use Rattle.range_algebra.proofs.condition.matches.Goals as goal
 use Rattle.range_algebra.proofs.condition.matches.Goals.{in-Bare+in_default-formula, in_default-part}
 
@@ -19,7 +20,7 @@ allows_bare-requires-clause-sets c = (bare_part c.args.scene.leaves.now c.args.s
 pub returns-in-All : goal.returns-in-All
 returns-in-All c =
     let known = bare_part c.args.scene.leaves.now c.args.scene.bytes.now c.args.name.now _ _ _ _ _ _ c.requires.part c.in-All.is c.in-Bare.is c.as_slice.ensures c.as_slice-in-All.ensures.value in
-    if_ok_as _ _ c.allows_bare.result (λ y. bare_match c.args.scene.leaves.now c.args.scene.bytes.now c.args.name.now c.args.formula.now c.in-All.children c.as_slice.result.now (seen_held c.in-Some.held) c.args.one.now y c.in-All.is c.as_slice.ensures known.0 c.in-Some.ensures) c.allows_bare.ensures
+    IfOk-weaker c.allows_bare.result _ _ (λ y. bare_match c.args.scene.leaves.now c.args.scene.bytes.now c.args.name.now c.args.formula.now c.in-All.children c.as_slice.result.now (seen_held c.in-Some.held) c.args.one.now y c.in-All.is c.as_slice.ensures known.0 c.in-Some.ensures) c.allows_bare.ensures
 
 pub returns : goal.returns
 returns c =
