@@ -19,13 +19,13 @@ shown_of-requires c = record { parts = c.requires.parts }
 pub returns-in_err-chosen-clause-crowded : goal.returns-in_err-chosen-clause-crowded
 returns-in_err-chosen-clause-crowded c =
     let p = err_from_is_err_and c.from_residual.result c.from_residual.ensures.1 in
-    rw (p.1, p.2) (fault_first (Prefixes c.args.scene.leaves.now c.args.scene.bytes.now (branches_of (map branch_of c.args.children.now))) (OneSet [] (Meets c.args.scene.leaves.now c.args.scene.bytes.now (all_of (branches_of (map branch_of c.args.children.now))) None)) c.in_err-chosen.field-0 c.in_err-chosen.ensures.crowded)
+    rw (p.1, p.2) (fault_first (Prefixes c.args.scene.leaves.now c.args.scene.bytes.now (branches_of (map branch_of c.args.children.now))) (OneSet [] (Meets c.args.scene.leaves.now c.args.scene.bytes.now (all_of (branches_of (map branch_of c.args.children.now))) None)) c.in_err-chosen.field-0.0 c.in_err-chosen.ensures.crowded)
 
 pub returns-in_err-members-clause-crowded : goal.returns-in_err-members-clause-crowded
 returns-in_err-members-clause-crowded c =
     let meets = meets_chosen c.args.scene.leaves.now c.args.scene.bytes.now (branches_of (map branch_of c.args.children.now)) _ _ c.as_slice.ensures.value c.in_ok-chosen.ensures.exact in
     let p = err_from_is_err_and c.from_residual-in_err-members.result c.from_residual-in_err-members.ensures.1 in
-    rw (p.1, p.2) (fault_next (Prefixes c.args.scene.leaves.now c.args.scene.bytes.now (branches_of (map branch_of c.args.children.now))) (OneSet [] (Meets c.args.scene.leaves.now c.args.scene.bytes.now (all_of (branches_of (map branch_of c.args.children.now))) None)) c.in_err-members.field-0 c.in_ok-chosen.ensures.few (fault_more _ _ (λ m a. (meets m).0 a) c.in_err-members.field-0 c.in_err-members.ensures.crowded))
+    rw (p.1, p.2) (fault_next (Prefixes c.args.scene.leaves.now c.args.scene.bytes.now (branches_of (map branch_of c.args.children.now))) (OneSet [] (Meets c.args.scene.leaves.now c.args.scene.bytes.now (all_of (branches_of (map branch_of c.args.children.now))) None)) c.in_err-members.field-0.0 c.in_ok-chosen.ensures.few (fault_more _ _ (λ m a. (meets m).0 a) c.in_err-members.field-0.0 c.in_err-members.ensures.crowded))
 
 pub returns-clause-exact : goal.returns-clause-exact
 returns-clause-exact c =

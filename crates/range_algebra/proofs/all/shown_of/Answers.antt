@@ -23,7 +23,7 @@ returns-in_err-members-clause-crowded c =
     rw (p.1, p.2) (fault_more (Among c.add_allowed.new.members.items) (IsShownOfSome c.args.scene.leaves.now c.args.scene.bytes.now (branches_of (map branch_of c.args.children.now)) c.args.chosen.now) (λ m a. (c.loop-one.invariant m).0 (elim ((c.in_ok-add_allowed.ensures m).0 a) [
       | inl o ↦ inl o
       | inr s ↦ inr (any_here (λ (x : Member). Shows c.args.scene.leaves.now c.args.scene.bytes.now (branches_of (map branch_of c.args.children.now)) x m) c.args.chosen.now c.loop-one.one-index c.one-item.result c.loop-one-test.true c.one-item.is s)
-    ])) c.in_err-members.field-0 c.in_err-members.ensures.crowded)
+    ])) c.in_err-members.field-0.0 c.in_err-members.ensures.crowded)
 
 pub returns-clause-exact : goal.returns-clause-exact
 returns-clause-exact c = λ m. gathered_all _ _ _ (any_end (λ (x : Member). Shows c.args.scene.leaves.now c.args.scene.bytes.now (branches_of (map branch_of c.args.children.now)) x m) c.args.chosen.now c.loop-one.one-index c.loop-one-test.false) (c.loop-one.invariant m)
