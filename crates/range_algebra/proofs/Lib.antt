@@ -7,3 +7,7 @@ pub mod Added
 pub mod Openings
 pub mod Allowing
 pub mod Gathering
+pub mod Limits
+pub mod Leaves
+pub mod Children
+pub mod Formulas

@@ -7,7 +7,7 @@ use Rattle.meta_bind.proofs.Lookups.{opened}
 use Rattle.tree_match.specs.Sets.{Among}
 use Rattle.range_algebra.specs.Sizes.{Any}
 
-any_cons : {X : Type 0} (P : X → Type 0) (x : X) (xs : List X) → Any P (x ∷ xs) ↔ (P x ⊎ Any P xs)
+pub any_cons : {X : Type 0} (P : X → Type 0) (x : X) (xs : List X) → Any P (x ∷ xs) ↔ (P x ⊎ Any P xs)
 any_cons {X} P x xs = (to, from)
   where
     to : Any P (x ∷ xs) → P x ⊎ Any P xs

@@ -11,3 +11,4 @@ pub mod Meets
 pub mod Parts
 pub mod Crowds
 pub mod Shown
+pub mod Faults

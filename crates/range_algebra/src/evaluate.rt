@@ -1,13 +1,14 @@
 //! The members of a formula.
 
-ghost use Rattle.std.specs.Prelude.{◌≡◌, ◌↔◌, ◌≤◌, ◌<◌, ℕ, List, [], length, map, None, IfOk, IfErr};
+ghost use Rattle.std.specs.Prelude.{◌≡◌, ◌↔◌, ◌≤◌, ◌<◌, ℕ, List, [], length, map, None, Ok, OnOk, IfOk, IfErr};
 ghost use Rattle.std.specs.Option.{option_to_list};
-ghost use Rattle.tree_match.specs.Sets.{Among};
+ghost use Rattle.tree_match.specs.Sets.{Among, Adds};
 ghost use Rattle.tree_match.specs.Ascending.{IsAscending};
 ghost use Rattle.tree_match.specs.Members.{Member as member_value, member_cmp};
 ghost use Rattle.range_algebra.specs.Trees.{tree_of, trees_of, branch_of, branches_of, meta_pattern};
 ghost use Rattle.range_algebra.specs.Parts.{IsSetOf, AreSetsOf, IsInSome, IsPart, AreParts, AreTakenAway};
 ghost use Rattle.range_algebra.specs.Crowds.{NamesSet, IsFaultFrom, OneSet, Over, OverTrees, OverBranches, OverBranch};
+ghost use Rattle.range_algebra.specs.Faults.{IsFaultOf};
 
 use crate::all::all_members;
 use crate::fault::EvalFault;
@@ -16,7 +17,7 @@ use crate::operand::is_bare;
 use crate::order::settled;
 use crate::part::Part;
 use crate::scene::{MOST, Member, ROOM, Scene};
-use node_tree::List;
+use node_tree::{List, Memory};
 use rule_form::{Child, Formula};
 use std::alloc::Global;
 
@@ -47,8 +48,48 @@ pub fn limited<'t>(
     Ok(members)
 }
 
+/// The members in order, each once, unless there are more than 10,000.
+pub fn gathered<'t>(
+    alloc: Global,
+    members: Vec<Member<'t>>,
+) -> Result<Vec<Member<'t>>, EvalFault>
+    ensures ordered { IfOk result (λ v. IsAscending member_cmp v.items) }
+    ensures same { IfOk result (λ v. (m : member_value) → Among v.items m ↔ Among members.entry.items m) }
+    ensures few { IfOk result (λ v. length v.items ≤ 10000) }
+    ensures crowded { IfErr result (IsFaultFrom (OneSet [] (Among members.entry.items))) }
+{
+    limited(alloc, settled(alloc, members)?)
+}
+
+// The members, in order and each once where they are many.
+fn thinned<'t>(
+    alloc: Global,
+    members: Vec<Member<'t>>,
+) -> Result<Vec<Member<'t>>, EvalFault>
+    ensures same { IfOk result (λ v. (m : member_value) → Among v.items m ↔ Among members.entry.items m) }
+    ensures crowded { IfErr result (IsFaultFrom (OneSet [] (Among members.entry.items))) }
+{
+    if members.len() <= ROOM {
+        return Ok(members);
+    }
+    gathered(alloc, members)
+}
+
+// Adds the members of the set.
+fn add_all<'t>(set: &[Member<'t>], members: &mut Vec<Member<'t>>) -> Result<(), Memory>
+    ensures { OnOk result (Adds members.old.items members.new.items (Among set.now)) }
+{
+    for (range, trail) in set {
+        members.push((*range, trail.copy()?))?;
+    }
+    Ok(())
+}
+
 // What is found in the child with that number. The numbers lead from the set up.
-fn inside<T: Drop>(number: usize, found: Result<T, EvalFault>) -> Result<T, EvalFault> {
+fn inside<T: Drop>(number: usize, found: Result<T, EvalFault>) -> Result<T, EvalFault>
+    ensures same { IfOk result (λ v. found ≡ Ok v) }
+    ensures named { IfErr result (IsFaultOf number found) }
+{
     match found {
         Err(EvalFault::Crowded(mut numbers)) => {
             numbers.push(number as u64)?;
@@ -71,14 +112,10 @@ fn union<'t>(
 {
     let mut members = Vec::new(alloc);
     for set in sets {
-        for (range, trail) in set.as_slice() {
-            members.push((*range, trail.copy()?))?;
-        }
-        if members.len() > ROOM {
-            members = limited(alloc, settled(alloc, members)?)?;
-        }
+        add_all(set.as_slice(), &mut members)?;
+        members = thinned(alloc, members)?;
     }
-    limited(alloc, settled(alloc, members)?)
+    gathered(alloc, members)
 }
 
 /// The members of the formula in order, each once.
@@ -174,12 +211,13 @@ fn asked<'t>(
     ensures few { IfOk result (λ _. Over scene.entry.leaves.now scene.entry.bytes.now (tree_of formula.now) None) }
     ensures crowded { IfErr result (IsFaultFrom (Over scene.entry.leaves.now scene.entry.bytes.now (tree_of formula.now))) }
 {
-    if let Formula::All(children) = formula {
-        if is_bare(children.as_slice()) {
-            return Ok(Part::Bare(taken_away(alloc, scene, children.as_slice())?));
-        }
+    let Formula::All(children) = formula else {
+        return Ok(Part::Members(members_of(alloc, scene, formula)?));
+    };
+    if !is_bare(children.as_slice()) {
+        return Ok(Part::Members(members_of(alloc, scene, formula)?));
     }
-    Ok(Part::Members(members_of(alloc, scene, formula)?))
+    Ok(Part::Bare(taken_away(alloc, scene, children.as_slice())?))
 }
 
 // The sets of the children of a formula without operands, in order.

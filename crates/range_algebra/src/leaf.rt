@@ -8,9 +8,8 @@ ghost use Rattle.range_algebra.specs.Trees.{leaf};
 ghost use Rattle.range_algebra.specs.Parts.{IsSetOf};
 ghost use Rattle.range_algebra.specs.Crowds.{IsFaultFrom, OneSet, Over};
 
-use crate::evaluate::{crowded, limited};
+use crate::evaluate::{crowded, gathered};
 use crate::fault::EvalFault;
-use crate::order::settled;
 use crate::scene::{Member, Scene};
 use meta_bind::Trail;
 use std::alloc::Global;
@@ -29,7 +28,7 @@ fn borrowed<'t>(alloc: Global, set: &'t LeafSet) -> Result<Vec<Member<'t>>, Eval
             members.push((*range, Trail::of(binding)?))?;
         }
     }
-    limited(alloc, settled(alloc, members)?)
+    gathered(alloc, members)
 }
 
 /// The members of the pattern with that number. A pattern that isn't there has none.
