@@ -1,7 +1,8 @@
 //! What a rule finds in a file.
 
 ghost use Rattle.std.specs.Prelude.{◌≡◌, ◌<◌, length, map, IfOk, slice_get};
-ghost use Rattle.judge_file.specs.Findings.{finding_of as finding_at, SearchFinds, PartFinds};
+ghost use Rattle.judge_file.specs.declared.outcome.Outcome.{Outcome as an_outcome};
+ghost use Rattle.judge_file.specs.Findings.{finding_of as finding_at, SearchFinds, BodyFinds, PartFinds};
 
 use crate::dotted::dotted;
 use crate::found::Found;
@@ -56,9 +57,19 @@ fn search(
     Ok(Found::of(outcome))
 }
 
+// What a body finds.
+fn look(alloc: Global, view: &FileView, body: &Body, leaves: &List<Leaf>) -> Result<Found, Memory>
+    ensures { IfOk result (BodyFinds leaves.now view.now.bytes body.now) }
+{
+    match body {
+        Body::Search(formula) => search(alloc, view, formula, leaves),
+        Body::Taint(_) => Ok(Found::of(Outcome::Findings(List::new(alloc)))),
+    }
+}
+
 /// What the part of the rule with that number finds in the file, where `leaves` has the members of the part's patterns by
-/// number: the members of its formula in order, or the notice that a set of the formula has more than 10,000. So far regular
-/// expressions have no matches, and a rule on tainted data finds nothing.
+/// number: the members of its formula in order, or the notice that a set of the formula has more than 10,000. There is one
+/// such outcome. So far regular expressions have no matches, and a rule on tainted data finds nothing.
 pub fn judge(
     alloc: Global,
     view: &FileView,
@@ -67,10 +78,13 @@ pub fn judge(
     leaves: &List<Leaf>,
 ) -> Result<Found, Memory>
     requires { part < length rule.now.parts }
-    ensures { IfOk result (PartFinds leaves.now view.now.bytes (slice_get rule.now.parts part)) }
+    ensures finds { IfOk result (PartFinds leaves.now view.now.bytes (slice_get rule.now.parts part)) }
+    ensures only { IfOk result (λ found. (o : an_outcome) → PartFinds leaves.now view.now.bytes (slice_get rule.now.parts part) o → o ≡ found) }
 {
-    match &rule.parts.as_slice()[part as usize].body {
-        Body::Search(formula) => search(alloc, view, formula, leaves),
-        Body::Taint(_) => Ok(Found::of(Outcome::Findings(List::new(alloc)))),
-    }
+    look(
+        alloc,
+        view,
+        &rule.parts.as_slice()[part as usize].body,
+        leaves,
+    )
 }

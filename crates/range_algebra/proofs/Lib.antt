@@ -11,3 +11,4 @@ pub mod Limits
 pub mod Leaves
 pub mod Children
 pub mod Formulas
+pub mod Once
