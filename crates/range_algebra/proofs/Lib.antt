@@ -12,3 +12,11 @@ pub mod Leaves
 pub mod Children
 pub mod Formulas
 pub mod Once
+pub mod Names
+pub mod Choosing
+pub mod Counts
+pub mod Reaching
+pub mod Prefixes
+pub mod Taking
+pub mod Given
+pub mod LeafNames

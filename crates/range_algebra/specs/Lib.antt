@@ -12,3 +12,4 @@ pub mod Parts
 pub mod Crowds
 pub mod Shown
 pub mod Faults
+pub mod Operands

@@ -10,7 +10,7 @@ ghost use Rattle.range_algebra.specs.declared.state.State.{State as state_value}
 
 use crate::operand::Operand;
 use crate::order::settled;
-use crate::range::{is_equal, meet};
+use crate::range::{is_equal, meet, touches};
 use crate::scene::{MOST, Member, ROOM};
 use crate::state::State;
 use meta_bind::Trail;
@@ -145,6 +145,9 @@ fn add_one<'t>(
 ) -> Result<(), Memory>
     ensures { OnOk result (Adds states.old.items states.new.items (λ s. IsJoinedWith role state.now s member.now × IsNeeded later.now s)) }
 {
+    if !touches(state.range, member.0) {
+        return Ok(());
+    }
     if !state.agrees(&member.1) {
         return Ok(());
     }

@@ -1,8 +1,13 @@
 //! The operands of `All`.
 
-ghost use Rattle.std.specs.Prelude.{◌≡◌, map, not, length, ◌||◌};
+ghost use Rattle.std.specs.Prelude.{◌≡◌, ℕ, List as list, map, not, length, ◌||◌, IfOk, OnOk};
+ghost use Rattle.tree_match.specs.declared.leaf.Leaf.{Leaf as leaf};
 ghost use Rattle.range_algebra.specs.Trees.{branch_of, branches_of, has, is_positive, is_inside as inside};
+ghost use Rattle.range_algebra.specs.Crowds.{is_operand};
+ghost use Rattle.range_algebra.specs.Parts.{AreParts};
+ghost use Rattle.range_algebra.specs.Operands.{AddsChild, AreOperands};
 
+use crate::join::Role;
 use crate::part::Part;
 use crate::scene::Member;
 use node_tree::Memory;
@@ -38,6 +43,16 @@ pub fn is_inside(child: &Child) -> bool
     }
 }
 
+// Whether the child is an operand with that role.
+fn has_role(role: Role, child: &Child) -> bool
+    ensures { result ≡ is_operand role (branch_of child.now) }
+{
+    match role {
+        Role::Plain => is_plain(child),
+        Role::Inside => is_inside(child),
+    }
+}
+
 /// Whether there is no operand among the children.
 pub fn is_bare(children: &[Child]) -> bool
     ensures { result ≡ not (has is_positive (branches_of (map branch_of children.now)) || has inside (branches_of (map branch_of children.now))) }
@@ -50,22 +65,41 @@ pub fn is_bare(children: &[Child]) -> bool
     true
 }
 
-/// The operands among the children, the plain ones or the insides.
+// Adds the operand of a child with that role.
+fn add_operand<'s, 't>(
+    role: Role,
+    number: usize,
+    child: &Child,
+    part: &'s Part<'t>,
+    operands: &mut Vec<Operand<'s, 't>>,
+) -> Result<(), Memory>
+    ensures { OnOk result (AddsChild role number (branch_of child.now) part.now operands.old.items operands.new.items) }
+{
+    if !has_role(role, child) {
+        return Ok(());
+    }
+    if let Part::Members(members) = part {
+        operands.push(Operand {
+            number,
+            members: members.as_slice(),
+        })?;
+    }
+    Ok(())
+}
+
+/// The operands with that role among the children, in order.
 pub fn operands<'s, 't>(
     alloc: Global,
+    role: Role,
     children: &[Child],
     parts: &'s [Part<'t>],
-    plain: bool,
 ) -> Result<Vec<Operand<'s, 't>>, Memory>
     requires { length parts.now ≡ length children.now }
+    ensures { IfOk result (λ v. (leaves : list leaf) (bytes : list ℕ) → AreParts leaves bytes (branches_of (map branch_of children.now)) parts.now → AreOperands leaves bytes role 0 (branches_of (map branch_of children.now)) v.items) }
 {
     let mut operands = Vec::new(alloc);
     for (number, child) in children.iter().enumerate() {
-        let wanted = if plain { is_plain(child) } else { is_inside(child) };
-        if wanted {
-            let members = parts[number].members();
-            operands.push(Operand { number, members })?;
-        }
+        add_operand(role, number, child, &parts[number], &mut operands)?;
     }
     Ok(operands)
 }

@@ -1,6 +1,6 @@
 //! Ranges that meet.
 
-ghost use Rattle.std.specs.Prelude.{◌≡◌, ◌↔◌, IsTrue};
+ghost use Rattle.std.specs.Prelude.{◌≡◌, ◌↔◌, ◌≤◌, IsTrue};
 ghost use Rattle.range_algebra.specs.Joins.{meet as shared, same_range};
 ghost use Rattle.range_algebra.specs.Ranges.{IsWithin};
 
@@ -14,6 +14,14 @@ pub fn meet(a: Span, b: Span) -> Span
         from: a.from.max(b.from),
         to: a.to.min(b.to),
     }
+}
+
+/// Whether the bytes that the ranges share end no earlier than they begin: the ranges overlap, or one ends where the other
+/// begins.
+pub fn touches(a: Span, b: Span) -> bool
+    ensures { IsTrue result ↔ ((shared a b).from ≤ (shared a b).to) }
+{
+    a.from.max(b.from) <= a.to.min(b.to)
 }
 
 /// Whether the ranges are one.
