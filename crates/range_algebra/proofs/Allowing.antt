@@ -16,7 +16,9 @@ use Rattle.rule_form.specs.declared.formula.Child.TheVariants.{rolls-Not, rolls-
 use Rattle.rule_form.specs.declared.formula.Child.TheOpen as layers
 use Rattle.tree_match.specs.declared.leaf.Leaf.{Leaf}
 use Rattle.tree_match.specs.Sets.{Among}
-use Rattle.tree_match.specs.Members.{Member}
+use Rattle.tree_match.specs.Ascending.{IsAscending}
+use Rattle.tree_match.specs.Members.{Member, member_cmp}
+use Rattle.range_algebra.specs.Halves.{IsOrderedFor}
 use Rattle.range_algebra.specs.declared.part.Part.{Part}
 use Rattle.range_algebra.specs.declared.part.Part.TheVariants as parts
 use Rattle.range_algebra.specs.Sizes.{Any}
@@ -42,6 +44,12 @@ module _ (bytes : List ℕ) (members : List Member) (one : Member) where
 
   pub says_without : (b : Branch) (t : Tree) (y : Bool) → b ≡ without t → IsTrue y ↔ Any (IsEqualTo one.0 one.1) members → Says (not y) b
   says_without b t y e h = let P : Branch → Type 0 = Says (not y) in subst P (sym e) (denied y (Any (IsEqualTo one.0 one.1) members) h)
+
+  pub ordered_without : (b : Branch) (t : Tree) → b ≡ without t → IsOrderedFor b members → IsAscending member_cmp members
+  ordered_without b t e up = let P : Branch → Type 0 = λ x. IsOrderedFor x members in subst P e up
+
+  pub ordered_outside : (b : Branch) (t : Tree) → b ≡ outside t → IsOrderedFor b members → IsAscending member_cmp members
+  ordered_outside b t e up = let P : Branch → Type 0 = λ x. IsOrderedFor x members in subst P e up
 
   pub says_outside : (b : Branch) (t : Tree) (y : Bool) → b ≡ outside t → IsTrue y ↔ Any (IsAround one.0 one.1) members → Says (not y) b
   says_outside b t y e h = let P : Branch → Type 0 = Says (not y) in subst P (sym e) (denied y (Any (IsAround one.0 one.1) members) h)
@@ -165,7 +173,40 @@ module _ (leaves : List Leaf) (bytes : List ℕ) where
   allows_of (meta_pattern name t) p one is other = absurd (other name t refl)
   allows_of (focus names) p one is other = (λ x. x, λ x. x)
 
-  -- the same of a child of a formula without operands, where no name is bound
+  -- the members of a formula that takes something away are in order
+  pub part_ordered : (b : Branch) (p : Part) (given : List Member) → IsPart leaves bytes b p → given ≡ members_in p → IsOrderedFor b given
+  part_ordered (without t) parts.Nothing given is same = absurd is
+  part_ordered (without t) (parts.Members v) given is same = let P : List Member → Type 0 = IsAscending member_cmp in subst P (sym same) is.ordered
+  part_ordered (without t) (parts.Bare sets) given is same = absurd is
+  part_ordered (outside t) parts.Nothing given is same = absurd is
+  part_ordered (outside t) (parts.Members v) given is same = let P : List Member → Type 0 = IsAscending member_cmp in subst P (sym same) is.ordered
+  part_ordered (outside t) (parts.Bare sets) given is same = absurd is
+  part_ordered (positive t) p given is same = tt
+  part_ordered (inside t) p given is same = tt
+  part_ordered (without_regex k) p given is same = tt
+  part_ordered (meta_regex name k) p given is same = tt
+  part_ordered (meta_compare x) p given is same = tt
+  part_ordered (meta_pattern name t) p given is same = tt
+  part_ordered (focus names) p given is same = tt
+
+  pub taken_ordered : (b : Branch) (members given : List Member) → IsTakenAway leaves bytes b members → given ≡ members → IsOrderedFor b given
+  taken_ordered (without t) members given is same = let P : List Member → Type 0 = IsAscending member_cmp in subst P (sym same) is.ordered
+  taken_ordered (outside t) members given is same = let P : List Member → Type 0 = IsAscending member_cmp in subst P (sym same) is.ordered
+  taken_ordered (positive t) members given is same = tt
+  taken_ordered (inside t) members given is same = tt
+  taken_ordered (without_regex k) members given is same = tt
+  taken_ordered (meta_regex name k) members given is same = tt
+  taken_ordered (meta_compare x) members given is same = tt
+  taken_ordered (meta_pattern name t) members given is same = tt
+  taken_ordered (focus names) members given is same = tt
+
+  -- those of a condition's formula too
+  pub pattern_ordered : (name : List ℕ) (t : Tree) (p : Part) (given : List Member) → IsPart leaves bytes (meta_pattern name t) p → ((sets : Vec (Vec Member Global) Global) → p ≡ parts.Bare sets → ⊥) → given ≡ members_in p → IsAscending member_cmp given
+  pattern_ordered name t parts.Nothing given is never same = absurd is
+  pattern_ordered name t (parts.Bare sets) given is never same = absurd (never sets refl)
+  pattern_ordered name t (parts.Members v) given is never same = let P : List Member → Type 0 = IsAscending member_cmp in subst P (sym same) is.0.ordered
+
+  -- what a child of a formula without operands allows, where no name is bound
   pub allows_taken : (b : Branch) (members : List Member) (one : Member) → one.1 ≡ [] → IsTakenAway leaves bytes b members → AllowsBy bytes members one b ↔ Allows leaves bytes b one
   allows_taken (positive t) members one e is = (λ x. x, λ x. x)
   allows_taken (inside t) members one e is = (λ x. x, λ x. x)
@@ -274,8 +315,7 @@ module _ (leaves : List Leaf) (bytes : List ℕ) where
       let P : List Member → Type 0 = λ ms. IsTrue y ↔ Any (IsEqualTo b.span one.1) ms in
       let h : P v.items = subst P same says in
       let Q : Span → List Bound → Type 0 = λ r d. Meets leaves bytes t None (r, d) in
-      let at = at_bound (bound_at name one.1) b bound (λ x. (d : List Bound) × Meets leaves bytes t (Some x.span) (x.span, d) × Agree one.1 d) in
-      (
+      let at = at_bound (bound_at name one.1) b bound (λ x. (d : List Bound) × Meets leaves bytes t (Some x.span) (x.span, d) × Agree one.1 d) in (
         λ u. at.1 (let x = h.0 u in (x.0.1, (given_aside t is.1 b.span (b.span, x.0.1)).1 (let R : Span → Type 0 = λ r. Q r x.0.1 in subst R x.2.0 ((is.0.exact x.0).0 x.1)), x.2.1)),
         λ a. h.1 (let k = at.0 a in ((b.span, k.0), (is.0.exact (b.span, k.0)).1 ((given_aside t is.1 b.span (b.span, k.0)).0 k.1), (refl, k.2))),
       )

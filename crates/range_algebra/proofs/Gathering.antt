@@ -35,12 +35,12 @@ use Rattle.range_algebra.proofs.Layers.{branch_focus}
 -- ---- in order, each once
 
 module _ {X : Type 0} (R : X → X → Ordering) (o : IsTotalOrder R) where
-  below_all : (x : X) (xs : List X) (y : X) → IsAscending R (x ∷ xs) → Among xs y → R x y ≡ Less
+  pub below_all : (x : X) (xs : List X) (y : X) → IsAscending R (x ∷ xs) → Among xs y → R x y ≡ Less
   below_all x [] y up h = absurd h
   below_all x (z ∷ zs) y up (inl e) = let P : X → Type 0 = λ w. R x w ≡ Less in subst P e up.0
   below_all x (z ∷ zs) y up (inr h) = o.trans x z y up.0 (below_all z zs y up.1 h)
 
-  after_first : (x : X) (xs : List X) → IsAscending R (x ∷ xs) → IsAscending R xs
+  pub after_first : (x : X) (xs : List X) → IsAscending R (x ∷ xs) → IsAscending R xs
   after_first x [] up = tt
   after_first x (y ∷ ys) up = up.1
 
@@ -82,14 +82,18 @@ module _ {V E : Type 0} where
 
 -- ---- what is shown
 
+same_bound : (name : List ℕ) (c m : Member) (b : Bound) → bound_at name c.1 ≡ Some b → (s : IsShownAt name c m) → s.0 ≡ b
+same_bound name c m b at s = let f = sym s.1 ∙ at in cc
+
 shown_bound : (name : List ℕ) (c m : Member) (b : Bound) (t : List Bound) → bound_at name c.1 ≡ Some b → HasBytes b.span → t ≡ c.1 → ((b.span, t) ≡ m) ↔ IsShownAt name c m
-shown_bound name c m b t at some same = (
-  λ e. (b, at, some, sym e ∙ ap (λ (bs : List Bound). (b.span, bs)) same),
-  λ s. (
-    let e : s.0 ≡ b = (let f = sym s.1 ∙ at in cc) in
-    ap (λ (bs : List Bound). (b.span, bs)) same ∙ (ap (λ (x : Bound). (x.span, c.1)) (sym e) ∙ sym s.3)
-  ),
-)
+shown_bound name c m b t at some same =
+    (λ e. (b, at, some, sym e ∙ ap (λ (bs : List Bound). (b.span, bs)) same), λ s. ap (λ (bs : List Bound). (b.span, bs)) same ∙ (ap (λ (x : Bound). (x.span, c.1)) (sym (same_bound name c m b at s)) ∙ sym s.3))
+
+nothing_shown : (name : List ℕ) (c m : Member) (b : Bound) → bound_at name c.1 ≡ Some b → b.span.to ≤ b.span.from → IsShownAt name c m → ⊥
+nothing_shown name c m b at none s =
+    let P : Bound → Type 0 = λ x. HasBytes x.span in
+    let h : P b = subst P (same_bound name c m b at s) s.2 in
+    omega arith
 
 -- the choice at the range of a name
 pub adds_bound : (name : List ℕ) (c : Member) (b : Bound) (t : List Bound) (old new : List Member) → bound_at name c.1 ≡ Some b → HasBytes b.span → t ≡ c.1 → new ≡ old ++ (b.span, t) ∷ [] → Adds old new (IsShownAt name c)
@@ -99,12 +103,7 @@ pub adds_unbound : (name : List ℕ) (c : Member) (old : List Member) → bound_
 adds_unbound name c old at = adds_none old (IsShownAt name c) (λ m s. (let f = sym s.1 ∙ at in cc))
 
 pub adds_empty : (name : List ℕ) (c : Member) (b : Bound) (old : List Member) → bound_at name c.1 ≡ Some b → b.span.to ≤ b.span.from → Adds old old (IsShownAt name c)
-adds_empty name c b old at none = adds_none old (IsShownAt name c) (λ m s. (
-  let e : s.0 ≡ b = (let f = sym s.1 ∙ at in cc) in
-  let P : Bound → Type 0 = λ x. HasBytes x.span in
-  let h : P b = subst P e s.2 in
-  omega arith
-))
+adds_empty name c b old at none = adds_none old (IsShownAt name c) (λ m s. nothing_shown name c m b at none s)
 
 -- the choice itself
 pub adds_whole : (bs : Branches) (c : Member) (t : List Bound) (old new : List Member) → has is_focus bs ≡ false → t ≡ c.1 → new ≡ old ++ (c.0, t) ∷ [] → Adds old new (IsShown bs c)
@@ -122,7 +121,7 @@ in_focus bs c m seen = shown (has is_focus bs) seen
     shown true f = (λ x. x, λ x. x)
     shown false f = absurd (cc)
 
-any_joined : {X : Type 0} (P : X → Type 0) (xs ys : List X) → Any P (xs ++ ys) ↔ (Any P xs ⊎ Any P ys)
+pub any_joined : {X : Type 0} (P : X → Type 0) (xs ys : List X) → Any P (xs ++ ys) ↔ (Any P xs ⊎ Any P ys)
 any_joined {X} P xs ys = (λ a. to xs a.0 a.1 a.2, λ h. elim h [ inl a ↦ (a.0, left xs a.0 a.1, a.2) | inr a ↦ (a.0, right xs a.0 a.1, a.2) ])
   where
     to : (zs : List X) (x : X) → Among (zs ++ ys) x → P x → Any P zs ⊎ Any P ys

@@ -20,3 +20,4 @@ pub mod Prefixes
 pub mod Taking
 pub mod Given
 pub mod LeafNames
+pub mod Halving

@@ -13,3 +13,4 @@ pub mod Crowds
 pub mod Shown
 pub mod Faults
 pub mod Operands
+pub mod Halves

@@ -41,11 +41,7 @@ fn is_allowed<'t>(
 }
 
 // Adds the choice at the range of the name, where it is bound to a range that isn't empty.
-fn add_at<'t>(
-    name: &str,
-    one: &Member<'t>,
-    members: &mut Vec<Member<'t>>,
-) -> Result<(), Memory>
+fn add_at<'t>(name: &str, one: &Member<'t>, members: &mut Vec<Member<'t>>) -> Result<(), Memory>
     ensures { OnOk result (Adds members.old.items members.new.items (IsShownAt name.now one.now)) }
 {
     let Some(held) = one.1.get(name) else {
@@ -112,10 +108,7 @@ fn add_allowed<'t>(
 }
 
 // The members in order, each once, unless there are more than 10,000.
-fn gathered<'t>(
-    alloc: Global,
-    members: Vec<Member<'t>>,
-) -> Result<Vec<Member<'t>>, EvalFault>
+fn gathered<'t>(alloc: Global, members: Vec<Member<'t>>) -> Result<Vec<Member<'t>>, EvalFault>
     ensures ordered { IfOk result (λ v. IsAscending member_cmp v.items) }
     ensures same { IfOk result (λ v. (m : member_value) → Among v.items m ↔ Among members.entry.items m) }
     ensures few { IfOk result (λ v. length v.items ≤ 10000) }
@@ -125,10 +118,7 @@ fn gathered<'t>(
 }
 
 // The same members, put in order where many are gathered.
-fn thinned<'t>(
-    alloc: Global,
-    members: Vec<Member<'t>>,
-) -> Result<Vec<Member<'t>>, EvalFault>
+fn thinned<'t>(alloc: Global, members: Vec<Member<'t>>) -> Result<Vec<Member<'t>>, EvalFault>
     ensures same { IfOk result (λ v. (m : member_value) → Among v.items m ↔ Among members.entry.items m) }
     ensures crowded { IfErr result (IsFaultFrom (OneSet [] (Among members.entry.items))) }
 {

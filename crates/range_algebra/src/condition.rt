@@ -1,6 +1,9 @@
 //! What is taken away from the choices, and the conditions on what is bound.
 
-ghost use Rattle.std.specs.Prelude.{◌≡◌, ◌↔◌, [], map, false, Some, IsTrue, IfOk};
+ghost use Rattle.std.specs.Prelude.{◌≡◌, ◌↔◌, ◌<◌, ◌-◌, [], map, false, Some, IsTrue, IfOk};
+ghost use Rattle.tree_match.specs.Ascending.{IsAscending};
+ghost use Rattle.tree_match.specs.Members.{member_cmp};
+ghost use Rattle.range_algebra.specs.Halves.{IsBefore, IsBetween, IsFrom, IsOrderedFor};
 ghost use Rattle.range_algebra.specs.Conditions.{IsEqualTo, IsAround, AllowsBy};
 ghost use Rattle.range_algebra.specs.Meets.{Meets, Allows};
 ghost use Rattle.range_algebra.specs.Parts.{IsPart, AreTakenAway, has_operands};
@@ -15,6 +18,7 @@ use meta_filter::holds_comparison;
 use node_tree::{Memory, Span};
 use rule_form::{Child, Formula};
 use std::alloc::Global;
+use std::cmp::Ordering;
 
 // Whether the member has that range, with a binding that agrees.
 fn is_equal_to<'t>(member: &Member<'t>, range: Span, trail: &Trail<'t>) -> bool
@@ -23,16 +27,68 @@ fn is_equal_to<'t>(member: &Member<'t>, range: Span, trail: &Trail<'t>) -> bool
     is_equal(member.0, range) && trail.agrees(&member.1)
 }
 
-// Whether a member has that range, with a binding that agrees.
-fn has_equal<'t>(members: &[Member<'t>], range: Span, trail: &Trail<'t>) -> bool
+// Whether the member begins before the range, or begins there and ends before it.
+fn is_before<'t>(member: &Member<'t>, range: Span) -> bool
+    ensures { IsTrue result ↔ IsBefore range member.now }
+{
+    match member.0.order(range) {
+        Ordering::Less => true,
+        Ordering::Equal => false,
+        Ordering::Greater => false,
+    }
+}
+
+// Two places half as far from one another, between which the members that aren't before the range begin.
+fn halved<'t>(members: &[Member<'t>], range: Span, low: usize, high: usize) -> (usize, usize)
+    requires ordered { IsAscending member_cmp members.now }
+    requires between { IsBetween range members.now low high }
+    requires some { low < high }
+    ensures between { IsBetween range members.now result.0 result.1 }
+    ensures nearer { result.1 - result.0 < high - low }
+{
+    let middle = low + (high - low) / 2;
+    if is_before(&members[middle], range) {
+        return (middle + 1, high);
+    }
+    (low, middle)
+}
+
+// Where the members that aren't before the range begin.
+fn first_from<'t>(members: &[Member<'t>], range: Span) -> usize
+    requires ordered { IsAscending member_cmp members.now }
+    ensures { IsBetween range members.now result result }
+{
+    let mut places = (0, members.len());
+    while places.0 < places.1 {
+        places = halved(members, range, places.0, places.1);
+    }
+    places.0
+}
+
+// Whether a member has that range, with a binding that agrees, where no member is before the range.
+fn begins_equal<'t>(members: &[Member<'t>], range: Span, trail: &Trail<'t>) -> bool
+    requires from { IsFrom range members.now }
     ensures { IsTrue result ↔ Any (IsEqualTo range trail.now) members.now }
 {
     for member in members {
         if is_equal_to(member, range, trail) {
             return true;
         }
+        if !is_equal(member.0, range) {
+            return false;
+        }
     }
     false
+}
+
+// Whether a member has that range, with a binding that agrees.
+fn has_equal<'t>(members: &[Member<'t>], range: Span, trail: &Trail<'t>) -> bool
+    requires ordered { IsAscending member_cmp members.now }
+    ensures { IsTrue result ↔ Any (IsEqualTo range trail.now) members.now }
+{
+    let first = first_from(members, range);
+    let rest = &members[first..];
+    begins_equal(rest, range, trail)
 }
 
 // Whether the range lies in the member's, with a binding that agrees.
@@ -42,11 +98,15 @@ fn is_around<'t>(member: &Member<'t>, range: Span, trail: &Trail<'t>) -> bool
     lies_in(range, member.0) && trail.agrees(&member.1)
 }
 
-// Whether the range lies in a member's, with a binding that agrees.
+// Whether the range lies in a member's, with a binding that agrees. Members that begin after the range aren't looked at.
 fn has_around<'t>(members: &[Member<'t>], range: Span, trail: &Trail<'t>) -> bool
+    requires ordered { IsAscending member_cmp members.now }
     ensures { IsTrue result ↔ Any (IsAround range trail.now) members.now }
 {
     for member in members {
+        if range.from < member.0.from {
+            return false;
+        }
         if is_around(member, range, trail) {
             return true;
         }
@@ -86,6 +146,7 @@ fn allows_by<'t>(
     members: &[Member<'t>],
     one: &Member<'t>,
 ) -> Result<bool, Memory>
+    requires ordered { IsOrderedFor (branch_of child.now) members.now }
     ensures { IfOk result (λ y. IsTrue y ↔ AllowsBy scene.entry.bytes.now members.now one.now (branch_of child.now)) }
 {
     match child {
@@ -141,7 +202,13 @@ fn matches<'t>(
     };
     if let Part::Bare(sets) = part {
         if let Formula::All(children) = formula {
-            return allows_bare(alloc, scene, children.as_slice(), sets.as_slice(), held.span);
+            return allows_bare(
+                alloc,
+                scene,
+                children.as_slice(),
+                sets.as_slice(),
+                held.span,
+            );
         }
     }
     Ok(has_equal(part.members(), held.span, &one.1))

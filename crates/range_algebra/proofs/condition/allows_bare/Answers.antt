@@ -1,7 +1,7 @@
 use Rattle.std.proofs.Common.{◌≡◌, List, [], refl, sym, ap, ◌∙◌}
 use Rattle.meta_bind.specs.declared.bound.Bound.{Bound}
 use Rattle.range_algebra.proofs.Openings.{branches_left, none_left}
-use Rattle.range_algebra.proofs.Allowing.{bare_answer, taken_within, taken_parted, taken_says, refused, passed_on, all_passed}
+use Rattle.range_algebra.proofs.Allowing.{bare_answer, taken_within, taken_parted, taken_ordered, taken_says, refused, passed_on, all_passed}
 use Rattle.range_algebra.proofs.condition.allows_bare.Goals as goal
 
 pub returns-then-has_focus : goal.returns-then-has_focus
@@ -14,6 +14,11 @@ loop-i-init c = record { allowed = (λ x. x, λ x. x); sets = c.requires.sets }
 
 pub bounds-sets-i : goal.bounds-sets-i
 bounds-sets-i c = taken_within c.args.scene.leaves.now c.args.scene.bytes.now _ _ _ c.loop-i-test.true c.index-children-i.is _ c.loop-i.invariant.sets
+
+pub allows_by-requires : goal.allows_by-requires
+allows_by-requires c = record {
+  ordered = taken_ordered c.args.scene.leaves.now c.args.scene.bytes.now _ _ _ (taken_parted c.args.scene.leaves.now c.args.scene.bytes.now _ _ _ c.loop-i-test.true c.index-children-i.is _ c.index-sets-i.result c.loop-i.invariant.sets c.index-sets-i.is).0 c.as_slice.ensures.value;
+}
 
 pub returns-then-not-branch : goal.returns-then-not-branch
 returns-then-not-branch c =

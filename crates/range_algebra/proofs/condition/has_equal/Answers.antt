@@ -1,13 +1,13 @@
-use Rattle.std.proofs.Common.{refl, sym, ◌∙◌}
-use Rattle.range_algebra.specs.Conditions.{IsEqualTo}
-use Rattle.range_algebra.proofs.Searches.{any_here, any_later, any_end, found, unfound}
+use Rattle.std.proofs.Common.{◌≡◌}
+use Rattle.range_algebra.proofs.Halving.{rest_from, equal_from, rest_whole}
+use Rattle.tree_match.proofs.Sets.{chain}
 use Rattle.range_algebra.proofs.condition.has_equal.Goals as goal
 
-pub returns-then-is_equal_to : goal.returns-then-is_equal_to
-returns-then-is_equal_to c = found (IsEqualTo c.args.range c.args.trail.now) _ _ _ c.loop-member.invariant c.loop-member-test.true c.member-item.is (c.is_equal_to.ensures.0 c.if-is_equal_to.true)
+pub first_from-first-requires : goal.first_from-first-requires
+first_from-first-requires c = record { ordered = c.requires.ordered }
 
-pub loop-member-preserved : goal.loop-member-preserved
-loop-member-preserved c = unfound (IsEqualTo c.args.range c.args.trail.now) _ _ _ c.loop-member.invariant c.loop-member-test.true c.member-item.is (λ p. let e = sym (c.is_equal_to.ensures.1 p) ∙ c.if-is_equal_to.false in absurd cc)
+pub begins_equal-requires : goal.begins_equal-requires
+begins_equal-requires c = record { from = rest_from c.args.range c.args.members.now _ c.first_from-first.result (rest_whole c.args.members.now c.first_from-first.result) c.requires.ordered c.first_from-first.ensures }
 
 pub returns : goal.returns
-returns c = (λ h. absurd cc, λ a. absurd (any_end (IsEqualTo c.args.range c.args.trail.now) _ _ c.loop-member-test.false (c.loop-member.invariant.0 a)))
+returns c = chain _ _ _ c.begins_equal.ensures (equal_from c.args.range c.args.trail.now c.args.members.now _ c.first_from-first.result (rest_whole c.args.members.now c.first_from-first.result) c.first_from-first.ensures)
