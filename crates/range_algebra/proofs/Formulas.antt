@@ -1,8 +1,7 @@
 -- The set of a formula, and the first of its sets that has too many members, by the form of the formula.
-use Rattle.std.proofs.Common.{◌≡◌, ◌↔◌, ◌⊎◌, inl, inr, ℕ, zero, suc, ◌<◌, ◌≤◌, List, [], ◌∷◌, map, length, Bool, true, false, refl, sym, ap, ◌∙◌, subst, arith}
-use Rattle.std.specs.Prelude.{Option, None, Some, Vec, Result, Ok, Err, IfOk, IfErr, MatchBool, ◌||◌, not}
+use Rattle.std.proofs.Common.{◌≡◌, ◌↔◌, inl, inr, ℕ, suc, ◌≤◌, List, [], ◌∷◌, map, length, Bool, true, false, refl, sym, ap, ◌∙◌, subst, arith}
+use Rattle.std.specs.Prelude.{None, Vec, Result, Ok, Err, IfOk, IfErr, MatchBool, ◌||◌, not}
 use Rattle.std.specs.declared.alloc.Global.{Global}
-use Rattle.node_tree.specs.declared.span.Span.{Span}
 use Rattle.rule_form.specs.declared.formula.Formula.{Formula, Formula-F, out-Formula, roll-Formula, roll-out-Formula}
 use Rattle.rule_form.specs.declared.formula.Formula.TheVariants as formulas
 use Rattle.rule_form.specs.declared.formula.Formula.TheVariants.{rolls-Leaf, rolls-Regex, rolls-Any, rolls-All}
@@ -15,7 +14,6 @@ use Rattle.tree_match.specs.Sets.{Among}
 use Rattle.tree_match.specs.Ascending.{IsAscending}
 use Rattle.tree_match.specs.Members.{Member, member_cmp}
 use Rattle.range_algebra.specs.declared.fault.EvalFault.{EvalFault}
-use Rattle.range_algebra.specs.declared.fault.EvalFault.TheVariants as faults
 use Rattle.range_algebra.specs.declared.join.Role.TheVariants.{Inside}
 use Rattle.range_algebra.specs.declared.part.Part.{Part}
 use Rattle.range_algebra.specs.declared.part.Part.TheVariants as parts
@@ -23,10 +21,10 @@ use Rattle.range_algebra.specs.Trees
 use Rattle.range_algebra.specs.Trees.{tree_of, trees_of, branch_of, branches_of, has, is_positive, is_inside}
 use Rattle.range_algebra.specs.Meets.{Meets, MeetsSome}
 use Rattle.range_algebra.specs.Parts.{has_operands, members_in, IsInSome, IsSetOf, AreSetsOf, IsPart, IsTakenAway, AreTakenAway, IsBare, IsBarePart, HasNoFormula}
-use Rattle.range_algebra.specs.Crowds.{Search, IsFaultFrom, OneSet, Over, OverTrees, OverBranches, OverBranch, AtAll, Prefixes, PlainPrefixes}
+use Rattle.range_algebra.specs.Crowds.{IsFaultFrom, OneSet, Over, OverTrees, OverBranches, OverBranch, AtAll, PlainPrefixes}
 use Rattle.range_algebra.proofs.Layers.{tree_leaf, tree_regex, tree_any, tree_all, branch_notregex, branch_metaregex, branch_metacompare, branch_focus}
 use Rattle.range_algebra.proofs.Searches.{any_cons}
-use Rattle.range_algebra.proofs.Limits.{at_most, fault_as, fault_more}
+use Rattle.range_algebra.proofs.Limits.{at_most, fault_more}
 use Rattle.range_algebra.proofs.Children.{then_first, then_next}
 
 -- ---- no operand

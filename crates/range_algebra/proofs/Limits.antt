@@ -1,6 +1,6 @@
 -- Sets with at most, or more than, 10,000 members.
-use Rattle.std.proofs.Common.{◌≡◌, ◌↔◌, ◌⊎◌, inl, inr, ◌<◌, ◌≤◌, List, [], ◌∷◌, length, reverse, sym, ap, ◌∙◌, subst}
-use Rattle.std.specs.Prelude.{ℕ, Option, None, Some, Result, Ok, Err, IfOk, IfErr}
+use Rattle.std.proofs.Common.{◌≡◌, ◌↔◌, inl, inr, ◌<◌, ◌≤◌, List, [], ◌∷◌, length, reverse, sym, ap, ◌∙◌, subst}
+use Rattle.std.specs.Prelude.{ℕ, Option, None, Some, Result, Ok, Err, IfErr}
 use Rattle.std.specs.Cmp.{IsTotalOrder}
 use Rattle.std.specs.declared.cmp.Ordering.{Ordering}
 use Rattle.std.specs.declared.cmp.Ordering.TheVariants.{Less, Equal}

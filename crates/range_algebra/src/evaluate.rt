@@ -34,10 +34,7 @@ pub fn crowded<T>(alloc: Global, number: Option<usize>) -> Result<T, EvalFault>
 }
 
 /// The members, unless there are more than 10,000.
-pub fn limited<'t>(
-    alloc: Global,
-    members: Vec<Member<'t>>,
-) -> Result<Vec<Member<'t>>, EvalFault>
+pub fn limited<'t>(alloc: Global, members: Vec<Member<'t>>) -> Result<Vec<Member<'t>>, EvalFault>
     ensures few { IfOk result (λ v. (v.items ≡ members.entry.items) × (length members.entry.items ≤ 10000)) }
     ensures named { IfErr result (NamesSet []) }
     ensures many { IfErr result (λ _. 10000 < length members.entry.items) }
@@ -49,10 +46,7 @@ pub fn limited<'t>(
 }
 
 /// The members in order, each once, unless there are more than 10,000.
-pub fn gathered<'t>(
-    alloc: Global,
-    members: Vec<Member<'t>>,
-) -> Result<Vec<Member<'t>>, EvalFault>
+pub fn gathered<'t>(alloc: Global, members: Vec<Member<'t>>) -> Result<Vec<Member<'t>>, EvalFault>
     ensures ordered { IfOk result (λ v. IsAscending member_cmp v.items) }
     ensures same { IfOk result (λ v. (m : member_value) → Among v.items m ↔ Among members.entry.items m) }
     ensures few { IfOk result (λ v. length v.items ≤ 10000) }
@@ -62,10 +56,7 @@ pub fn gathered<'t>(
 }
 
 // The members, in order and each once where they are many.
-fn thinned<'t>(
-    alloc: Global,
-    members: Vec<Member<'t>>,
-) -> Result<Vec<Member<'t>>, EvalFault>
+fn thinned<'t>(alloc: Global, members: Vec<Member<'t>>) -> Result<Vec<Member<'t>>, EvalFault>
     ensures same { IfOk result (λ v. (m : member_value) → Among v.items m ↔ Among members.entry.items m) }
     ensures crowded { IfErr result (IsFaultFrom (OneSet [] (Among members.entry.items))) }
 {
@@ -101,10 +92,7 @@ fn inside<T: Drop>(number: usize, found: Result<T, EvalFault>) -> Result<T, Eval
 }
 
 // The members of all the sets.
-fn union<'t>(
-    alloc: Global,
-    sets: &[Vec<Member<'t>>],
-) -> Result<Vec<Member<'t>>, EvalFault>
+fn union<'t>(alloc: Global, sets: &[Vec<Member<'t>>]) -> Result<Vec<Member<'t>>, EvalFault>
     ensures ordered { IfOk result (λ v. IsAscending member_cmp v.items) }
     ensures exact { IfOk result (λ v. (m : member_value) → Among v.items m ↔ IsInSome sets.now m) }
     ensures crowded { IfErr result (IsFaultFrom (OneSet [] (IsInSome sets.now))) }
@@ -181,11 +169,7 @@ fn parts_of_each<'t>(
 
 // What the child needs.
 #[cycle(evaluate)]
-fn part_of<'t>(
-    alloc: Global,
-    scene: Scene<'t>,
-    child: &'t Child,
-) -> Result<Part<'t>, EvalFault>
+fn part_of<'t>(alloc: Global, scene: Scene<'t>, child: &'t Child) -> Result<Part<'t>, EvalFault>
     ensures exact { IfOk result (IsPart scene.entry.leaves.now scene.entry.bytes.now (branch_of child.now)) }
     ensures few { IfOk result (λ _. OverBranch scene.entry.leaves.now scene.entry.bytes.now (branch_of child.now) None) }
     ensures crowded { IfErr result (IsFaultFrom (OverBranch scene.entry.leaves.now scene.entry.bytes.now (branch_of child.now))) }
@@ -202,11 +186,7 @@ fn part_of<'t>(
 
 // What a condition on a metavariable needs.
 #[cycle(evaluate)]
-fn asked<'t>(
-    alloc: Global,
-    scene: Scene<'t>,
-    formula: &'t Formula,
-) -> Result<Part<'t>, EvalFault>
+fn asked<'t>(alloc: Global, scene: Scene<'t>, formula: &'t Formula) -> Result<Part<'t>, EvalFault>
     ensures exact { IfOk result (λ part. (name : List ℕ) → IsPart scene.entry.leaves.now scene.entry.bytes.now (meta_pattern name (tree_of formula.now)) part) }
     ensures few { IfOk result (λ _. Over scene.entry.leaves.now scene.entry.bytes.now (tree_of formula.now) None) }
     ensures crowded { IfErr result (IsFaultFrom (Over scene.entry.leaves.now scene.entry.bytes.now (tree_of formula.now))) }

@@ -48,13 +48,7 @@ fn over(
 }
 
 // A call of the name, which begins at that place, with the arguments.
-fn call(
-    alloc: Global,
-    name: &str,
-    from: u32,
-    to: u32,
-    args: List<Node>,
-) -> Result<Node, Memory> {
+fn call(alloc: Global, name: &str, from: u32, to: u32, args: List<Node>) -> Result<Node, Memory> {
     let mut kids = List::new(alloc);
     kids.push(word(alloc, Kind::Name, name, from, from + 1)?)?;
     kids.push(node(alloc, Kind::List, "", from + 2, to - 1, args)?)?;
@@ -225,7 +219,11 @@ fn nested(alloc: Global) -> Result<FileView, Memory> {
     let mut kids = List::new(alloc);
     kids.push(over(alloc, Kind::ExprStmt, "", 0, 9, first)?)?;
     kids.push(over(alloc, Kind::ExprStmt, "", 10, 16, second)?)?;
-    view(alloc, "g(a,f(1))\nf(\"s\")\n", node(alloc, Kind::Root, "", 0, 17, kids)?)
+    view(
+        alloc,
+        "g(a,f(1))\nf(\"s\")\n",
+        node(alloc, Kind::Root, "", 0, 17, kids)?,
+    )
 }
 
 // The answer to `patterns` of `f($X)` and this child.
@@ -258,7 +256,10 @@ fn children_allow_ranges(rt: HostRuntime) -> Result<(), Fail> {
     assert!(rt; string.as_str() == "10..16 $X=12..15\n");
     let mut children = List::new(alloc);
     children.push(Child::Not(Formula::Leaf(2)))?;
-    let bare = with(alloc, Child::MetaPattern(name.copy()?, Formula::All(children)))?;
+    let bare = with(
+        alloc,
+        Child::MetaPattern(name.copy()?, Formula::All(children)),
+    )?;
     assert!(rt; bare.as_str() == "4..8 $X=6..7\n");
     let mut amounts = List::new(alloc);
     amounts.push(Amount::Value(name))?;
@@ -280,7 +281,11 @@ fn deep(alloc: Global, many: u32) -> Result<FileView, Memory> {
     }
     text.push_str("x\n")?;
     let statement = over(alloc, Kind::ExprStmt, "", 0, many + 1, tree)?;
-    view(alloc, text.as_str(), over(alloc, Kind::Root, "", 0, many + 2, statement)?)
+    view(
+        alloc,
+        text.as_str(),
+        over(alloc, Kind::Root, "", 0, many + 2, statement)?,
+    )
 }
 
 // The answer to `patterns` of `$X` and `$Y` in that file.

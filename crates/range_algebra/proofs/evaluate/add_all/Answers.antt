@@ -1,4 +1,4 @@
-use Rattle.std.proofs.Common.{◌≡◌, List, [], ◌∷◌, ◌++◌, ap, ◌∙◌}
+use Rattle.std.proofs.Common.{List, [], ◌∷◌, ◌++◌, ap, ◌∙◌}
 use Rattle.meta_bind.specs.declared.bound.Bound.{Bound}
 use Rattle.tree_match.proofs.Sets.{gathered, pushed}
 use Rattle.range_algebra.proofs.Children.{among_left}

@@ -1,8 +1,8 @@
-use Rattle.std.proofs.Common.{◌≡◌, ◌↔◌, ◌⊎◌, inl, inr, List, [], subst}
+use Rattle.std.proofs.Common.{◌↔◌, ◌⊎◌, inl, inr, List, [], subst}
 use Rattle.std.proofs.lemmas.Result.{err_from_is_err_and}
 use Rattle.tree_match.specs.Members.{Member}
 use Rattle.tree_match.specs.Sets.{Among}
-use Rattle.tree_match.proofs.Sets.{gathered, gathered_all, chain, plus_as}
+use Rattle.tree_match.proofs.Sets.{gathered, gathered_all, chain}
 use Rattle.range_algebra.specs.Parts.{IsInSome}
 use Rattle.range_algebra.specs.Crowds.{OneSet}
 use Rattle.range_algebra.proofs.Added.{if_ok_same}
