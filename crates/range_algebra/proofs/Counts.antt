@@ -1,6 +1,6 @@
 -- How many of some states have a byte, as the size of a set.
-use Rattle.std.proofs.Common.{◌≡◌, ◌⊎◌, ◌↔◌, ◌≤◌, ◌<◌, inl, inr, ℕ, List, [], ◌∷◌, length, reverse, refl, sym, ap, ◌∙◌, subst, Bool, true, false, cond, arith}
-use Rattle.std.specs.Prelude.{Option, None, Some, Result, Ok, Err, IfOk, IfErr, count_by, nat_lt}
+use Rattle.std.proofs.Common.{◌≡◌, ◌↔◌, ◌≤◌, ◌<◌, inl, inr, ℕ, List, [], ◌∷◌, reverse, refl, sym, ap, ◌∙◌, subst, Bool, true, false, cond, arith}
+use Rattle.std.specs.Prelude.{Option, None, Some, Result, Ok, Err, IfOk, IfErr, count_by}
 use Rattle.std.specs.List.{filter}
 use Rattle.std.proofs.lemmas.List.Sums.{length-filter}
 use Rattle.std.proofs.lemmas.Bool.Decides.{nat_tests}
@@ -13,7 +13,7 @@ use Rattle.tree_match.specs.Ascending.{IsAscending}
 use Rattle.range_algebra.specs.declared.state.State.{State}
 use Rattle.range_algebra.specs.declared.fault.EvalFault.{EvalFault}
 use Rattle.range_algebra.specs.declared.fault.EvalFault.TheVariants as faults
-use Rattle.range_algebra.specs.Sizes.{Each, IsDistinct, HasAtMost, HasMoreThan}
+use Rattle.range_algebra.specs.Sizes.{IsDistinct, HasAtMost, HasMoreThan}
 use Rattle.range_algebra.specs.Ranges.{HasBytes}
 use Rattle.range_algebra.specs.Agreements.{has_bytes}
 use Rattle.range_algebra.specs.Joins.{state_cmp}

@@ -1,6 +1,6 @@
 -- The members that states give, and the same facts of results in other words.
-use Rattle.std.proofs.Common.{◌≡◌, ◌⊎◌, ◌↔◌, ◌≤◌, ◌<◌, inl, inr, ℕ, List, [], sym, ap, ◌∙◌, true, arith}
-use Rattle.std.specs.Prelude.{Option, None, Some, Result, Ok, Err, IfOk, IfErr}
+use Rattle.std.proofs.Common.{◌≡◌, ◌⊎◌, ◌↔◌, ◌≤◌, ◌<◌, inl, inr, ℕ, List, [], sym, ap, ◌∙◌, arith}
+use Rattle.std.specs.Prelude.{Some, Result, Ok, Err, IfOk, IfErr}
 use Rattle.node_tree.specs.declared.span.Span.{Span}
 use Rattle.meta_bind.specs.declared.bound.Bound.{Bound}
 use Rattle.meta_bind.specs.Merges.{extended}

@@ -1,5 +1,5 @@
 -- The names of all members of a formula stand in order.
-use Rattle.std.proofs.Common.{◌≡◌, ◌⊎◌, inl, inr, ℕ, List, [], ◌∷◌, map, refl, sym, subst, Bool, true, false}
+use Rattle.std.proofs.Common.{◌≡◌, inl, inr, ℕ, List, [], ◌∷◌, map, refl, sym, subst, Bool, true, false}
 use Rattle.std.specs.Prelude.{None, MatchBool}
 use Rattle.meta_bind.specs.declared.bound.Bound.{Bound}
 use Rattle.meta_bind.specs.declared.join.Keep.TheVariants.{Later, First}
@@ -7,14 +7,13 @@ use Rattle.meta_bind.specs.Bounds.{NamesAscend}
 use Rattle.meta_bind.specs.Merges.{merged}
 use Rattle.meta_bind.proofs.Joins.{ascends_joined}
 use Rattle.tree_match.specs.declared.leaf.Leaf.{Leaf}
-use Rattle.tree_match.specs.Sets.{Among}
 use Rattle.tree_match.specs.Members.{Member}
 use Rattle.range_algebra.specs.declared.join.Role.{Role}
 use Rattle.range_algebra.specs.declared.join.Role.TheVariants.{Plain, Inside}
 use Rattle.range_algebra.specs.Sizes.{Each}
 use Rattle.range_algebra.specs.Trees
 use Rattle.range_algebra.specs.Choices.{Chosen, FirstOf, NoneOf, IsMet, binding_of, merged_with, merged_all}
-use Rattle.range_algebra.specs.Meets.{Meets, MeetsSome, OneOfEach, OneAnd, IsShown, IsShownAmong}
+use Rattle.range_algebra.specs.Meets.{Meets, MeetsSome, OneOfEach, OneAnd, IsShownAmong}
 use Rattle.range_algebra.specs.Operands.{Ascends, LeavesAscend}
 
 pub merged_ascends : (b : List Bound) (cs : List (List Bound)) → NamesAscend b → Each NamesAscend cs → NamesAscend (merged_with b cs)

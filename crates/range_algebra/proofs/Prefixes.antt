@@ -1,14 +1,10 @@
 -- The prefixes of the children, by their operands.
-use Rattle.std.proofs.Common.{◌≡◌, ◌⊎◌, ◌↔◌, ◌≤◌, inl, inr, ℕ, zero, suc, ◌+◌, ◌<◌, List, [], ◌∷◌, ◌++◌, length, map, drop, get_or, refl, sym, ap, ◌∙◌, subst, Bool, true, false, arith, add-one}
+use Rattle.std.proofs.Common.{◌≡◌, ◌↔◌, inl, inr, ℕ, suc, ◌+◌, List, [], ◌∷◌, ◌++◌, refl, sym, subst, Bool, true, false, arith}
 use Rattle.std.specs.Prelude.{Option, None, Some, MatchBool, Vec, ◌||◌}
 use Rattle.std.specs.declared.alloc.Global.{Global}
-use Rattle.std.proofs.lemmas.List.{append_assoc, append-nil, drop_all}
-use Rattle.meta_bind.proofs.Lookups.{opened}
-use Rattle.rule_form.specs.declared.formula.Child.{Child}
 use Rattle.tree_match.specs.declared.leaf.Leaf.{Leaf}
 use Rattle.tree_match.specs.Sets.{Among}
 use Rattle.tree_match.specs.Members.{Member}
-use Rattle.tree_match.specs.Leaf.{IsWhole}
 use Rattle.range_algebra.specs.declared.state.State.{State}
 use Rattle.range_algebra.specs.declared.operand.Operand.{Operand}
 use Rattle.range_algebra.specs.declared.part.Part.{Part}
@@ -19,9 +15,9 @@ use Rattle.range_algebra.specs.Sizes.{Each}
 use Rattle.range_algebra.specs.Trees
 use Rattle.range_algebra.specs.Choices.{Chosen, FirstOf, NoneOf, IsChoice, IsMet, IsCounted}
 use Rattle.range_algebra.specs.Meets.{Meets, OneOfEach, OneAnd, IsChosen}
-use Rattle.range_algebra.specs.Parts.{IsSetIn, IsPart, AreParts}
+use Rattle.range_algebra.specs.Parts.{IsSetIn, IsPart}
 use Rattle.range_algebra.specs.Crowds.{Search, Nothing, Then, OneSet, is_operand, OneOfFirst, PlainPrefixes, InsidePrefixes, Prefixes}
-use Rattle.range_algebra.specs.Operands.{Ascends, LeavesAscend, OperandsAscend, AddsPart, AddsChild, BeginsWithOperand, AreOperands, ChosenFrom, PlainFronts, InsideFronts, Fronts}
+use Rattle.range_algebra.specs.Operands.{Ascends, LeavesAscend, OperandsAscend, BeginsWithOperand, AreOperands, ChosenFrom, PlainFronts, InsideFronts, Fronts}
 use Rattle.range_algebra.proofs.Names.{tree_ascends}
 use Rattle.range_algebra.proofs.Counts.{one_set_as}
 use Rattle.range_algebra.proofs.Reaching.{no_choice}
@@ -228,8 +224,8 @@ module _ (leaves : List Leaf) (bytes : List ℕ) where
     cut_operand all done i b bs x e set cut k n f =
         same_then (OneOfFirst leaves bytes role k all) (Along done (FirstOf (Among x.members.now) (OneOfFirst leaves bytes role n bs))) (Along (done ++ x ∷ []) (OneOfFirst leaves bytes role n bs))
         (same_then (OneOfFirst leaves bytes role k all) (Along done (OneAnd leaves bytes role b (OneOfFirst leaves bytes role n bs))) (Along done (FirstOf (Among x.members.now) (OneOfFirst leaves bytes role n bs)))
-          (cut k (suc n) (omega (arith, f)))
-          (along_as done (OneAnd leaves bytes role b (OneOfFirst leaves bytes role n bs)) (FirstOf (Among x.members.now) (OneOfFirst leaves bytes role n bs)) (operand_child x.members.now role b e set (OneOfFirst leaves bytes role n bs))))
+        (cut k (suc n) (omega (arith, f)))
+        (along_as done (OneAnd leaves bytes role b (OneOfFirst leaves bytes role n bs)) (FirstOf (Among x.members.now) (OneOfFirst leaves bytes role n bs)) (operand_child x.members.now role b e set (OneOfFirst leaves bytes role n bs))))
         (along_more done x (OneOfFirst leaves bytes role n bs))
 
     none_first : (bs : Trees.Branches) → Same (OneOfFirst leaves bytes role 0 bs) NoneOf
@@ -253,7 +249,7 @@ module _ (leaves : List Leaf) (bytes : List ℕ) where
             let next = cut_operand all done i b bs x e k.1 cut in
             then_both (OneSet (x.number ∷ []) (IsCounted (ChosenFrom (done ++ x ∷ [])) NoneOf)) (PlainFronts (done ++ x ∷ []) xs) (OneSet (i ∷ []) (IsCounted (OneOfFirst leaves bytes role (suc i) all) NoneOf)) (PlainPrefixes leaves bytes role all (suc i) bs)
             (named_as x.number i (IsCounted (ChosenFrom (done ++ x ∷ [])) NoneOf) (IsCounted (OneOfFirst leaves bytes role (suc i) all) NoneOf) k.0
-              (counted_as (ChosenFrom (done ++ x ∷ [])) (OneOfFirst leaves bytes role (suc i) all) NoneOf NoneOf (same_back (OneOfFirst leaves bytes role (suc i) all) (ChosenFrom (done ++ x ∷ [])) (cut_front all (done ++ x ∷ []) (suc i) bs next)) same_none))
+            (counted_as (ChosenFrom (done ++ x ∷ [])) (OneOfFirst leaves bytes role (suc i) all) NoneOf NoneOf (same_back (OneOfFirst leaves bytes role (suc i) all) (ChosenFrom (done ++ x ∷ [])) (cut_front all (done ++ x ∷ []) (suc i) bs next)) same_none))
             (rest (done ++ x ∷ []) xs k.2 next) o g
 
         at : (t : Bool) → is_operand role b ≡ t → (xs : List Operand) → MatchBool t (BeginsWithOperand leaves bytes i b (AreOperands leaves bytes role (suc i) bs) xs) (AreOperands leaves bytes role (suc i) bs xs) → PlainFronts done xs o
@@ -275,8 +271,8 @@ module _ (leaves : List Leaf) (bytes : List ℕ) where
             let next = cut_operand Inside all done i b bs x e k.1 cut in
             then_both (OneSet (x.number ∷ []) (IsCounted (ChosenFrom plains) (ChosenFrom (done ++ x ∷ [])))) (InsideFronts plains (done ++ x ∷ []) xs) (OneSet (i ∷ []) (IsCounted (OneOfEach leaves bytes Plain all) (OneOfFirst leaves bytes Inside (suc i) all))) (InsidePrefixes leaves bytes all (suc i) bs)
             (named_as x.number i (IsCounted (ChosenFrom plains) (ChosenFrom (done ++ x ∷ []))) (IsCounted (OneOfEach leaves bytes Plain all) (OneOfFirst leaves bytes Inside (suc i) all)) k.0
-              (counted_as (ChosenFrom plains) (OneOfEach leaves bytes Plain all) (ChosenFrom (done ++ x ∷ [])) (OneOfFirst leaves bytes Inside (suc i) all) first
-                (same_back (OneOfFirst leaves bytes Inside (suc i) all) (ChosenFrom (done ++ x ∷ [])) (cut_front Inside all (done ++ x ∷ []) (suc i) bs next))))
+            (counted_as (ChosenFrom plains) (OneOfEach leaves bytes Plain all) (ChosenFrom (done ++ x ∷ [])) (OneOfFirst leaves bytes Inside (suc i) all) first
+            (same_back (OneOfFirst leaves bytes Inside (suc i) all) (ChosenFrom (done ++ x ∷ [])) (cut_front Inside all (done ++ x ∷ []) (suc i) bs next))))
             (rest (done ++ x ∷ []) xs k.2 next) o g
 
         at : (t : Bool) → is_operand Inside b ≡ t → (xs : List Operand) → MatchBool t (BeginsWithOperand leaves bytes i b (AreOperands leaves bytes Inside (suc i) bs) xs) (AreOperands leaves bytes Inside (suc i) bs xs) → InsideFronts plains done xs o

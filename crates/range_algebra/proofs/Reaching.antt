@@ -1,6 +1,6 @@
 -- The states of the operands, one operand after another.
-use Rattle.std.proofs.Common.{◌≡◌, ◌⊎◌, ◌↔◌, ◌≤◌, ◌<◌, inl, inr, ℕ, zero, suc, ◌+◌, List, [], ◌∷◌, ◌++◌, length, map, take, drop, get_or, reverse, refl, sym, ap, ◌∙◌, subst, Bool, true, false, arith}
-use Rattle.std.specs.Prelude.{Option, None, Some, max, min, ◌&&◌, ◌||◌}
+use Rattle.std.proofs.Common.{◌≡◌, ◌⊎◌, ◌↔◌, ◌≤◌, ◌<◌, inl, inr, ℕ, zero, suc, ◌+◌, List, [], ◌∷◌, ◌++◌, length, map, take, drop, get_or, reverse, refl, sym, ap, ◌∙◌, subst, true, arith}
+use Rattle.std.specs.Prelude.{Option, None, Some, max, min, ◌&&◌}
 use Rattle.std.proofs.lemmas.List.{append-nil, take-append-drop, take_more, drop_all}
 use Rattle.node_tree.specs.declared.span.Span.{Span}
 use Rattle.meta_bind.proofs.Lookups.{opened}
@@ -13,12 +13,12 @@ use Rattle.range_algebra.specs.declared.join.Role.TheVariants.{Plain, Inside}
 use Rattle.range_algebra.specs.declared.fault.EvalFault.{EvalFault}
 use Rattle.range_algebra.specs.declared.fault.EvalFault.TheVariants as faults
 use Rattle.range_algebra.specs.Sizes.{Each}
-use Rattle.range_algebra.specs.Choices.{Chosen, NoneOf, IsChoice, IsCounted, range_of}
+use Rattle.range_algebra.specs.Choices.{NoneOf, IsChoice, IsCounted, range_of}
 use Rattle.range_algebra.specs.Joins.{meet, same_range, joined, IsJoined, IsNeeded, HasRange}
 use Rattle.range_algebra.specs.Crowds.{Search, Nothing, Then, OneSet, IsFaultFrom}
 use Rattle.range_algebra.specs.Operands.{Ascends, OperandsAscend, ChosenFrom, IsReached, IsBegun, WithBytes, PlainFronts, InsideFronts, Fronts}
 use Rattle.range_algebra.proofs.Names.{AllAscend, none_ascend, first_ascends}
-use Rattle.range_algebra.proofs.Choosing.{Splits, IsMore, Comes, AllSome, span_is, and_both, or_one, same_range_is, plain_to, plain_from, inside_to, inside_from, begun_to, begun_from}
+use Rattle.range_algebra.proofs.Choosing.{Splits, IsMore, AllSome, span_is, and_both, or_one, same_range_is, plain_to, plain_from, inside_to, inside_from, begun_to, begun_from}
 use Rattle.range_algebra.proofs.Counts.{one_set_as}
 
 -- ---- lists of one member of each operand

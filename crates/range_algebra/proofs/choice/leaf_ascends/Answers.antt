@@ -1,7 +1,6 @@
 use Rattle.std.proofs.Common.{subst, arith}
 use Rattle.std.specs.Prelude.{Some}
 use Rattle.std.proofs.lemmas.Option.{slice_get_within}
-use Rattle.std.proofs.lemmas.Bool.Decides.{nat_tests}
 use Rattle.tree_match.specs.declared.leaf.Leaf.{Leaf}
 use Rattle.range_algebra.specs.Meets.{InLeaf}
 use Rattle.range_algebra.proofs.LeafNames.{among_get}

@@ -1,6 +1,4 @@
-use Rattle.std.proofs.Common.{◌↔◌}
 use Rattle.tree_match.proofs.Sets.{gathered, gathered_all}
-use Rattle.tree_match.specs.Members.{Member}
 use Rattle.range_algebra.specs.Operands.{IsGivenBy}
 use Rattle.range_algebra.proofs.Searches.{any_step, any_end}
 use Rattle.range_algebra.proofs.Added.{if_ok_same}

@@ -1,4 +1,4 @@
-use Rattle.std.proofs.Common.{List, ◌≤◌, length, subst}
+use Rattle.std.proofs.Common.{List, subst}
 use Rattle.tree_match.specs.declared.leaf.Leaf.{Leaf}
 use Rattle.range_algebra.specs.Operands.{LeavesAscend}
 use Rattle.range_algebra.proofs.LeafNames.{first_more, first_all}

@@ -1,4 +1,4 @@
-use Rattle.std.proofs.Common.{◌≡◌, ◌<◌, ◌∙◌, length, sym, arith}
+use Rattle.std.proofs.Common.{◌∙◌, sym, arith}
 use Rattle.std.proofs.lemmas.Bool.Decides.{nat_tests}
 use Rattle.range_algebra.proofs.Reaching.{no_items, none_reached, none_searched}
 use Rattle.range_algebra.proofs.choice.states_of.Goals as goal

@@ -1,4 +1,3 @@
-use Rattle.std.proofs.Common.{◌↔◌, ◌⊎◌}
 use Rattle.tree_match.proofs.Sets.{gathered, gathered_all}
 use Rattle.range_algebra.specs.Joins.{IsJoinedWith, IsNeeded}
 use Rattle.range_algebra.proofs.Searches.{any_split, any_none}

@@ -1,5 +1,5 @@
-use Rattle.std.proofs.Common.{◌≡◌, ◌↔◌, ap, sym, ◌∙◌}
-use Rattle.tree_match.proofs.Sets.{adds_as, adds_none}
+use Rattle.std.proofs.Common.{sym, ◌∙◌}
+use Rattle.tree_match.proofs.Sets.{adds_none}
 use Rattle.range_algebra.proofs.Added.{with_agreement, needed_touches}
 use Rattle.range_algebra.proofs.join.add_one.Goals as goal
 

@@ -1,4 +1,4 @@
-use Rattle.std.proofs.Common.{◌↔◌, ◌⊎◌, ap}
+use Rattle.std.proofs.Common.{ap}
 use Rattle.std.specs.Prelude.{Vec}
 use Rattle.std.specs.declared.alloc.Global.{Global}
 use Rattle.tree_match.proofs.Sets.{gathered}

@@ -1,4 +1,4 @@
-use Rattle.std.proofs.Common.{◌≡◌, ◌<◌, length, refl, sym, ◌∙◌, subst, ap, arith}
+use Rattle.std.proofs.Common.{◌<◌, length, refl, sym, ◌∙◌, subst, arith}
 use Rattle.std.proofs.lemmas.Bool.Decides.{nat_tests}
 use Rattle.range_algebra.specs.Ends.{EndsWith}
 use Rattle.range_algebra.proofs.Settling.{one_last, ends_at, no_end, tied}
@@ -15,14 +15,18 @@ returns-in-Equal g c =
 
 pub returns-in-Less : goal.returns-in-Less
 returns-in-Less g c =
-    let some : 0 < length c.args.items.now = let f = sym c.is_empty.ensures ∙ c.if-is_empty.false in grind (arith, nat_tests) in
-    (λ h. absurd cc, λ h. absurd (
-      let same = one_last _ _ _ (ends_at _ _ some c.index-items-items.is) h in
-      let e = sym c.in-Less.is ∙ c.order.ensures ∙ tied g.T.Ordered.before g.met.T.Ordered.total g.met.T.Ordered.apart _ _ same in cc))
+    let some : 0 < length c.args.items.now = let f = sym c.is_empty.ensures ∙ c.if-is_empty.false in grind (arith, nat_tests) in (
+      λ h. absurd cc,
+      λ h. absurd (
+          let same = one_last _ _ _ (ends_at _ _ some c.index-items-items.is) h in
+          let e = sym c.in-Less.is ∙ c.order.ensures ∙ tied g.T.Ordered.before g.met.T.Ordered.total g.met.T.Ordered.apart _ _ same in cc),
+    )
 
 pub returns-in-Greater : goal.returns-in-Greater
 returns-in-Greater g c =
-    let some : 0 < length c.args.items.now = let f = sym c.is_empty.ensures ∙ c.if-is_empty.false in grind (arith, nat_tests) in
-    (λ h. absurd cc, λ h. absurd (
-      let same = one_last _ _ _ (ends_at _ _ some c.index-items-items.is) h in
-      let e = sym c.in-Greater.is ∙ c.order.ensures ∙ tied g.T.Ordered.before g.met.T.Ordered.total g.met.T.Ordered.apart _ _ same in cc))
+    let some : 0 < length c.args.items.now = let f = sym c.is_empty.ensures ∙ c.if-is_empty.false in grind (arith, nat_tests) in (
+      λ h. absurd cc,
+      λ h. absurd (
+          let same = one_last _ _ _ (ends_at _ _ some c.index-items-items.is) h in
+          let e = sym c.in-Greater.is ∙ c.order.ensures ∙ tied g.T.Ordered.before g.met.T.Ordered.total g.met.T.Ordered.apart _ _ same in cc),
+    )

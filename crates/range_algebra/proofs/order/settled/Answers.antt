@@ -1,4 +1,4 @@
-use Rattle.std.proofs.Common.{rules, sym, ◌∙◌}
+use Rattle.std.proofs.Common.{rules}
 use Rattle.std.proofs.lemmas.List.Sorted.{answers_always}
 use Rattle.range_algebra.proofs.Settling.{settle_start, settle_step, weak, later_first}
 use Rattle.range_algebra.proofs.order.settled.Goals as goal
