@@ -1,8 +1,7 @@
 //! What all the children of a formula allow.
 
-ghost use Rattle.std.specs.Prelude.{◌≡◌, ◌↔◌, ◌≤◌, [], length, map, None, IsTrue, IfOk, IfErr, OnOk};
-ghost use Rattle.tree_match.specs.Ascending.{IsAscending};
-ghost use Rattle.tree_match.specs.Members.{Member as member_value, member_cmp};
+ghost use Rattle.std.specs.Prelude.{◌≡◌, ◌↔◌, [], map, None, IsTrue, IfOk, IfErr, OnOk};
+ghost use Rattle.tree_match.specs.Members.{Member as member_value};
 ghost use Rattle.tree_match.specs.Sets.{Among, Adds};
 ghost use Rattle.range_algebra.specs.Trees.{all_of, branch_of, branches_of, names_of};
 ghost use Rattle.range_algebra.specs.Meets.{Allowed, IsShown, IsShownAt, IsShownAmong};
@@ -12,11 +11,10 @@ ghost use Rattle.range_algebra.specs.Crowds.{AtAll, IsFaultFrom, OneSet};
 
 use crate::choice::choices;
 use crate::condition::{allows, has_focus};
-use crate::evaluate::limited;
+use crate::evaluate::{gathered, thinned};
 use crate::fault::EvalFault;
-use crate::order::settled;
 use crate::part::Part;
-use crate::scene::{Member, ROOM, Scene};
+use crate::scene::{Member, Scene};
 use node_tree::Memory;
 use rule_form::Child;
 use std::alloc::Global;
@@ -105,27 +103,6 @@ fn add_allowed<'t>(
         return Ok(());
     }
     add_shown(children, one, members)
-}
-
-// The members in order, each once, unless there are more than 10,000.
-fn gathered<'t>(alloc: Global, members: Vec<Member<'t>>) -> Result<Vec<Member<'t>>, EvalFault>
-    ensures ordered { IfOk result (λ v. IsAscending member_cmp v.items) }
-    ensures same { IfOk result (λ v. (m : member_value) → Among v.items m ↔ Among members.entry.items m) }
-    ensures few { IfOk result (λ v. length v.items ≤ 10000) }
-    ensures crowded { IfErr result (IsFaultFrom (OneSet [] (Among members.entry.items))) }
-{
-    limited(alloc, settled(alloc, members)?)
-}
-
-// The same members, put in order where many are gathered.
-fn thinned<'t>(alloc: Global, members: Vec<Member<'t>>) -> Result<Vec<Member<'t>>, EvalFault>
-    ensures same { IfOk result (λ v. (m : member_value) → Among v.items m ↔ Among members.entry.items m) }
-    ensures crowded { IfErr result (IsFaultFrom (OneSet [] (Among members.entry.items))) }
-{
-    if members.len() <= ROOM {
-        return Ok(members);
-    }
-    gathered(alloc, members)
 }
 
 // What the choices show that all the children allow.

@@ -55,8 +55,8 @@ pub fn gathered<'t>(alloc: Global, members: Vec<Member<'t>>) -> Result<Vec<Membe
     limited(alloc, settled(alloc, members)?)
 }
 
-// The members, in order and each once where they are many.
-fn thinned<'t>(alloc: Global, members: Vec<Member<'t>>) -> Result<Vec<Member<'t>>, EvalFault>
+/// The same members, put in order and each once where they are many.
+pub fn thinned<'t>(alloc: Global, members: Vec<Member<'t>>) -> Result<Vec<Member<'t>>, EvalFault>
     ensures same { IfOk result (λ v. (m : member_value) → Among v.items m ↔ Among members.entry.items m) }
     ensures crowded { IfErr result (IsFaultFrom (OneSet [] (Among members.entry.items))) }
 {
