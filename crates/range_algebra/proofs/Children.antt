@@ -47,14 +47,6 @@ one_of_some sets i old new inv v lt is given e adds m h = at ((adds m).0 h)
 
 -- ---- one search after another
 
-pub then_first : (First Next : Search) (e : EvalFault) → IsFaultFrom First e → IsFaultFrom (Then First Next) e
-then_first First Next faults.Memory h = tt
-then_first First Next (faults.Crowded numbers) h = inl h
-
-pub then_next : (First Next : Search) (e : EvalFault) → First None → IsFaultFrom Next e → IsFaultFrom (Then First Next) e
-then_next First Next faults.Memory none h = tt
-then_next First Next (faults.Crowded numbers) none h = inr (none, h)
-
 next_as : (First Next Other : Search) → ((o : Option (List ℕ)) → Next o → Other o) → (o : Option (List ℕ)) → Then First Next o → Then First Other o
 next_as First Next Other to None h = (h.0, to None h.1)
 next_as First Next Other to (Some p) (inl h) = inl h

@@ -4,10 +4,6 @@ use Rattle.std.specs.Prelude.{Option, None, Some, Result, Ok, Err, IfOk, IfErr, 
 use Rattle.std.specs.List.{filter}
 use Rattle.std.proofs.lemmas.List.Sums.{length-filter}
 use Rattle.std.proofs.lemmas.Bool.Decides.{nat_tests}
-use Rattle.std.proofs.lemmas.Cmp.{tied_itself}
-use Rattle.std.specs.Cmp.{IsTotalOrder}
-use Rattle.std.specs.declared.cmp.Ordering.{Ordering}
-use Rattle.std.specs.declared.cmp.Ordering.TheVariants.{Less, Equal}
 use Rattle.tree_match.specs.Sets.{Among}
 use Rattle.tree_match.specs.Ascending.{IsAscending}
 use Rattle.range_algebra.specs.declared.state.State.{State}
@@ -19,22 +15,9 @@ use Rattle.range_algebra.specs.Agreements.{has_bytes}
 use Rattle.range_algebra.specs.Joins.{state_cmp}
 use Rattle.range_algebra.specs.Orders.{state_total}
 use Rattle.range_algebra.specs.Crowds.{NamesSet, IsFaultFrom, OneSet}
+use Rattle.range_algebra.proofs.Limits.{distinct_up}
 
--- ---- a list in order has no item twice
-
-module _ {X : Type 0} (R : X → X → Ordering) (o : IsTotalOrder R) where
-  below_all : (x : X) (xs : List X) → IsAscending R (x ∷ xs) → (y : X) → Among xs y → R x y ≡ Less
-  below_all x [] up y h = elim h [ ]
-  below_all x (z ∷ zs) up y (inl e) = let P : X → Type 0 = λ w. R x w ≡ Less in subst P e up.0
-  below_all x (z ∷ zs) up y (inr h) = o.trans x z y up.0 (below_all z zs up.1 y h)
-
-  tail_up : (x : X) (xs : List X) → IsAscending R (x ∷ xs) → IsAscending R xs
-  tail_up x [] up = tt
-  tail_up x (y ∷ ys) up = up.1
-
-  distinct : (xs : List X) → IsAscending R xs → IsDistinct xs
-  distinct [] up = tt
-  distinct (x ∷ xs) up = (λ h. (let e : Less ≡ Equal = sym (below_all x xs up x h) ∙ tied_itself o x in absurd cc), distinct xs (tail_up x xs up))
+-- ---- items that pass a test
 
 module _ {X : Type 0} (p : X → Bool) where
   filter_from : (xs : List X) (x : X) → Among (filter p xs) x → Among xs x × (p x ≡ true)
@@ -82,7 +65,7 @@ module _ (Set : State → Type 0) (states : List State) where
   more_than up sound many = record {
     items = with_bytes states;
     members = λ s h. let r = filter_from (λ (x : State). has_bytes x.range) states s h in (sound s r.0, (let e = r.1 in grind (arith, nat_tests)));
-    distinct = filter_distinct (λ (x : State). has_bytes x.range) states (distinct state_cmp state_total states up);
+    distinct = filter_distinct (λ (x : State). has_bytes x.range) states (distinct_up state_cmp state_total states up);
     many = let e = length-filter (λ (s : State). has_bytes s.range) states in rw e many;
   }
 
@@ -90,17 +73,6 @@ module _ (Set : State → Type 0) (states : List State) where
 pub fault_of : {X : Type 0} (i : ℕ) (Set : X → Type 0) (e : EvalFault) → NamesSet (i ∷ []) e → HasMoreThan 10000 Set → IsFaultFrom (OneSet (i ∷ []) Set) e
 fault_of i Set faults.Memory named more = tt
 fault_of i Set (faults.Crowded given) named more = (ap reverse named, more)
-
--- the same set by other words
-pub at_most_as : {X : Type 0} (P Q : X → Type 0) → ((x : X) → Q x → P x) → HasAtMost 10000 P → HasAtMost 10000 Q
-at_most_as P Q same h = record { items = h.items; whole = λ x q. h.whole x (same x q); few = h.few }
-
-pub more_than_as : {X : Type 0} (P Q : X → Type 0) → ((x : X) → P x → Q x) → HasMoreThan 10000 P → HasMoreThan 10000 Q
-more_than_as P Q same h = record { items = h.items; members = λ x k. same x (h.members x k); distinct = h.distinct; many = h.many }
-
-pub one_set_as : {X : Type 0} (name : List ℕ) (P Q : X → Type 0) → ((x : X) → P x ↔ Q x) → (o : Option (List ℕ)) → OneSet name P o → OneSet name Q o
-one_set_as name P Q same None h = at_most_as P Q (λ x. (same x).1) h
-one_set_as name P Q same (Some p) h = (h.0, more_than_as P Q (λ x. (same x).0) h.1)
 
 -- ---- what a test of the count leaves
 

@@ -24,8 +24,7 @@ use Rattle.range_algebra.specs.Parts.{has_operands, members_in, IsInSome, IsSetO
 use Rattle.range_algebra.specs.Crowds.{IsFaultFrom, OneSet, Over, OverTrees, OverBranches, OverBranch, AtAll, PlainPrefixes}
 use Rattle.range_algebra.proofs.Layers.{tree_leaf, tree_regex, tree_any, tree_all, branch_notregex, branch_metaregex, branch_metacompare, branch_focus}
 use Rattle.range_algebra.proofs.Searches.{any_cons}
-use Rattle.range_algebra.proofs.Limits.{at_most, fault_more}
-use Rattle.range_algebra.proofs.Children.{then_first, then_next}
+use Rattle.range_algebra.proofs.Limits.{at_most, fault_more, fault_first, fault_next}
 
 -- ---- no operand
 
@@ -128,12 +127,12 @@ module _ (leaves : List Leaf) (bytes : List ℕ) where
   pub some_child_fault : (f : Formula) (ts : Trees.Trees) → tree_of f ≡ Trees.some_of ts → (e : EvalFault) → IsFaultFrom (OverTrees leaves bytes 0 ts) e → IsFaultFrom (Over leaves bytes (tree_of f)) e
   some_child_fault f ts is e h =
       let P : Trees.Tree → Type 0 = λ u. IsFaultFrom (Over leaves bytes u) e in
-      subst P (sym is) (then_first (OverTrees leaves bytes 0 ts) (OneSet [] (MeetsSome leaves bytes ts)) e h)
+      subst P (sym is) (fault_first (OverTrees leaves bytes 0 ts) (OneSet [] (MeetsSome leaves bytes ts)) e h)
 
   pub all_child_fault : (f : Formula) (bs : Trees.Branches) → tree_of f ≡ Trees.all_of bs → (e : EvalFault) → IsFaultFrom (OverBranches leaves bytes 0 bs) e → IsFaultFrom (Over leaves bytes (tree_of f)) e
   all_child_fault f bs is e h =
       let P : Trees.Tree → Type 0 = λ u. IsFaultFrom (Over leaves bytes u) e in
-      subst P (sym is) (then_first (OverBranches leaves bytes 0 bs) (AtAll leaves bytes bs) e h)
+      subst P (sym is) (fault_first (OverBranches leaves bytes 0 bs) (AtAll leaves bytes bs) e h)
 
   -- the same of a child
   pub branch_part : (c : Child) (b : Trees.Branch) → branch_of c ≡ b → (p : Part) → IsPart leaves bytes b p → IsPart leaves bytes (branch_of c) p
@@ -213,7 +212,7 @@ module _ (leaves : List Leaf) (bytes : List ℕ) where
         at : (q : Result (Vec Member Global) EvalFault) → IfErr q (IsFaultFrom (OneSet [] (IsInSome sets))) → IfErr q (IsFaultFrom (Over leaves bytes (Trees.some_of ts)))
         at (Ok v) k = tt
         at (Err e) k =
-            then_next (OverTrees leaves bytes 0 ts) (OneSet [] (MeetsSome leaves bytes ts)) e none
+            fault_next (OverTrees leaves bytes 0 ts) (OneSet [] (MeetsSome leaves bytes ts)) e none
             (fault_more [] (IsInSome sets) (MeetsSome leaves bytes ts) (λ m a. (in_some ts sets each m).0 a) e k)
 
   -- what all children allow
@@ -224,7 +223,7 @@ module _ (leaves : List Leaf) (bytes : List ℕ) where
 
     pub all_fault : {V : Type 0} (r : Result V EvalFault) → IfErr r (IsFaultFrom (AtAll leaves bytes bs)) → IfErr r (IsFaultFrom (Over leaves bytes (Trees.all_of bs)))
     all_fault {V} (Ok v) h = tt
-    all_fault {V} (Err e) h = then_next (OverBranches leaves bytes 0 bs) (AtAll leaves bytes bs) e none h
+    all_fault {V} (Err e) h = fault_next (OverBranches leaves bytes 0 bs) (AtAll leaves bytes bs) e none h
 
   -- what a bare formula takes away of its children's parts
   pub part_taken : (b : Trees.Branch) (p : Part) → IsPart leaves bytes b p → IsTakenAway leaves bytes b (members_in p)

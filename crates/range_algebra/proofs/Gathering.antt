@@ -1,10 +1,6 @@
--- Sets that are put in order, those with too many members, and what choices show.
-use Rattle.std.proofs.Common.{◌≡◌, ◌⊎◌, inl, inr, ◌↔◌, ℕ, ◌+◌, ◌<◌, ◌≤◌, List, [], ◌∷◌, ◌++◌, length, drop, get_or, map, reverse, Bool, true, false, refl, sym, ap, ◌∙◌, subst, arith}
-use Rattle.std.specs.Prelude.{Option, None, Some, MatchBool, Result, Ok, Err, IfOk, IfErr, OnOk}
-use Rattle.std.specs.Cmp.{IsTotalOrder}
-use Rattle.std.specs.declared.cmp.Ordering.{Ordering}
-use Rattle.std.specs.declared.cmp.Ordering.TheVariants.{Less, Equal}
-use Rattle.std.proofs.lemmas.Cmp.{tied_itself}
+-- What choices show.
+use Rattle.std.proofs.Common.{◌≡◌, ◌⊎◌, inl, inr, ◌↔◌, ℕ, ◌+◌, ◌<◌, ◌≤◌, List, [], ◌∷◌, ◌++◌, length, drop, get_or, map, Bool, true, false, refl, sym, ap, ◌∙◌, subst, arith}
+use Rattle.std.specs.Prelude.{Option, None, Some, MatchBool, Result, Ok, Err, IfOk, OnOk}
 use Rattle.std.proofs.lemmas.List.{drop_all}
 use Rattle.node_tree.specs.declared.span.Span.{Span}
 use Rattle.meta_bind.specs.declared.bound.Bound.{Bound}
@@ -16,66 +12,20 @@ use Rattle.rule_form.specs.declared.formula.Child.TheVariants.{rolls-Focus}
 use Rattle.rule_form.specs.declared.formula.Child.TheVariants as children
 use Rattle.tree_match.specs.declared.leaf.Leaf.{Leaf}
 use Rattle.tree_match.specs.Sets.{Among, Adds}
-use Rattle.tree_match.specs.Ascending.{IsAscending}
-use Rattle.tree_match.specs.Members.{Member, member_cmp}
+use Rattle.tree_match.specs.Members.{Member}
 use Rattle.tree_match.proofs.Sets.{pushed, adds_as, adds_none}
-use Rattle.range_algebra.specs.declared.fault.EvalFault.{EvalFault}
-use Rattle.range_algebra.specs.declared.fault.EvalFault.TheVariants as faults
-use Rattle.range_algebra.specs.Orders.{member_total}
-use Rattle.range_algebra.specs.Sizes.{Any, Each, IsDistinct, HasAtMost, HasMoreThan}
+use Rattle.range_algebra.specs.Sizes.{Any}
 use Rattle.range_algebra.specs.Ranges.{HasBytes}
 use Rattle.range_algebra.specs.Trees.{Branch, Branches, no_branches, branch_then, branches_of, branch_of, names_of, focus, focused, has, is_focus, all_of}
 use Rattle.range_algebra.specs.Meets.{Meets, IsChosen, Allowed, IsShown, IsShownAt, IsShownAmong}
 use Rattle.range_algebra.specs.Shown.{Shows, IsShownOfSome}
-use Rattle.range_algebra.specs.Crowds.{Search, NamesSet, IsFaultFrom, OneSet, Then, Prefixes, AtAll}
 use Rattle.range_algebra.proofs.Openings.{branches_left, none_left, by_layer, branch_at}
 use Rattle.range_algebra.proofs.Searches.{any_parted, any_end}
 use Rattle.range_algebra.proofs.Layers.{branch_focus}
 
--- ---- in order, each once
-
-module _ {X : Type 0} (R : X → X → Ordering) (o : IsTotalOrder R) where
-  pub below_all : (x : X) (xs : List X) (y : X) → IsAscending R (x ∷ xs) → Among xs y → R x y ≡ Less
-  below_all x [] y up h = absurd h
-  below_all x (z ∷ zs) y up (inl e) = let P : X → Type 0 = λ w. R x w ≡ Less in subst P e up.0
-  below_all x (z ∷ zs) y up (inr h) = o.trans x z y up.0 (below_all z zs y up.1 h)
-
-  pub after_first : (x : X) (xs : List X) → IsAscending R (x ∷ xs) → IsAscending R xs
-  after_first x [] up = tt
-  after_first x (y ∷ ys) up = up.1
-
-  pub distinct_up : (xs : List X) → IsAscending R xs → IsDistinct xs
-  distinct_up [] up = tt
-  distinct_up (x ∷ xs) up = ((λ h. (let e : Less ≡ Equal = sym (below_all x xs x up h) ∙ tied_itself o x in cc)), distinct_up xs (after_first x xs up))
-
--- ---- faults
-
-pub more_as : (P Q : Member → Type 0) (most : ℕ) → ((m : Member) → P m → Q m) → HasMoreThan most P → HasMoreThan most Q
-more_as P Q most sound h = record { items = h.items; members = λ m a. sound m (h.members m a); distinct = h.distinct; many = h.many }
-
--- a set with more members than may be
-pub crowded_from : (Set : Member → Type 0) (xs : List Member) → IsAscending member_cmp xs → ((m : Member) → Among xs m → Set m) → (e : EvalFault) → NamesSet [] e → 10000 < length xs → IsFaultFrom (OneSet [] Set) e
-crowded_from Set xs up sound faults.Memory named many = tt
-crowded_from Set xs up sound (faults.Crowded given) named many = (ap reverse named, record { items = xs; members = sound; distinct = distinct_up member_cmp member_total xs up; many = many })
-
--- what is too large a part of a set
-pub fault_more : (P Q : Member → Type 0) → ((m : Member) → P m → Q m) → (e : EvalFault) → IsFaultFrom (OneSet [] P) e → IsFaultFrom (OneSet [] Q) e
-fault_more P Q sound faults.Memory h = tt
-fault_more P Q sound (faults.Crowded given) h = (h.0, more_as P Q 10000 sound h.1)
-
-pub fault_first : (First Next : Search) (e : EvalFault) → IsFaultFrom First e → IsFaultFrom (Then First Next) e
-fault_first First Next faults.Memory h = tt
-fault_first First Next (faults.Crowded given) h = inl h
-
-pub fault_next : (First Next : Search) (e : EvalFault) → First None → IsFaultFrom Next e → IsFaultFrom (Then First Next) e
-fault_next First Next faults.Memory none h = tt
-fault_next First Next (faults.Crowded given) none h = inr (none, h)
+-- ---- clauses of answers
 
 module _ {V E : Type 0} where
-  pub if_err_both : (A B C : E → Type 0) (r : Result V E) → IfErr r A → IfErr r B → ((e : E) → A e → B e → C e) → IfErr r C
-  if_err_both A B C (Ok v) h k f = tt
-  if_err_both A B C (Err e) h k f = f e h k
-
   pub if_ok_both : (A B C : V → Type 0) (r : Result V E) → IfOk r A → IfOk r B → ((v : V) → A v → B v → C v) → IfOk r C
   if_ok_both A B C (Ok v) h k f = f v h k
   if_ok_both A B C (Err e) h k f = tt

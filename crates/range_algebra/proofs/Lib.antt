@@ -8,7 +8,7 @@ pub mod Openings
 pub mod Allowing
 pub mod Gathering
 pub mod Limits
-pub mod Leaves
+pub mod LeafSets
 pub mod Children
 pub mod Formulas
 pub mod Once

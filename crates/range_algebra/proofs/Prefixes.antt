@@ -19,7 +19,7 @@ use Rattle.range_algebra.specs.Parts.{IsSetIn, IsPart}
 use Rattle.range_algebra.specs.Crowds.{Search, Nothing, Then, OneSet, is_operand, OneOfFirst, PlainPrefixes, InsidePrefixes, Prefixes}
 use Rattle.range_algebra.specs.Operands.{Ascends, LeavesAscend, OperandsAscend, BeginsWithOperand, AreOperands, ChosenFrom, PlainFronts, InsideFronts, Fronts}
 use Rattle.range_algebra.proofs.Names.{tree_ascends}
-use Rattle.range_algebra.proofs.Counts.{one_set_as}
+use Rattle.range_algebra.proofs.Limits.{one_set_as}
 use Rattle.range_algebra.proofs.Reaching.{no_choice}
 
 -- ---- lists of sets

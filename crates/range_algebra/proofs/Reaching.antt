@@ -19,7 +19,7 @@ use Rattle.range_algebra.specs.Crowds.{Search, Nothing, Then, OneSet, IsFaultFro
 use Rattle.range_algebra.specs.Operands.{Ascends, OperandsAscend, ChosenFrom, IsReached, IsBegun, WithBytes, PlainFronts, InsideFronts, Fronts}
 use Rattle.range_algebra.proofs.Names.{AllAscend, none_ascend, first_ascends}
 use Rattle.range_algebra.proofs.Choosing.{Splits, IsMore, AllSome, span_is, and_both, or_one, same_range_is, plain_to, plain_from, inside_to, inside_from, begun_to, begun_from}
-use Rattle.range_algebra.proofs.Counts.{one_set_as}
+use Rattle.range_algebra.proofs.Limits.{one_set_as}
 
 -- ---- lists of one member of each operand
 

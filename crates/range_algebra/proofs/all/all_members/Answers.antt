@@ -7,7 +7,8 @@ use Rattle.range_algebra.specs.Trees.{branch_of, branches_of, all_of}
 use Rattle.range_algebra.specs.Meets.{Meets}
 use Rattle.range_algebra.specs.Shown.{IsShownOfSome}
 use Rattle.range_algebra.specs.Crowds.{Prefixes, OneSet}
-use Rattle.range_algebra.proofs.Gathering.{fault_first, fault_next, fault_more, meets_chosen, if_ok_both}
+use Rattle.range_algebra.proofs.Gathering.{meets_chosen, if_ok_both}
+use Rattle.range_algebra.proofs.Limits.{fault_first, fault_next, fault_more}
 use Rattle.range_algebra.proofs.all.all_members.Goals as goal
 
 pub choices-requires : goal.choices-requires
@@ -25,7 +26,7 @@ pub returns-in_err-members-clause-crowded : goal.returns-in_err-members-clause-c
 returns-in_err-members-clause-crowded c =
     let meets = meets_chosen c.args.scene.leaves.now c.args.scene.bytes.now (branches_of (map branch_of c.args.children.now)) _ _ c.as_slice.ensures.value c.in_ok-chosen.ensures.exact in
     let p = err_from_is_err_and c.from_residual-in_err-members.result c.from_residual-in_err-members.ensures.1 in
-    rw (p.1, p.2) (fault_next (Prefixes c.args.scene.leaves.now c.args.scene.bytes.now (branches_of (map branch_of c.args.children.now))) (OneSet [] (Meets c.args.scene.leaves.now c.args.scene.bytes.now (all_of (branches_of (map branch_of c.args.children.now))) None)) c.in_err-members.field-0.0 c.in_ok-chosen.ensures.few (fault_more _ _ (λ m a. (meets m).0 a) c.in_err-members.field-0.0 c.in_err-members.ensures.crowded))
+    rw (p.1, p.2) (fault_next (Prefixes c.args.scene.leaves.now c.args.scene.bytes.now (branches_of (map branch_of c.args.children.now))) (OneSet [] (Meets c.args.scene.leaves.now c.args.scene.bytes.now (all_of (branches_of (map branch_of c.args.children.now))) None)) c.in_err-members.field-0.0 c.in_ok-chosen.ensures.few (fault_more [] _ _ (λ m a. (meets m).0 a) c.in_err-members.field-0.0 c.in_err-members.ensures.crowded))
 
 pub returns-clause-exact : goal.returns-clause-exact
 returns-clause-exact c =
@@ -40,4 +41,4 @@ returns-clause-few c =
 pub returns-clause-crowded : goal.returns-clause-crowded
 returns-clause-crowded c =
     let meets = meets_chosen c.args.scene.leaves.now c.args.scene.bytes.now (branches_of (map branch_of c.args.children.now)) _ _ c.as_slice.ensures.value c.in_ok-chosen.ensures.exact in
-    IfErr-weaker c.gathered.result _ _ (λ e h. fault_next (Prefixes c.args.scene.leaves.now c.args.scene.bytes.now (branches_of (map branch_of c.args.children.now))) (OneSet [] (Meets c.args.scene.leaves.now c.args.scene.bytes.now (all_of (branches_of (map branch_of c.args.children.now))) None)) e c.in_ok-chosen.ensures.few (fault_more _ _ (λ m a. (meets m).0 ((c.in_ok-members.ensures.exact m).0 a)) e h)) c.gathered.ensures.crowded
+    IfErr-weaker c.gathered.result _ _ (λ e h. fault_next (Prefixes c.args.scene.leaves.now c.args.scene.bytes.now (branches_of (map branch_of c.args.children.now))) (OneSet [] (Meets c.args.scene.leaves.now c.args.scene.bytes.now (all_of (branches_of (map branch_of c.args.children.now))) None)) e c.in_ok-chosen.ensures.few (fault_more [] _ _ (λ m a. (meets m).0 ((c.in_ok-members.ensures.exact m).0 a)) e h)) c.gathered.ensures.crowded

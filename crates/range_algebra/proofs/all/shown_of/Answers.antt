@@ -1,4 +1,4 @@
-use Rattle.std.proofs.Common.{◌↔◌, ◌⊎◌, inl, inr, map}
+use Rattle.std.proofs.Common.{◌↔◌, ◌⊎◌, [], inl, inr, map}
 use Rattle.std.proofs.lemmas.Result.{err_from_is_err_and}
 use Rattle.tree_match.specs.Sets.{Among}
 use Rattle.tree_match.specs.Members.{Member}
@@ -6,7 +6,7 @@ use Rattle.tree_match.proofs.Sets.{gathered, gathered_all, chain}
 use Rattle.range_algebra.specs.Trees.{branch_of, branches_of}
 use Rattle.range_algebra.specs.Shown.{Shows, IsShownOfSome}
 use Rattle.range_algebra.proofs.Searches.{any_here, any_parted, any_end}
-use Rattle.range_algebra.proofs.Gathering.{fault_more}
+use Rattle.range_algebra.proofs.Limits.{fault_more}
 use Rattle.range_algebra.proofs.all.shown_of.Goals as goal
 
 pub add_allowed-requires : goal.add_allowed-requires
@@ -20,7 +20,7 @@ loop-one-preserved c m =
 pub returns-in_err-members-clause-crowded : goal.returns-in_err-members-clause-crowded
 returns-in_err-members-clause-crowded c =
     let p = err_from_is_err_and c.from_residual-in_err-members.result c.from_residual-in_err-members.ensures.1 in
-    rw (p.1, p.2) (fault_more (Among c.add_allowed.new.members.items) (IsShownOfSome c.args.scene.leaves.now c.args.scene.bytes.now (branches_of (map branch_of c.args.children.now)) c.args.chosen.now) (λ m a. (c.loop-one.invariant m).0 (elim ((c.in_ok-add_allowed.ensures m).0 a) [
+    rw (p.1, p.2) (fault_more [] (Among c.add_allowed.new.members.items) (IsShownOfSome c.args.scene.leaves.now c.args.scene.bytes.now (branches_of (map branch_of c.args.children.now)) c.args.chosen.now) (λ m a. (c.loop-one.invariant m).0 (elim ((c.in_ok-add_allowed.ensures m).0 a) [
       | inl o ↦ inl o
       | inr s ↦ inr (any_here (λ (x : Member). Shows c.args.scene.leaves.now c.args.scene.bytes.now (branches_of (map branch_of c.args.children.now)) x m) c.args.chosen.now c.loop-one.one-index c.one-item.result c.loop-one-test.true c.one-item.is s)
     ])) c.in_err-members.field-0.0 c.in_err-members.ensures.crowded)

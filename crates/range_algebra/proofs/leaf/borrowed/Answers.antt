@@ -4,7 +4,7 @@ use Rattle.std.specs.Option.{option_copied}
 use Rattle.std.specs.declared.alloc.Global.{Global}
 use Rattle.meta_bind.specs.declared.bound.Bound.{Bound}
 use Rattle.tree_match.specs.Members.{Member}
-use Rattle.range_algebra.proofs.Leaves.{take_more, take_past}
+use Rattle.range_algebra.proofs.LeafSets.{take_more, take_past}
 use Rattle.range_algebra.proofs.leaf.borrowed.Goals as goal
 use Rattle.range_algebra.proofs.leaf.borrowed.Goals.{in-Some+in_ok-of+in_ok-push, in_default}
 
