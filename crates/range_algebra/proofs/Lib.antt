@@ -4,3 +4,5 @@ pub mod Steps
 pub mod Searches
 pub mod Settling
 pub mod Added
+pub mod Once
+pub mod Placed
