@@ -163,8 +163,7 @@ module _ (text : List ℕ) where
 
   run_member : (p h : Node) (m : Member) → Lies h → MemberRun p h m → IsPlaced text m
   run_member p h m lies r =
-      let kids = All-take Lies (r.end - r.from) (drop r.from (kids_of h)) (All-drop Lies r.from (kids_of h) (kids_lie h lies)) in
-      (
+      let kids = All-take Lies (r.end - r.from) (drop r.from (kids_of h)) (All-drop Lies r.from (kids_of h) (kids_lie h lies)) in (
         at_range m.0 (run_span h (kids_between h r.from r.end)) r.range (kids_run_lies h (kids_between h r.from r.end) lies kids),
         list_bound h (parts_of p) (kids_between h r.from r.end) [] m.1 r.matches lies kids (All-nil BoundLies),
       )
