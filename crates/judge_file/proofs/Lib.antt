@@ -1,2 +1,3 @@
 mod PlainTrees
 mod Mapped
+mod Outcomes

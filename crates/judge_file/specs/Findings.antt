@@ -10,6 +10,7 @@ use Rattle.rule_form.specs.declared.rule.Part.{Part}
 use Rattle.tree_match.specs.declared.leaf.Leaf.{Leaf}
 use Rattle.tree_match.specs.Leaf.{IsWhole}
 use Rattle.tree_match.specs.Members.{Member}
+use Rattle.tree_match.specs.Placed.{IsPlaced}
 use Rattle.range_algebra.specs.Trees.{tree_of}
 use Rattle.range_algebra.specs.Meets.{Meets}
 use Rattle.range_algebra.specs.Crowds.{Over}
@@ -53,6 +54,10 @@ PartFinds leaves bytes (Some part) outcome = BodyFinds leaves bytes part.body ou
 abbrev pub findings_of : Outcome → List Finding
 findings_of (Findings findings) = findings
 findings_of _ = []
+
+-- both ends of the finding's range, and of each bound span, are places in the text that cut no character of it
+abbrev pub IsFindingPlaced : List ℕ → Finding → Type 0
+IsFindingPlaced text finding = IsPlaced text (finding.span, finding.binding)
 
 -- the notice is that of the outcome
 abbrev pub Tells : Outcome → FoundNotice → Type 0

@@ -1,7 +1,9 @@
 //! What a rule finds in a file.
 
-ghost use Rattle.std.specs.Prelude.{◌≡◌, ◌<◌, length, map, IfOk, slice_get};
-ghost use Rattle.judge_file.specs.Findings.{finding_of as finding_at, SearchFinds, PartFinds};
+ghost use Rattle.std.specs.Prelude.{◌≡◌, ◌<◌, length, map, All, IfOk, slice_get};
+ghost use Rattle.tree_match.specs.Placed.{IsLeafPlaced};
+ghost use Rattle.judge_file.specs.declared.outcome.Outcome.{Outcome as an_outcome};
+ghost use Rattle.judge_file.specs.Findings.{finding_of as finding_at, SearchFinds, BodyFinds, PartFinds, findings_of as findings_in, IsFindingPlaced};
 
 use crate::dotted::dotted;
 use crate::found::Found;
@@ -56,9 +58,25 @@ fn search(
     Ok(Found::of(outcome))
 }
 
+// What a body finds.
+fn look(
+    alloc: Global,
+    view: &FileView,
+    body: &Body,
+    leaves: &List<Leaf>,
+) -> Result<Found, Memory>
+    ensures { IfOk result (BodyFinds leaves.now view.now.bytes body.now) }
+{
+    match body {
+        Body::Search(formula) => search(alloc, view, formula, leaves),
+        Body::Taint(_) => Ok(Found::of(Outcome::Findings(List::new(alloc)))),
+    }
+}
+
 /// What the part of the rule with that number finds in the file, where `leaves` has the members of the part's patterns by
-/// number: the members of its formula in order, or the notice that a set of the formula has more than 10,000. So far regular
-/// expressions have no matches, and a rule on tainted data finds nothing.
+/// number: the members of its formula in order, or the notice that a set of the formula has more than 10,000. There is one
+/// such outcome. The ends of each finding's range and of what is bound cut no character of the file, since those of `leaves`
+/// don't. So far regular expressions have no matches, and a rule on tainted data finds nothing.
 pub fn judge(
     alloc: Global,
     view: &FileView,
@@ -66,11 +84,16 @@ pub fn judge(
     part: u32,
     leaves: &List<Leaf>,
 ) -> Result<Found, Memory>
-    requires { part < length rule.now.parts }
-    ensures { IfOk result (PartFinds leaves.now view.now.bytes (slice_get rule.now.parts part)) }
+    requires part { part < length rule.now.parts }
+    requires placed { All (λ leaf. IsLeafPlaced view.now.bytes leaf) leaves.now }
+    ensures finds { IfOk result (PartFinds leaves.now view.now.bytes (slice_get rule.now.parts part)) }
+    ensures placed { IfOk result (λ found. All (λ finding. IsFindingPlaced view.now.bytes finding) (findings_in found)) }
+    ensures only { IfOk result (λ found. (o : an_outcome) → PartFinds leaves.now view.now.bytes (slice_get rule.now.parts part) o → o ≡ found) }
 {
-    match &rule.parts.as_slice()[part as usize].body {
-        Body::Search(formula) => search(alloc, view, formula, leaves),
-        Body::Taint(_) => Ok(Found::of(Outcome::Findings(List::new(alloc)))),
-    }
+    look(
+        alloc,
+        view,
+        &rule.parts.as_slice()[part as usize].body,
+        leaves,
+    )
 }
