@@ -160,8 +160,8 @@ module _ (leaves : List Leaf) (bytes : List ℕ) (all : All (IsLeafPlaced bytes)
     each_placed (Trees.branch_then b bs) role ms h = one_and_placed role b (OneOfEach leaves bytes role bs) (branch_placed b) (each_placed bs role) ms h
 
     branch_placed : (b : Trees.Branch) → IsBranchPlaced b
-    branch_placed (Trees.positive t) m h = tree_placed t None m tt h
-    branch_placed (Trees.inside t) m h = tree_placed t None m tt h
+    branch_placed (Trees.positive t) = λ m h. tree_placed t None m tt h
+    branch_placed (Trees.inside t) = λ m h. tree_placed t None m tt h
     branch_placed (Trees.without t) = tt
     branch_placed (Trees.outside t) = tt
     branch_placed (Trees.without_regex k) = tt
