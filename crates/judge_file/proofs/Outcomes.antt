@@ -1,6 +1,7 @@
 -- What a part finds is one outcome, and stands at places of the file's text.
-use Rattle.std.proofs.Common.{◌≡◌, ℕ, List, [], map, refl, sym, ap, ◌∙◌, subst}
-use Rattle.std.specs.Prelude.{All, Option, None, Some, Result, Ok, Err, IfOk}
+use Rattle.std.proofs.Common.{◌≡◌, ◌<◌, ℕ, List, [], length, get_or, map, sym, ap, ◌∙◌, subst}
+use Rattle.std.specs.Prelude.{All, slice_get, Option, None, Some, Result, Ok, Err, IfOk}
+use Rattle.std.proofs.lemmas.Option.{slice_get-get_or}
 use Rattle.std.proofs.lemmas.List.Elements.{All-nil, All-map}
 use Rattle.meta_bind.specs.declared.finding.Finding.{Finding}
 use Rattle.rule_form.specs.declared.formula.Formula.{Formula}
@@ -73,11 +74,11 @@ module _ (leaves : List Leaf) (bytes : List ℕ) where
     finds_placed part (Ok found) h = part_placed part found h
     finds_placed part (Err e) h = tt
 
--- what a body finds that is a part's, by the part's place
-pub part_finds : {E : Type 0} (leaves : List Leaf) (bytes : List ℕ) (part : Option Part) (body : Body) (p : Part) (r : Result Outcome E) → part ≡ Some p → body ≡ p.body → IfOk r (λ found. BodyFinds leaves bytes body found)
-    → IfOk r (λ found. PartFinds leaves bytes part found)
-part_finds leaves bytes part body p (Ok found) e f h =
+-- what the body of the part at a place finds is what the part there does
+pub finds_at : {E : Type 0} (leaves : List Leaf) (bytes : List ℕ) (parts items : List Part) (i : ℕ) (d : Part) (r : Result Outcome E) → items ≡ parts → i < length parts
+    → IfOk r (λ found. BodyFinds leaves bytes (get_or items i d).body found) → IfOk r (λ found. PartFinds leaves bytes (slice_get parts i) found)
+finds_at leaves bytes parts items i d (Ok found) e lt h =
     let P : Option Part → Type 0 = λ x. PartFinds leaves bytes x found in
-    let Q : Body → Type 0 = λ x. BodyFinds leaves bytes x found in
-    subst P (sym e) (subst Q f h)
-part_finds leaves bytes part body p (Err e') e f h = tt
+    let Q : List Part → Type 0 = λ l. BodyFinds leaves bytes (get_or l i d).body found in
+    subst P (sym (slice_get-get_or parts i d lt)) (subst Q e h)
+finds_at leaves bytes parts items i d (Err e') e lt h = tt

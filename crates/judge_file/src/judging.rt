@@ -59,12 +59,7 @@ fn search(
 }
 
 // What a body finds.
-fn look(
-    alloc: Global,
-    view: &FileView,
-    body: &Body,
-    leaves: &List<Leaf>,
-) -> Result<Found, Memory>
+fn look(alloc: Global, view: &FileView, body: &Body, leaves: &List<Leaf>) -> Result<Found, Memory>
     ensures { IfOk result (BodyFinds leaves.now view.now.bytes body.now) }
 {
     match body {

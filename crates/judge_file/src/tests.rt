@@ -1,4 +1,5 @@
-ghost use Rattle.std.specs.Prelude.{◌≡◌, ◌<◌, length};
+ghost use Rattle.std.specs.Prelude.{◌≡◌, ◌<◌, length, All, IfOk};
+ghost use Rattle.tree_match.specs.Placed.{IsLeafPlaced};
 
 use super::*;
 use node_tree::{
@@ -163,14 +164,30 @@ fn rule(alloc: Global, pattern: Pattern, formula: Formula) -> Result<Rule, Memor
     })
 }
 
-// The file, and the sets of the rule's patterns in it.
-fn scene<L: Ledger>(
+// The sets of the part's patterns in the file.
+fn leaves_of<L: Ledger>(
+    alloc: Global,
+    view: &FileView,
+    part: &Part,
+    steps: &mut Steps<L>,
+) -> Result<List<Leaf>, Memory>
+    ensures { IfOk result (λ leaves. All (λ leaf. IsLeafPlaced view.now.bytes leaf) leaves) }
+{
+    let mut leaves = List::new(alloc);
+    for pattern in part.patterns.as_slice() {
+        leaves.push(match_leaf(alloc, view, pattern, steps)?)?;
+    }
+    Ok(leaves)
+}
+
+// What the first part of the rule finds in the bytes, where they have a tree.
+fn judged<L: Ledger>(
     alloc: Global,
     blank: Blank,
     lang: Lang,
     bytes: &[u8],
     rule: &Rule,
-) -> Result<Option<(FileView, List<Leaf>)>, Memory>
+) -> Result<Option<Found>, Memory>
     requires name { blank.name ≡ L.name }
     requires parts { blank.parts ≡ L.parts }
     requires some { 0 < L.parts }
@@ -179,25 +196,19 @@ fn scene<L: Ledger>(
     let Opened::Read(view) = open_file(alloc, lang, bytes, &mut steps)? else {
         return Ok(None);
     };
-    let mut leaves = List::new(alloc);
-    for part in rule.parts.as_slice() {
-        for pattern in part.patterns.as_slice() {
-            leaves.push(match_leaf(alloc, &view, pattern, &mut steps)?)?;
-        }
+    if rule.parts.is_empty() {
+        return Ok(None);
     }
-    Ok(Some((view, leaves)))
+    let leaves = leaves_of(alloc, &view, &rule.parts.as_slice()[0], &mut steps)?;
+    Ok(Some(judge(alloc, &view, rule, 0, &leaves)?))
 }
 
 // What the first part of the rule finds: the findings as lines of the range and the names, or the notice.
 fn found(alloc: Global, lang: Lang, bytes: &[u8], rule: &Rule) -> Result<String, Memory> {
     let mut lines = String::new(alloc);
-    let Some((view, leaves)) = scene::<Brand>(alloc, Blank::new(1), lang, bytes, rule)? else {
+    let Some(found) = judged::<Brand>(alloc, Blank::new(1), lang, bytes, rule)? else {
         return Ok(lines);
     };
-    if rule.parts.is_empty() {
-        return Ok(lines);
-    }
-    let found = judge(alloc, &view, rule, 0, &leaves)?;
     for finding in found.findings() {
         let span = finding.span;
         lines.push_str(format!(in alloc; "{}..{}", span.from, span.to)?.as_str())?;
