@@ -1,5 +1,5 @@
 -- The members of a formula stand at places of the file's text, where those of its patterns do.
-use Rattle.std.proofs.Common.{◌≡◌, ◌⊎◌, inl, inr, ℕ, zero, suc, List, [], ◌∷◌, map, refl, sym, ap, ◌∙◌, subst, Bool, true, false, cond}
+use Rattle.std.proofs.Common.{◌≡◌, inl, inr, ℕ, zero, suc, List, [], ◌∷◌, map, sym, subst, Bool, true, false, cond}
 use Rattle.std.specs.Prelude.{All, Option, None, Some, IfSome, MatchBool, slice_get}
 use Rattle.std.specs.Ordering.{is_lt, is_eq}
 use Rattle.std.proofs.lemmas.List.Elements.{All-nil, All-cons, All-head, All-tail, All-map, All-weaker}
@@ -7,8 +7,8 @@ use Rattle.node_tree.specs.declared.span.Span.{Span}
 use Rattle.meta_bind.specs.declared.bound.Bound.{Bound}
 use Rattle.meta_bind.specs.declared.join.Keep.{Keep}
 use Rattle.meta_bind.specs.declared.join.Keep.TheVariants.{Later, First}
-use Rattle.meta_bind.specs.Bounds.{name_cmp, bound_at}
-use Rattle.meta_bind.specs.Merges.{is_later, kept, with_kept, joined, merged, extended}
+use Rattle.meta_bind.specs.Bounds.{name_cmp}
+use Rattle.meta_bind.specs.Merges.{is_later, kept, with_kept, joined, merged}
 use Rattle.meta_bind.specs.Places.{EndsLieIn}
 use Rattle.meta_bind.proofs.Fillings.{found_has}
 use Rattle.tree_match.specs.declared.leaf.Leaf.{Leaf}

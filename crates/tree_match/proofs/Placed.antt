@@ -1,5 +1,5 @@
 -- The members of a pattern stand at places of the file's text.
-use Rattle.std.proofs.Common.{◌≡◌, ℕ, List, [], ◌∷◌, ◌++◌, ◌⊎◌, inl, inr, ◌-◌, take, drop, map, refl, sym, ap, ◌∙◌, subst, Bool, true, false, cond}
+use Rattle.std.proofs.Common.{◌≡◌, ℕ, List, [], ◌∷◌, ◌++◌, ◌⊎◌, inl, inr, ◌-◌, take, drop, map, refl, sym, subst, Bool, true, false, cond}
 use Rattle.std.specs.Prelude.{All, None, Some, Result, Ok, Err, IfOk}
 use Rattle.std.specs.Ordering.{is_lt}
 use Rattle.std.specs.Str.{IsCharBoundary}
