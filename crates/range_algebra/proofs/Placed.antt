@@ -89,8 +89,7 @@ module _ (bytes : List ℕ) where
       let P : Span → Type 0 = Ends in
       let Q : List Bound → Type 0 = AreBound in
       let plains = subst Q (sym c.plain) (chosen_binds c.chosen chosen) in
-      let insides = subst Q (sym c.inside) (chosen_binds c.around around) in
-      (
+      let insides = subst Q (sym c.inside) (chosen_binds c.around around) in (
         subst P (sym met.range) (all_among Ends (map range_of c.chosen) s.range ranges (c.marked.0 met.marked)),
         subst Q (sym met.binding) (joined_lies First s.plain s.inside plains insides),
       )
