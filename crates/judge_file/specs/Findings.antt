@@ -8,6 +8,8 @@ use Rattle.rule_form.specs.declared.rule.Body.{Body}
 use Rattle.rule_form.specs.declared.rule.Body.TheVariants as bodies
 use Rattle.rule_form.specs.declared.rule.Part.{Part}
 use Rattle.tree_match.specs.declared.leaf.Leaf.{Leaf}
+use Rattle.tree_match.specs.Sets.{Among}
+use Rattle.tree_match.specs.Placed.{IsPlaced}
 use Rattle.tree_match.specs.Leaf.{IsWhole}
 use Rattle.tree_match.specs.Members.{Member}
 use Rattle.range_algebra.specs.Trees.{tree_of}
@@ -62,3 +64,7 @@ Tells outcome (notices.FlowTooLarge at) = outcome ≡ FlowTooLarge at
 abbrev pub HasNoNotice : Outcome → Type 0
 HasNoNotice (Findings findings) = Unit {0}
 HasNoNotice _ = ⊥
+
+-- the range and the span of each bound of each finding lie in the text
+abbrev pub ArePlacedFindings : List ℕ → List Finding → Type 0
+ArePlacedFindings text findings = (f : Finding) → Among findings f → IsPlaced text (f.span, f.binding)
