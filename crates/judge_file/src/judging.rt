@@ -1,7 +1,9 @@
 //! What a rule finds in a file.
 
 ghost use Rattle.std.specs.Prelude.{◌≡◌, ◌<◌, length, map, IfOk, slice_get};
-ghost use Rattle.judge_file.specs.Findings.{finding_of as finding_at, SearchFinds, PartFinds};
+ghost use Rattle.tree_match.specs.Placed.{ArePlacedLeaves};
+ghost use Rattle.judge_file.specs.declared.outcome.Outcome.{Outcome as an_outcome};
+ghost use Rattle.judge_file.specs.Findings.{finding_of as finding_at, findings_of, SearchFinds, ArePlacedFindings, PartFinds};
 
 use crate::dotted::dotted;
 use crate::found::Found;
@@ -66,8 +68,11 @@ pub fn judge(
     part: u32,
     leaves: &List<Leaf>,
 ) -> Result<Found, Memory>
-    requires { part < length rule.now.parts }
-    ensures { IfOk result (PartFinds leaves.now view.now.bytes (slice_get rule.now.parts part)) }
+    requires there { part < length rule.now.parts }
+    requires placed { ArePlacedLeaves view.now.bytes leaves.now }
+    ensures finds { IfOk result (PartFinds leaves.now view.now.bytes (slice_get rule.now.parts part)) }
+    ensures only { IfOk result (λ found. (o : an_outcome) → PartFinds leaves.now view.now.bytes (slice_get rule.now.parts part) o → o ≡ found) }
+    ensures placed { IfOk result (λ found. ArePlacedFindings view.now.bytes (findings_of found)) }
 {
     match &rule.parts.as_slice()[part as usize].body {
         Body::Search(formula) => search(alloc, view, formula, leaves),
