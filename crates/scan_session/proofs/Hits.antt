@@ -1,11 +1,12 @@
 -- Findings of one file, and their results.
-use Rattle.std.proofs.Common.{◌≡◌, ◌⊎◌, inl, inr, ◌↔◌, ℕ, zero, suc, List, [], ◌∷◌, ◌++◌, refl, sym, ap, ◌∙◌, subst, Some, append_assoc, append-nil}
-use Rattle.std.specs.Prelude.{Option, None, slice_get}
+use Rattle.std.proofs.Common.{◌≡◌, ◌⊎◌, inl, inr, ◌↔◌, ℕ, zero, suc, List, [], ◌∷◌, ◌++◌, refl, sym, ap, ◌∙◌, subst, Some, Ok, append_assoc, append-nil}
+use Rattle.std.specs.Prelude.{Option, None, Result, Err, IfOk, slice_get}
 use Rattle.std.specs.List.{flat_map}
 use Rattle.std.specs.declared.cmp.Ordering.{Ordering}
 use Rattle.std.specs.declared.cmp.Ordering.TheVariants.{Less, Equal, Greater}
 use Rattle.std.specs.Ordering.{ordering_then, nat_cmp}
 use Rattle.std.proofs.lemmas.Cmp.{nat_cmp_total, tied_itself}
+use Rattle.node_tree.specs.declared.memory.Memory.{Memory}
 use Rattle.node_tree.specs.declared.node.Node.{Node}
 use Rattle.node_tree.specs.declared.view.Lang.{Lang}
 use Rattle.node_tree.specs.Span.{span_cmp}
@@ -56,6 +57,9 @@ module _ (number : ℕ) (id : List ℕ) where
           | inr r ↦ record { number_is = r.number_is; id_is = r.id_is; found = inr r.found }
         ],
       )
+
+  pub hits_start : (now : List Hit) (all left : List Finding) → left ≡ all → HitsGather now now all left
+  hits_start now all left e h = let P : List Finding → Type 0 = λ fs. IsHitOf number id fs h in (λ k. elim k [ inl a ↦ inl a | inr r ↦ inr (subst P e r) ], λ k. elim k [ inl a ↦ inl a | inr r ↦ inr (subst P (sym e) r) ])
 
   pub hits_on : (before old new : List Hit) (all left fs : List Finding) (f : Finding) (y : Hit) → HitsGather before old all left → left ≡ f ∷ fs → new ≡ old ++ y ∷ [] → y ≡ record { number = number; id = id; finding = f } → HitsGather before new all fs
   hits_on before old new all left fs f y far left-is new-is y-is h =
@@ -223,6 +227,12 @@ module _ (path : List ℕ) (lang : Lang) (text : List ℕ) (tree : Node) (rules 
 abbrev pub ReportLeads : List ℕ → List ℕ → List Rule → List Hit → List Reported → List Hit → Type 0
 ReportLeads path text rules all results left = (rest : List Reported) → AreReported path text rules left rest → AreReported path text rules all (results ++ rest)
 
+pub reports_start : (path text : List ℕ) (rules : List Rule) (all left : List Hit) (results : List Reported) → results ≡ [] → left ≡ all → ReportLeads path text rules all results left
+reports_start path text rules all left results e f rest are =
+    let P : List Hit → Type 0 = λ hs. AreReported path text rules hs rest in
+    let Q : List Reported → Type 0 = λ rs. AreReported path text rules all (rs ++ rest) in
+    subst Q (sym e) (subst P f are)
+
 pub reports_on : (path text : List ℕ) (rules : List Rule) (all : List Hit) (old new : List Reported) (left hs : List Hit) (h : Hit) (rule : Rule)
     → ReportLeads path text rules all old left → left ≡ h ∷ hs → slice_get rules h.number ≡ Some rule → new ≡ old ++ reported path text rule h.finding ∷ [] → ReportLeads path text rules all new hs
 reports_on path text rules all old new left hs h rule far left-is at new-is rest are =
@@ -237,3 +247,18 @@ reports_end path text rules all results left far left-is =
     let P : List Hit → Type 0 = λ xs. AreReported path text rules xs [] in
     let Q : List Reported → Type 0 = λ xs. AreReported path text rules all xs in
     subst Q (append-nil results) (far [] (subst P (sym left-is) refl))
+
+-- ---- what the code makes of them
+
+pub found_all : (path : List ℕ) (lang : Lang) (text : List ℕ) (tree : Node) (rules : List Rule) (judged found : List Judged) → found ≡ judged → ((x : Judged) → Among judged x ↔ IsJudged path lang text tree rules x) → (x : Judged) → Among found x ↔ IsJudged path lang text tree rules x
+found_all path lang text tree rules judged found e all x = let P : List Judged → Type 0 = λ js. Among js x ↔ IsJudged path lang text tree rules x in subst P (sym e) (all x)
+
+pub shown_all : (rules : List Rule) (found : List Judged) (unsorted rows shown : List Hit) → shown ≡ rows → ((h : Hit) → Among rows h ↔ Among unsorted h) → ((h : Hit) → Among unsorted h ↔ IsHit rules found h) → (h : Hit) → Among shown h ↔ IsHit rules found h
+shown_all rules found unsorted rows shown e same exact h =
+    let P : List Hit → Type 0 = λ hs. Among hs h ↔ IsHit rules found h in
+    subst P (sym e) (λ k. (exact h).0 ((same h).0 k), λ k. (same h).1 ((exact h).1 k))
+
+pub if_reported : (P Q : List Reported → Type 0) (r : Result (List Reported) Memory) → ((rs : List Reported) → P rs → Q rs) → IfOk r P → IfOk r Q
+if_reported P Q (Ok rs) f h = f rs h
+if_reported P Q (Err e) f h = tt
+

@@ -13,13 +13,13 @@ use Rattle.tree_match.specs.Sets.{Among, Adds}
 use Rattle.tree_match.specs.Members.{Member, IsMember}
 use Rattle.tree_match.specs.Leaf.{IsLeaf}
 use Rattle.tree_match.specs.Placed.{IsPlacedLeaf, ArePlacedLeaves}
-use Rattle.tree_match.proofs.Sets.{gathered, pushed, among_more}
+use Rattle.tree_match.proofs.Sets.{gathered, pushed, among_more, adds_as, adds_none}
 use Rattle.tree_match.proofs.Exclusion.{whole_once, few_or_more}
 use Rattle.judge_file.specs.declared.outcome.Outcome.{Outcome}
 use Rattle.judge_file.specs.Findings.{PartFinds, findings_of, ArePlacedFindings}
 use Rattle.scan_session.specs.declared.looking.Judged.{Judged}
 use Rattle.scan_session.specs.Looking.{Allows, AreLeaves, LooksAt, PartFindsIn, RuleFinds}
-use Rattle.scan_session.specs.Judging.{PartJudges, RuleJudges, IsJudged, AreAllPlaced}
+use Rattle.scan_session.specs.Judging.{PartJudges, PartAdds, RuleJudges, RuleAdds, IsJudged, AreAllPlaced}
 use Rattle.scan_session.proofs.Members.{one_there}
 
 -- ---- the members of the patterns
@@ -39,6 +39,12 @@ leaves_one tree (p ∷ ps) ls ms (l, l-is, (ls', h, e)) (m, m-is, (ms', k, f)) =
 abbrev pub Leads : Node → List Pattern → List Leaf → List Pattern → Type 0
 Leads tree all leaves left = (rest : List Leaf) → AreLeaves tree left rest → AreLeaves tree all (leaves ++ rest)
 
+pub leads_start : (tree : Node) (all left : List Pattern) (leaves : List Leaf) → leaves ≡ [] → left ≡ all → Leads tree all leaves left
+leads_start tree all left leaves e f rest are =
+    let P : List Pattern → Type 0 = λ ps. AreLeaves tree ps rest in
+    let Q : List Leaf → Type 0 = λ ls. AreLeaves tree all (ls ++ rest) in
+    subst Q (sym e) (subst P f are)
+
 pub leads_on : (tree : Node) (all : List Pattern) (old new : List Leaf) (left ps : List Pattern) (p : Pattern) (leaf : Leaf)
     → Leads tree all old left → left ≡ p ∷ ps → new ≡ old ++ leaf ∷ [] → IsLeaf (IsMember p tree) leaf → Leads tree all new ps
 leads_on tree all old new left ps p leaf far left-is new-is is rest are =
@@ -52,6 +58,9 @@ leads_end tree all leaves left far left-is =
     let P : List Pattern → Type 0 = λ xs. AreLeaves tree xs [] in
     let Q : List Leaf → Type 0 = λ xs. AreLeaves tree all xs in
     subst Q (append-nil leaves) (far [] (subst P (sym left-is) refl))
+
+pub placed_start : (text : List ℕ) (leaves : List Leaf) → leaves ≡ [] → ArePlacedLeaves text leaves
+placed_start text leaves e x h = let P : List Leaf → Type 0 = λ ls. Among ls x in absurd (subst P e h)
 
 pub placed_more : (text : List ℕ) (old new : List Leaf) (leaf : Leaf) → ArePlacedLeaves text old → new ≡ old ++ leaf ∷ [] → IsPlacedLeaf text leaf → ArePlacedLeaves text new
 placed_more text old new leaf all new-is one x h =
@@ -77,13 +86,9 @@ part_judges text tree parts k n p leaves at n-is are (Ok found) finds only =
 -- ---- the parts of a rule
 
 module _ (lang : Lang) (text : List ℕ) (tree : Node) (number : ℕ) where
-  -- what the part finds, if it looks at the file
-  abbrev Finds : Part → Judged → Type 0
-  Finds p x = LooksAt p lang × (x.number ≡ number) × PartFindsIn text tree p x.found
-
-  next_part : (p : Part) (all ps : List Part) (x : Judged) → all ≡ p ∷ ps → RuleJudges lang text tree number all x ↔ (Finds p x ⊎ RuleJudges lang text tree number ps x)
+  next_part : (p : Part) (all ps : List Part) (x : Judged) → all ≡ p ∷ ps → RuleJudges lang text tree number all x ↔ (PartAdds lang text tree number p x ⊎ RuleJudges lang text tree number ps x)
   next_part p all ps x e =
-      let P : List Part → Type 0 = λ qs. RuleJudges lang text tree number qs x ↔ (Finds p x ⊎ RuleJudges lang text tree number ps x) in
+      let P : List Part → Type 0 = λ qs. RuleJudges lang text tree number qs x ↔ (PartAdds lang text tree number p x ⊎ RuleJudges lang text tree number ps x) in
       subst P (sym e) (
         λ h. elim h.has [
           | inl f ↦ (let Q : Part → Type 0 = λ q. LooksAt q lang in let R : Part → Type 0 = λ q. PartFindsIn text tree q x.found in inl (subst Q (sym f) h.looks, h.number_is, subst R (sym f) h.finds))
@@ -98,34 +103,40 @@ module _ (lang : Lang) (text : List ℕ) (tree : Node) (number : ℕ) where
   abbrev pub Gathers : List Judged → List Judged → List Part → List Part → Type 0
   Gathers before now all left = (x : Judged) → (Among now x ⊎ RuleJudges lang text tree number left x) ↔ (Among before x ⊎ RuleJudges lang text tree number all x)
 
-  judged_one : (p : Part) (y : Judged) → y.number ≡ number → LooksAt p lang → PartJudges text tree p y.found → (x : Judged) → (y ≡ x) ↔ Finds p x
-  judged_one p y n looks j x = (
+  -- what the part finds is this alone
+  pub part_adds : (p : Part) (y : Judged) (old new : List Judged) → new ≡ old ++ y ∷ [] → y.number ≡ number → LooksAt p lang → PartJudges text tree p y.found → Adds old new (PartAdds lang text tree number p)
+  part_adds p y old new new-is n looks j = adds_as old new (λ x. y ≡ x) (PartAdds lang text tree number p) (pushed old new y new-is) (λ x. (
     λ e. let P : Judged → Type 0 = λ z. PartFindsIn text tree p z.found in (looks, sym (ap (λ (z : Judged). z.number) e) ∙ n, subst P e j.finds),
     λ f.
         let g : ℕ → Judged = λ k. record { number = k; found = y.found } in
         let h : Outcome → Judged = λ o. record { number = x.number; found = o } in
         ap g (n ∙ sym f.1) ∙ ap h (sym (j.only x.found f.2)),
-  )
+  ))
 
-  pub gathers_on : (before old new : List Judged) (all left ps : List Part) (p : Part) (y : Judged) → Gathers before old all left → left ≡ p ∷ ps → new ≡ old ++ y ∷ [] → y.number ≡ number → LooksAt p lang → PartJudges text tree p y.found → Gathers before new all ps
-  gathers_on before old new all left ps p y far left-is new-is n looks j x =
-      let one = judged_one p y n looks j x in
-      let adds = pushed old new y new-is x in
-      let more : Among new x ↔ (Among old x ⊎ Finds p x) = (λ h. elim (adds.0 h) [ inl a ↦ inl a | inr e ↦ inr (one.0 e) ], λ h. elim h [ inl a ↦ adds.1 (inl a) | inr f ↦ adds.1 (inr (one.1 f)) ]) in
-      gathered (Among old x) (Among new x) (Finds p x) (RuleJudges lang text tree number left x) (RuleJudges lang text tree number ps x) (Among before x ⊎ RuleJudges lang text tree number all x) more (next_part p left ps x left-is) (far x)
+  pub part_adds_none : (p : Part) (old : List Judged) → (LooksAt p lang → ⊥) → Adds old old (PartAdds lang text tree number p)
+  part_adds_none p old blind = adds_none old (PartAdds lang text tree number p) (λ x f. blind f.0)
 
-  pub gathers_past : (before old : List Judged) (all left ps : List Part) (p : Part) → Gathers before old all left → left ≡ p ∷ ps → (LooksAt p lang → ⊥) → Gathers before old all ps
-  gathers_past before old all left ps p far left-is blind x =
-      let split = next_part p left ps x left-is in (
-        λ h. (far x).0 (elim h [ inl a ↦ inl a | inr r ↦ inr (split.1 (inr r)) ]),
-        λ h. elim ((far x).1 h) [ inl a ↦ inl a | inr l ↦ elim (split.0 l) [ inl f ↦ absurd (blind f.0) | inr r ↦ inr r ] ],
-      )
+  pub gathers_start : (now : List Judged) (all left : List Part) → left ≡ all → Gathers now now all left
+  gathers_start now all left e x = let P : List Part → Type 0 = λ ps. RuleJudges lang text tree number ps x in (λ h. elim h [ inl a ↦ inl a | inr r ↦ inr (subst P e r) ], λ h. elim h [ inl a ↦ inl a | inr r ↦ inr (subst P (sym e) r) ])
+
+  pub gathers_on : (before old new : List Judged) (all left ps : List Part) (p : Part) → Gathers before old all left → left ≡ p ∷ ps → Adds old new (PartAdds lang text tree number p) → Gathers before new all ps
+  gathers_on before old new all left ps p far left-is adds x =
+      gathered (Among old x) (Among new x) (PartAdds lang text tree number p x) (RuleJudges lang text tree number left x) (RuleJudges lang text tree number ps x) (Among before x ⊎ RuleJudges lang text tree number all x) (adds x) (next_part p left ps x left-is) (far x)
 
   pub gathers_end : (before now : List Judged) (all left : List Part) → Gathers before now all left → left ≡ [] → Adds before now (RuleJudges lang text tree number all)
   gathers_end before now all left far left-is x = (
     λ h. (far x).0 (inl h),
     λ h. elim ((far x).1 h) [ inl a ↦ a | inr l ↦ (let P : List Part → Type 0 = λ ps. Among ps l.part in absurd (subst P left-is l.has)) ],
   )
+
+  pub rule_adds : (path : List ℕ) (rule : Rule) (old new : List Judged) → Allows rule path → Adds old new (RuleJudges lang text tree number rule.parts) → Adds old new (RuleAdds path lang text tree number rule)
+  rule_adds path rule old new allows adds = adds_as old new (RuleJudges lang text tree number rule.parts) (RuleAdds path lang text tree number rule) adds (λ x. (λ h. (allows, h), λ h. h.1))
+
+  pub rule_adds_none : (path : List ℕ) (rule : Rule) (old : List Judged) → (Allows rule path → ⊥) → Adds old old (RuleAdds path lang text tree number rule)
+  rule_adds_none path rule old barred = adds_none old (RuleAdds path lang text tree number rule) (λ x h. barred h.0)
+
+pub all_placed_start : (text : List ℕ) (judged : List Judged) → judged ≡ [] → AreAllPlaced text judged
+all_placed_start text judged e x h = let P : List Judged → Type 0 = λ js. Among js x in absurd (subst P e h)
 
 pub all_placed_more : (text : List ℕ) (old new : List Judged) (y : Judged) → AreAllPlaced text old → new ≡ old ++ y ∷ [] → ArePlacedFindings text (findings_of y.found) → AreAllPlaced text new
 all_placed_more text old new y all new-is one x h =
@@ -146,31 +157,25 @@ module _ (path : List ℕ) (lang : Lang) (text : List ℕ) (tree : Node) (rules 
   pub up_to_start : (judged : List Judged) → judged ≡ [] → UpTo 0 judged
   up_to_start judged e x = let P : List Judged → Type 0 = λ xs. Among xs x in (λ h. absurd (subst P e h), λ h. absurd (let lt = h.1 in omega (arith, lt)))
 
-  pub up_to_on : (old new : List Judged) (n : ℕ) (rule : Rule) → UpTo n old → slice_get rules n ≡ Some rule → Allows rule path → Adds old new (RuleJudges lang text tree n rule.parts) → UpTo (n + 1) new
-  up_to_on old new n rule far at allows adds x = (
+  pub up_to_on : (old new : List Judged) (n : ℕ) (rule : Rule) → UpTo n old → slice_get rules n ≡ Some rule → Adds old new (RuleAdds path lang text tree n rule) → UpTo (n + 1) new
+  up_to_on old new n rule far at adds x = (
     λ h. elim ((adds x).0 h) [
       | inl a ↦ (let k = (far x).0 a in let lt = k.1 in (k.0, omega (arith, lt)))
-      | inr j ↦ (
+      | inr r ↦ (
+        let j = r.1 in
         let e = j.number_is in
-        (record { rule = rule; at = ap (slice_get rules) e ∙ at; finds = record { allows = allows; part = j.part; has = j.has; looks = j.looks; finds = j.finds } }, omega (arith, e))
+        (record { rule = rule; at = ap (slice_get rules) e ∙ at; finds = record { allows = r.0; part = j.part; has = j.has; looks = j.looks; finds = j.finds } }, omega (arith, e))
       )
     ],
     λ h. elim (nearer x.number n h.1) [
       | inl lt ↦ (adds x).1 (inl ((far x).1 (h.0, lt)))
       | inr e ↦ (
         let j = h.0 in
+        let same = one_there rules x.number n j.rule rule j.at at e in
         let P : Rule → Type 0 = λ r. Among r.parts j.finds.part in
-        (adds x).1 (inr (record { number_is = e; part = j.finds.part; has = subst P (one_there rules x.number n j.rule rule j.at at e) j.finds.has; looks = j.finds.looks; finds = j.finds.finds }))
+        let Q : Rule → Type 0 = λ r. Allows r path in
+        (adds x).1 (inr (subst Q same j.finds.allows, record { number_is = e; part = j.finds.part; has = subst P same j.finds.has; looks = j.finds.looks; finds = j.finds.finds }))
       )
-    ],
-  )
-
-  pub up_to_past : (old : List Judged) (n : ℕ) (rule : Rule) → UpTo n old → slice_get rules n ≡ Some rule → (Allows rule path → ⊥) → UpTo (n + 1) old
-  up_to_past old n rule far at barred x = (
-    λ h. let k = (far x).0 h in let lt = k.1 in (k.0, omega (arith, lt)),
-    λ h. elim (nearer x.number n h.1) [
-      | inl lt ↦ (far x).1 (h.0, lt)
-      | inr e ↦ (let j = h.0 in let P : Rule → Type 0 = λ r. Allows r path in absurd (barred (subst P (one_there rules x.number n j.rule rule j.at at e) j.finds.allows)))
     ],
   )
 

@@ -3,6 +3,7 @@ pub mod Taking
 pub mod Members
 pub mod Orders
 pub mod Ids
+pub mod Globs
 pub mod Views
 pub mod Judged
 pub mod Hits

@@ -1,7 +1,11 @@
 -- Items of lists, and what loops add to them.
-use Rattle.std.proofs.Common.{◌≡◌, ◌⊎◌, inl, inr, ◌↔◌, ℕ, zero, suc, ◌<◌, List, [], ◌∷◌, ◌++◌, length, take, drop, get_or, refl, sym, ap, ◌∙◌, subst, Some, append_assoc, append-nil, arith}
-use Rattle.std.specs.Prelude.{Option, None, slice_get}
+use Rattle.std.proofs.Common.{◌≡◌, ◌⊎◌, inl, inr, ◌↔◌, ℕ, zero, suc, ◌+◌, ◌<◌, ◌≤◌, List, [], ◌∷◌, ◌++◌, length, map, reverse, take, drop, get_or, refl, sym, ap, ◌∙◌, subst, Some, Ok, append_assoc, append-nil, arith}
+use Rattle.std.specs.Prelude.{Option, None, Result, Err, OnOk, slice_get}
 use Rattle.std.specs.List.{flat_map}
+use Rattle.std.specs.Option.{option_map}
+use Rattle.std.proofs.lemmas.List.{reverse-append, length-map}
+use Rattle.std.proofs.lemmas.Option.{slice_get_within, slice_get-map, slice_get_read, slice_get_cases}
+use Rattle.meta_bind.proofs.Lookups.{opened}
 use Rattle.tree_match.specs.Sets.{Among, Adds}
 
 module _ {X : Type 0} where
@@ -72,3 +76,38 @@ flat_none {X} {Y} f old x left rest W h left-is none = sym (ap (λ (xs : List X)
 
 pub flat_end : {X Y : Type 0} (f : X → List Y) (old : List Y) (left : List X) (W : List Y) → old ++ flat_map f left ≡ W → left ≡ [] → old ≡ W
 flat_end {X} {Y} f old left W h left-is = sym (ap (λ (xs : List X). old ++ flat_map f xs) left-is ∙ append-nil old) ∙ h
+
+-- a list to which each item of another adds one
+pub map_step : {X Y : Type 0} (f : X → Y) (old new : List Y) (x : X) (left rest : List X) (W : List Y) → old ++ map f left ≡ W → left ≡ x ∷ rest → new ≡ old ++ f x ∷ [] → new ++ map f rest ≡ W
+map_step {X} {Y} f old new x left rest W h left-is new-is =
+    ap (λ (ys : List Y). ys ++ map f rest) new-is ∙ append_assoc old (f x ∷ []) (map f rest) ∙ sym (ap (λ (xs : List X). old ++ map f xs) left-is) ∙ h
+
+pub map_end : {X Y : Type 0} (f : X → Y) (old : List Y) (left : List X) (W : List Y) → old ++ map f left ≡ W → left ≡ [] → old ≡ W
+map_end {X} {Y} f old left W h left-is = sym (ap (λ (xs : List X). old ++ map f xs) left-is ∙ append-nil old) ∙ h
+
+-- the last of these items is put behind those
+pub turned : {X : Type 0} (from from' to to' : List X) (x : X) (W : List X) → from ≡ from' ++ x ∷ [] → to' ≡ to ++ x ∷ [] → from ++ reverse to ≡ W → from' ++ reverse to' ≡ W
+turned {X} from from' to to' x W from-is to-is h =
+    ap (λ (l : List X). from' ++ reverse l) to-is ∙ ap (λ (l : List X). from' ++ l) (reverse-append to (x ∷ [])) ∙ sym (append_assoc from' (x ∷ []) (reverse to))
+    ∙ ap (λ (l : List X). l ++ reverse to) (sym from-is) ∙ h
+
+-- a place that a list has by way of another
+pub place_within : {X Y : Type 0} (f : X → Y) (xs : List X) (i : ℕ) (y : Y) → slice_get (map f xs) i ≡ Some y → i < length xs
+place_within f xs i y e = let lt = slice_get_within (map f xs) i y e in omega (arith, lt, length-map xs f)
+
+pub place_read : {X Y : Type 0} (f : X → Y) (xs : List X) (i : ℕ) (x : X) → i < length xs → x ≡ get_or xs i x → slice_get (map f xs) i ≡ Some (f x)
+place_read {X} {Y} f xs i x lt is = slice_get-map f xs i ∙ ap (λ (o : Option X). option_map f o) (slice_get_read xs (length xs) i x refl lt is)
+
+-- the item at a place that is there
+pub there_is : {X : Type 0} (xs : List X) (i : ℕ) → i < length xs → (x : X) × (slice_get xs i ≡ Some x) × (drop i xs ≡ x ∷ drop (i + 1) xs)
+there_is xs i lt = elim ((slice_get_cases xs i).1) [ inl h ↦ (h.0, h.2, opened xs i h.0 lt (sym h.3)) | inr k ↦ (let le = k.0 in absurd (omega (arith, lt, le))) ]
+
+-- ---- results
+
+pub on_ok : {A E : Type 0} (X : Type 0) (r : Result A E) → X → OnOk r X
+on_ok X (Ok a) h = h
+on_ok X (Err e) h = tt
+
+pub on_ok_map : {A E X Y : Type 0} (r : Result A E) → (X → Y) → OnOk r X → OnOk r Y
+on_ok_map (Ok a) f h = f h
+on_ok_map (Err e) f h = tt

@@ -6,7 +6,6 @@ use Rattle.std.proofs.lemmas.Cmp.{on_total}
 use Rattle.std.specs.Ordering.{ordering_then}
 use Rattle.node_tree.specs.declared.node.Node.{Node}
 use Rattle.node_tree.specs.declared.view.Lang.{Lang}
-use Rattle.node_tree.specs.declared.view.FileView.{FileView}
 use Rattle.node_tree.specs.Span.{span_cmp}
 use Rattle.meta_bind.specs.Bounds.{name_cmp}
 use Rattle.rule_form.specs.declared.rule.Rule.{Rule}
@@ -32,6 +31,12 @@ use Rattle.scan_session.proofs.Orders.{exactly_once, before_below, ascends_on, f
 use Rattle.scan_session.proofs.Views.{shows_one, notes_one}
 
 -- ---- one file
+
+pub opened_as : (path bytes : List ℕ) (lang : Lang) (o p : Opened) → lang ≡ lang_at path → o ≡ p → IsOpened lang bytes o → IsOpened (lang_at path) bytes p
+opened_as path bytes lang o p e f h = let P : Lang → Type 0 = λ l. IsOpened l bytes p in let Q : Opened → Type 0 = λ x. IsOpened lang bytes x in subst P e (subst Q f h)
+
+pub only_as : (path bytes : List ℕ) (lang : Lang) (o p : Opened) → lang ≡ lang_at path → o ≡ p → HasOnlyTree lang bytes o → HasOnlyTree (lang_at path) bytes p
+only_as path bytes lang o p e f h = let P : Lang → Type 0 = λ l. HasOnlyTree l bytes p in let Q : Opened → Type 0 = λ x. HasOnlyTree lang bytes x in subst P e (subst Q f h)
 
 module _ (rules : List Rule) (path bytes : List ℕ) (o : Opened) (is : IsOpened (lang_at path) bytes o) (only : HasOnlyTree (lang_at path) bytes o) where
   abbrev Results : Reported → Type 0

@@ -18,16 +18,6 @@ use Rattle.scan_session.specs.RuleFiles.{outcomes_of}
 use Rattle.scan_session.specs.Running.{Stated, stated_at, stated_from, stated, is_taken, is_unbuilt, has_texts, built, firsts, stated_notices, first_notices, repeat_notice, option_notice, unbuilt_notice}
 use Rattle.scan_session.specs.Taking.{said, HasJust, ids_after, rules_at, notices_at}
 
--- ---- lists with one item more
-
-pub mapped_more : {X Y : Type 0} (f : X → Y) (xs : List X) (x : X) (rest : List Y) → map f (xs ++ x ∷ []) ++ rest ≡ map f xs ++ (f x ∷ rest)
-mapped_more f [] x rest = refl
-mapped_more f (y ∷ ys) x rest = ap (λ zs. f y ∷ zs) (mapped_more f ys x rest)
-
-pub map_append : {X Y : Type 0} (f : X → Y) (xs ys : List X) → map f (xs ++ ys) ≡ map f xs ++ map f ys
-map_append f [] ys = refl
-map_append f (x ∷ xs) ys = ap (λ zs. f x ∷ zs) (map_append f xs ys)
-
 -- ---- entries
 
 pub entries_on : (file : List ℕ) (k : ℕ) (old new : List Stated) (o : RuleOutcome) (left rest : List RuleOutcome) (W : List Stated)

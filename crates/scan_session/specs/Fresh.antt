@@ -1,5 +1,6 @@
 -- What a scan of files by rule files reports.
-use Rattle.std.specs.Prelude.{◌≡◌, ◌⊎◌, ℕ, List, [], ◌∷◌, Option, None, Some}
+use Rattle.std.specs.Prelude.{◌≡◌, ◌⊎◌, ℕ, List, [], ◌∷◌}
+use Rattle.std.specs.Option.{unwrap_or}
 use Rattle.std.specs.declared.cmp.Ordering.{Ordering}
 use Rattle.node_tree.specs.declared.node.Node.{Node}
 use Rattle.node_tree.specs.declared.view.Lang.{Lang}
@@ -33,13 +34,9 @@ File = List ℕ × List ℕ
 abbrev pub file_cmp : File → File → Ordering
 file_cmp f g = name_cmp f.0 g.0
 
-abbrev or_regex : Option Lang → Lang
-or_regex None = Regex
-or_regex (Some lang) = lang
-
 -- the language in which the file at a path is opened: the one that its ending names, or else `Regex`
 abbrev pub lang_at : List ℕ → Lang
-lang_at path = or_regex (language path)
+lang_at path = unwrap_or (language path) Regex
 
 -- the file can be looked at, in that language and with that tree
 abbrev pub Shows : Opened → Lang → Node → Type 0

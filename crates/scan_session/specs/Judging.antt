@@ -1,6 +1,5 @@
 -- What the code knows of what rules find in a file.
-use Rattle.std.specs.Prelude.{◌≡◌, ◌<◌, ℕ, List, [], ◌∷◌, ◌++◌, Option, None, Some, slice_get}
-use Rattle.std.specs.List.{flat_map}
+use Rattle.std.specs.Prelude.{◌≡◌, ℕ, List, [], ◌∷◌, Option, None, Some, slice_get}
 use Rattle.node_tree.specs.declared.node.Node.{Node}
 use Rattle.node_tree.specs.declared.view.Lang.{Lang}
 use Rattle.rule_form.specs.declared.rule.Rule.{Rule}
@@ -13,7 +12,7 @@ use Rattle.judge_file.specs.Findings.{findings_of, ArePlacedFindings}
 use Rattle.fix_apply.specs.declared.notice.Notice.{Notice}
 use Rattle.fix_apply.specs.declared.report.Reported.{Reported}
 use Rattle.scan_session.specs.declared.looking.Judged.{Judged}
-use Rattle.scan_session.specs.Looking.{LooksAt, PartFindsIn, RuleFinds}
+use Rattle.scan_session.specs.Looking.{Allows, LooksAt, PartFindsIn, RuleFinds}
 use Rattle.scan_session.specs.Reports.{reported, outcome_notices}
 use Rattle.scan_session.specs.Hits.{Hit}
 
@@ -22,6 +21,10 @@ pub record PartJudges (text : List ℕ) (tree : Node) (part : Part) (outcome : O
   pub finds : PartFindsIn text tree part outcome
   pub only : (o : Outcome) → PartFindsIn text tree part o → o ≡ outcome
 
+-- what a part of the rule with that number finds, if it looks at the file
+abbrev pub PartAdds : Lang → List ℕ → Node → ℕ → Part → Judged → Type 0
+PartAdds lang text tree number part x = LooksAt part lang × (x.number ≡ number) × PartFindsIn text tree part x.found
+
 -- what one of the parts of the rule with that number finds, which looks at the file
 pub record RuleJudges (lang : Lang) (text : List ℕ) (tree : Node) (number : ℕ) (parts : List Part) (x : Judged) : Type 0 where
   pub number_is : x.number ≡ number
@@ -29,6 +32,10 @@ pub record RuleJudges (lang : Lang) (text : List ℕ) (tree : Node) (number : �
   pub has : Among parts part
   pub looks : LooksAt part lang
   pub finds : PartFindsIn text tree part x.found
+
+-- what the rule with that number finds, if its globs allow the path
+abbrev pub RuleAdds : List ℕ → Lang → List ℕ → Node → ℕ → Rule → Judged → Type 0
+RuleAdds path lang text tree number rule x = Allows rule path × RuleJudges lang text tree number rule.parts x
 
 -- what one of the rules finds
 pub record IsJudged (path : List ℕ) (lang : Lang) (text : List ℕ) (tree : Node) (rules : List Rule) (x : Judged) : Type 0 where

@@ -8,7 +8,7 @@ ghost use Rattle.rule_form.specs.declared.rule.Part.{Part as a_part};
 ghost use Rattle.scan_session.specs.Looking.{GlobMatches, SomeMatches, Allows, AreLeaves, LooksAt};
 ghost use Rattle.scan_session.specs.Taking.{lent};
 ghost use Rattle.scan_session.specs.declared.looking.Judged.{Judged as a_judged};
-ghost use Rattle.scan_session.specs.Judging.{PartJudges, RuleJudges, IsJudged, AreAllPlaced};
+ghost use Rattle.scan_session.specs.Judging.{PartJudges, PartAdds, RuleJudges, RuleAdds, IsJudged, AreAllPlaced};
 
 use judge_file::{Found, judge};
 use node_tree::{FileView, Lang, List, Memory, Pattern, Steps, Text};
@@ -102,8 +102,30 @@ fn judge_part<L: Ledger>(
     judge(alloc, view, rule, number, &leaves)
 }
 
+// Adds what the part with that number finds, if it looks at the file.
+fn add_part<L: Ledger>(
+    alloc: Global,
+    view: &FileView,
+    number: usize,
+    rule: &Rule,
+    part: usize,
+    steps: &mut Steps<L>,
+    judged: &mut Vec<Judged>,
+) -> Result<(), Memory>
+    requires { part < length rule.now.parts }
+    ensures judged { (p : a_part) → slice_get rule.now.parts part ≡ Some p → OnOk result (Adds judged.old.items judged.new.items (PartAdds view.now.lang view.now.bytes view.now.tree number p)) }
+    ensures placed { AreAllPlaced view.now.bytes judged.old.items → OnOk result (AreAllPlaced view.now.bytes judged.new.items) }
+{
+    if !looks_at(&rule.parts.as_slice()[part], view.lang) {
+        return Ok(());
+    }
+    let found = judge_part(alloc, view, rule, part, steps)?;
+    judged.push(Judged { number, found })?;
+    Ok(())
+}
+
 // Adds what each part of the rule finds that looks at the file.
-fn judge_rule<L: Ledger>(
+fn add_parts<L: Ledger>(
     alloc: Global,
     view: &FileView,
     number: usize,
@@ -114,13 +136,29 @@ fn judge_rule<L: Ledger>(
     ensures judged { OnOk result (Adds judged.old.items judged.new.items (RuleJudges view.now.lang view.now.bytes view.now.tree number rule.now.parts)) }
     ensures placed { AreAllPlaced view.now.bytes judged.old.items → OnOk result (AreAllPlaced view.now.bytes judged.new.items) }
 {
-    for (at, part) in rule.parts.as_slice().iter().enumerate() {
-        if looks_at(part, view.lang) {
-            let found = judge_part(alloc, view, rule, at, steps)?;
-            judged.push(Judged { number, found })?;
-        }
+    for part in 0..rule.parts.len() {
+        add_part(alloc, view, number, rule, part, steps, judged)?;
     }
     Ok(())
+}
+
+// Adds what the rule finds, if its globs allow the path.
+fn add_rule<L: Ledger>(
+    alloc: Global,
+    path: &str,
+    view: &FileView,
+    number: usize,
+    rule: &Rule,
+    steps: &mut Steps<L>,
+    judged: &mut Vec<Judged>,
+) -> Result<(), Memory>
+    ensures judged { OnOk result (Adds judged.old.items judged.new.items (RuleAdds path.now view.now.lang view.now.bytes view.now.tree number rule.now)) }
+    ensures placed { AreAllPlaced view.now.bytes judged.old.items → OnOk result (AreAllPlaced view.now.bytes judged.new.items) }
+{
+    if !allows(rule, path) {
+        return Ok(());
+    }
+    add_parts(alloc, view, number, rule, steps, judged)
 }
 
 /// What the rules find in the file at that path.
@@ -136,9 +174,7 @@ pub fn judge_all<L: Ledger>(
 {
     let mut judged = Vec::new(alloc);
     for (number, rule) in running.iter().enumerate() {
-        if allows(rule, path) {
-            judge_rule(alloc, view, number, rule, steps, &mut judged)?;
-        }
+        add_rule(alloc, path, view, number, rule, steps, &mut judged)?;
     }
     Ok(judged)
 }

@@ -15,6 +15,7 @@ ghost use Rattle.scan_session.specs.Judging.{AreNumbered, AreReported, ArePlaced
 use crate::looking::Judged;
 use crate::note::{Noted, add_notice};
 use crate::row::Row;
+use crate::running::rule_at;
 use fix_apply::{NoticeKind, Reported};
 use judge_file::FoundNotice;
 use meta_bind::{Binding, Finding, fill};
@@ -86,7 +87,7 @@ pub fn report_rows(
     let places = Places::of(alloc, view.bytes.as_slice())?;
     let mut results = List::new(alloc);
     for row in rows {
-        let rule = running[row.number()];
+        let rule = rule_at(running, row.number());
         results.push(reported(alloc, path, view, &places, rule, row.finding())?)?;
     }
     Ok(results)
@@ -133,7 +134,7 @@ pub fn note_judged(
     ensures { OnOk result (notices.new.items ≡ notices.old.items ++ flat_map (judged_notices path.now (lent running.now)) judged.now) }
 {
     for one in judged {
-        let id = running[one.number].id.as_str();
+        let id = rule_at(running, one.number).id.as_str();
         note_found(alloc, path, id, one, notices)?;
     }
     Ok(())

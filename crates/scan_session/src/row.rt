@@ -9,6 +9,7 @@ ghost use Rattle.scan_session.specs.Hits.{Hit};
 ghost use Rattle.scan_session.specs.Judging.{IsHit, AreNumbered, IsHitOf};
 
 use crate::looking::Judged;
+use crate::running::rule_at;
 use meta_bind::{Finding, Trail};
 use node_tree::{Memory, Span};
 use range_algebra::Ordered;
@@ -139,7 +140,7 @@ pub fn rows_of<'f>(
 {
     let mut rows = Vec::new(alloc);
     for one in judged {
-        let id = running[one.number].id.as_str();
+        let id = rule_at(running, one.number).id.as_str();
         add_rows(&mut rows, one.number, id, one.found.findings())?;
     }
     Ok(rows)

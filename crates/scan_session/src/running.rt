@@ -1,8 +1,9 @@
 //! The rules that run, and the notices of rule files.
 
-ghost use Rattle.std.specs.Prelude.{◌≡◌, ◌++◌, ◌∷◌, ℕ, List as list, [], map, IfOk, OnOk};
+ghost use Rattle.std.specs.Prelude.{◌≡◌, ◌++◌, ◌∷◌, ℕ, List as list, [], map, slice_get, Some, IfOk, OnOk};
 ghost use Rattle.std.specs.List.{flat_map, list_any};
 ghost use Rattle.rule_form.specs.declared.rule.Part.{Part as a_part};
+ghost use Rattle.rule_form.specs.declared.rule.Rule.{Rule as a_rule};
 ghost use Rattle.scan_session.specs.RuleFiles.{outcomes_of};
 ghost use Rattle.scan_session.specs.Notes as notes;
 ghost use Rattle.scan_session.specs.Running as spec;
@@ -320,4 +321,12 @@ pub fn take_files<'r>(
     note_files(alloc, files.as_slice(), notices)?;
     let entries = good_rules(alloc, files.as_slice())?;
     take_rules(alloc, entries.as_slice(), notices)
+}
+
+/// The rule with that number among those that run, from 0, which is there.
+pub fn rule_at<'r>(running: &[&'r Rule], number: usize) -> &'r Rule
+    requires { (rule : a_rule) × (slice_get (taking.lent running.now) number ≡ Some rule) }
+    ensures { slice_get (taking.lent running.now) number ≡ Some result.now }
+{
+    running[number]
 }

@@ -42,8 +42,10 @@ fn scan_view<L: Ledger>(
     ensures notices { OnOk result (Adds notices.old.items notices.new.items (IsNotedIn (lent running.now) path.now view.now.lang view.now.bytes view.now.tree)) }
 {
     let judged = judge_all(alloc, path, view, running, steps)?;
-    note_judged(alloc, path, running, judged.as_slice(), notices)?;
-    let rows = settled(alloc, rows_of(alloc, running, judged.as_slice())?)?;
+    let found = judged.as_slice();
+    note_judged(alloc, path, running, found, notices)?;
+    let unsorted = rows_of(alloc, running, found)?;
+    let rows = settled(alloc, unsorted)?;
     report_rows(alloc, path, view, running, rows.as_slice())
 }
 
@@ -61,7 +63,8 @@ fn scan_file<L: Ledger>(
     ensures notices { OnOk result (Adds notices.old.items notices.new.items (IsNoticeIn (lent running.now) (path.now, bytes.now))) }
 {
     let lang = lang_of(path).unwrap_or(Lang::Regex);
-    match open_file(alloc, lang, bytes, steps)? {
+    let opened = open_file(alloc, lang, bytes, steps)?;
+    match opened {
         Opened::TooLarge => {
             add_notice(alloc, notices, path, "", NoticeKind::TooLarge, "")?;
             Ok(List::new(alloc))
@@ -116,7 +119,8 @@ fn scan_all<L: Ledger>(
             notices,
         )?;
         append(&mut results, found)?;
-        if results.len() as u64 > most {
+        let count = results.len() as u64;
+        if most < count {
             return Err(ScanFault::TooMany(most));
         }
     }

@@ -88,7 +88,7 @@ fn found(
 }
 
 #[test]
-fn scans_a_file(rt: HostRuntime) -> Result<(), Fail> {
+fn reports_in_order_of_range_and_rule(rt: HostRuntime) -> Result<(), Fail> {
     let rules = [("p", CALL), ("b", "  pattern: f($X)\n  fix: g($X)\n")];
     let files = [("a.py", b"f(f(1))\n".as_slice())];
     let lines = found(rt.alloc(), &rules, &files, 4)?;
@@ -102,10 +102,91 @@ fn scans_a_file(rt: HostRuntime) -> Result<(), Fail> {
 #[test]
 fn tells_that_there_are_too_many(rt: HostRuntime) -> Result<(), Fail> {
     let rules = [("p", CALL)];
-    let files = [("a.py", b"f(1)\n".as_slice()), ("b.py", b"f(2)\nf(3)\n".as_slice())];
+    let files = [
+        ("a.py", b"f(1)\n".as_slice()),
+        ("b.py", b"f(2)\nf(3)\n".as_slice()),
+    ];
     let lines = found(rt.alloc(), &rules, &files, 2)?;
     assert_eq!(rt; lines.as_str(), "too many 2");
     let lines = found(rt.alloc(), &rules, &files, 3)?;
     assert_eq!(rt; lines.as_str().lines().count(), 3);
+    Ok(())
+}
+
+#[test]
+fn finds_what_all_operands_share(rt: HostRuntime) -> Result<(), Fail> {
+    let alloc = rt.alloc();
+    let first = "  - pattern: |-\n      a()\n      ...\n      c()\n";
+    let second = "  - pattern: |-\n      b()\n      ...\n      d()\n";
+    let both = format!(in alloc; "  patterns:\n{first}{second}")?;
+    let all = format!(in alloc; "  patterns:\n{second}  - pattern: c()\n{first}")?;
+    let rules = [("all", all.as_str()), ("both", both.as_str())];
+    let files = [("a.py", b"a()\nb()\nc()\nd()\n".as_slice())];
+    let lines = found(alloc, &rules, &files, 9)?;
+    assert_eq!(rt; lines.as_str(), "a.py 8..11 all m $X\n");
+    Ok(())
+}
+
+#[test]
+fn tells_that_a_set_is_crowded(rt: HostRuntime) -> Result<(), Fail> {
+    let alloc = rt.alloc();
+    let mut code = String::new(alloc);
+    for _ in 0..100 {
+        code.push_str("-")?;
+    }
+    code.push_str("x\n")?;
+    let rules = [("p", "  patterns:\n  - pattern: $X\n  - pattern: $Y\n")];
+    let lines = found(alloc, &rules, &[("a.py", code.as_bytes())], 50_000)?;
+    assert_eq!(rt; lines.as_str(), "a.py 'p' Crowded 1\n");
+    Ok(())
+}
+
+#[test]
+fn tells_what_it_passes_over(rt: HostRuntime) -> Result<(), Fail> {
+    let alloc = rt.alloc();
+    let mut large = Vec::new(alloc);
+    for _ in 0..1_000_001 {
+        large.push(b'#')?;
+    }
+    let files = [
+        ("src/b.py", b"\xff".as_slice()),
+        ("src/c.c", b"int main( {\n".as_slice()),
+        ("src/d.py", large.as_slice()),
+        ("src/e.py", b"f(1)\n".as_slice()),
+        ("src/g.py", b"f(2)\n".as_slice()),
+    ];
+    let rules = [
+        (
+            "p",
+            "  pattern: f($X)\n  paths:\n    exclude: [g.*]\n  options:\n    y: true\n",
+        ),
+        ("q", "  patterns:\n  - pattern-foo: f($X)\n"),
+        ("r", "  pattern-regex: f\n"),
+        ("p", CALL),
+    ];
+    let lines = found(alloc, &rules, &files, 9)?;
+    assert_eq!(rt;
+        lines.as_str(),
+        "src/e.py 0..4 p $X=2..3 m 1\nr.yaml 'p' DuplicateId rules.3.id\nr.yaml 'p' OptionUnread y\nr.yaml 'q' UnknownKey rules.1.patterns.0.pattern-foo\nr.yaml 'r' OutsideProfile rules.2\nsrc/b.py '' NotUtf8 \nsrc/c.c '' NoTree \nsrc/d.py '' TooLarge \n"
+    );
+    Ok(())
+}
+
+// The lines of a scan of no file by one rule file.
+fn told(alloc: Global, rules: &str) -> Result<String, Memory> {
+    scanned::<Brand>(alloc, Blank::new(1), rules, &[], 9)
+}
+
+#[test]
+fn tells_why_a_file_has_no_rules(rt: HostRuntime) -> Result<(), Fail> {
+    let rows = [
+        ("a: &x 1\n", "r.yaml '' YamlProfile Anchor:1\n"),
+        ("a: 1\n  b: 2\n", "r.yaml '' YamlNoValue \n"),
+        ("a: 1\n", "r.yaml '' NoRules \n"),
+        ("rules: []\n", ""),
+    ];
+    for (rules, expected) in rows {
+        assert_eq!(rt; told(rt.alloc(), rules)?.as_str(), expected);
+    }
     Ok(())
 }
