@@ -78,7 +78,7 @@ pub fn report_rows(
     path: &str,
     view: &FileView,
     running: &[&Rule],
-    rows: &[Row<'_>],
+    rows: &[Row<'_, '_>],
 ) -> Result<List<Reported>, Memory>
     requires numbered { AreNumberedHits (lent running.now) rows.now }
     requires placed { ArePlacedHits view.now.bytes rows.now }

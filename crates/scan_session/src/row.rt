@@ -20,14 +20,14 @@ use std::marker::Model;
 
 /// A finding, with the number and the id of its rule, that stands in the order of findings of a file.
 #[derive(Drop)]
-pub struct Row<'f> {
+pub struct Row<'r, 'f> {
     number: usize,
-    id: &'f str,
+    id: &'r str,
     finding: &'f Finding,
     trail: Trail<'f>,
 }
 
-impl<'f> Model for Row<'f> {
+impl<'r, 'f> Model for Row<'r, 'f> {
     ghost use Rattle.std.specs.Prelude.{◌≡◌};
     ghost use Rattle.scan_session.specs.Hits.{Hit, hit_code};
 
@@ -52,7 +52,7 @@ fn order_sources(a: Option<Span>, b: Option<Span>) -> Ordering
     }
 }
 
-impl<'f> Ordered for Row<'f> {
+impl<'r, 'f> Ordered for Row<'r, 'f> {
     ghost use Rattle.scan_session.specs.Hits.{hit_cmp as by_range};
     ghost use Rattle.scan_session.specs.HitOrder.{hit_total, hit_apart};
 
@@ -62,7 +62,7 @@ impl<'f> Ordered for Row<'f> {
 
     ghost apart = { hit_apart };
 
-    fn order(&self, other: &Row<'f>) -> Ordering {
+    fn order(&self, other: &Row<'r, 'f>) -> Ordering {
         match self.finding.span.order(other.finding.span) {
             Ordering::Less => return Ordering::Less,
             Ordering::Greater => return Ordering::Greater,
@@ -86,9 +86,9 @@ impl<'f> Ordered for Row<'f> {
     }
 }
 
-impl<'f> Row<'f> {
+impl<'r, 'f> Row<'r, 'f> {
     // The finding of the rule with that number and id.
-    fn of(number: usize, id: &'f str, finding: &'f Finding) -> Result<Row<'f>, Memory>
+    fn of(number: usize, id: &'r str, finding: &'f Finding) -> Result<Row<'r, 'f>, Memory>
         ensures { IfOk result (λ row. row ≡ record { number = number; id = id.now; finding = finding.now }) }
     {
         Ok(Row {
@@ -115,10 +115,10 @@ impl<'f> Row<'f> {
 }
 
 // Adds the findings of the rule with that number and id.
-fn add_rows<'f>(
-    rows: &mut Vec<Row<'f>>,
+fn add_rows<'r, 'f>(
+    rows: &mut Vec<Row<'r, 'f>>,
     number: usize,
-    id: &'f str,
+    id: &'r str,
     findings: &'f [Finding],
 ) -> Result<(), Memory>
     ensures { OnOk result (Adds rows.old.items rows.new.items (IsHitOf number id.now findings.now)) }
@@ -130,11 +130,11 @@ fn add_rows<'f>(
 }
 
 /// All findings, in no order.
-pub fn rows_of<'f>(
+pub fn rows_of<'r, 'f>(
     alloc: Global,
-    running: &[&'f Rule],
+    running: &[&'r Rule],
     judged: &'f [Judged],
-) -> Result<Vec<Row<'f>>, Memory>
+) -> Result<Vec<Row<'r, 'f>>, Memory>
     requires { AreNumbered (lent running.now) judged.now }
     ensures { IfOk result (λ rows. (h : Hit) → Among rows.items h ↔ IsHit (lent running.now) judged.now h) }
 {

@@ -16,8 +16,8 @@ loop-pattern-preserved g c =
     let p = c.pattern-item.result in
     let old = c.loop-pattern.leaves in
     let leaf = c.in_ok-match_leaf.field-0 in (
-      leads_on c.args.view.now.tree ps old c.push.new.leaves (drop i ps) (drop (i + 1) ps) p leaf c.loop-pattern.invariant.0 (opened ps i p c.loop-pattern-test.true c.pattern-item.is) c.in_ok-push.ensures.ok c.in_ok-match_leaf.ensures.exact,
-      placed_more c.args.view.now.bytes old c.push.new.leaves leaf c.loop-pattern.invariant.1 c.in_ok-push.ensures.ok c.in_ok-match_leaf.ensures.placed,
+      leads_on c.args.view.now.tree ps old c.push.new.self (drop i ps) (drop (i + 1) ps) p leaf c.loop-pattern.invariant.0 (opened ps i p c.loop-pattern-test.true c.pattern-item.is) c.in_ok-push.ensures.ok c.in_ok-match_leaf.ensures.exact,
+      placed_more c.args.view.now.bytes old c.push.new.self leaf c.loop-pattern.invariant.1 c.in_ok-push.ensures.ok c.in_ok-match_leaf.ensures.placed,
     )
 
 pub returns-clause-leaves : goal.returns-clause-leaves

@@ -41,7 +41,7 @@ loop-row-preserved c =
     let old = c.loop-row.results in
     let at = ap (slice_get (lent c.args.running.now)) (sym c.number.ensures) ∙ c.rule_at-rule.ensures in
     let is = ap (λ (r : Reported). old ++ r ∷ []) c.in_ok-reported.ensures ∙ ap (λ (f : Finding). old ++ reported path text rule f ∷ []) c.finding.ensures in
-    reports_on path text (lent c.args.running.now) hs old c.push.new.results (drop i hs) (drop (i + 1) hs) h rule c.loop-row.invariant (opened hs i h c.loop-row-test.true c.row-item.is) at (c.in_ok-push.ensures.ok ∙ is)
+    reports_on path text (lent c.args.running.now) hs old c.push.new.self (drop i hs) (drop (i + 1) hs) h rule c.loop-row.invariant (opened hs i h c.loop-row-test.true c.row-item.is) at (c.in_ok-push.ensures.ok ∙ is)
 
 pub returns : goal.returns
 returns c = let hs = c.args.rows.now in reports_end c.args.path.now c.args.view.now.bytes (lent c.args.running.now) hs c.loop-row.results (drop c.loop-row.row-index hs) c.loop-row.invariant (drop_all c.loop-row.row-index hs c.loop-row-test.false)
