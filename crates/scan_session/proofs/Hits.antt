@@ -83,14 +83,14 @@ module _ (rules : List Rule) where
       subst P (sym e) (
         λ k. elim k.is_judged [
           | inl same ↦ (
-            let n : x.number ≡ k.from.number = ap (λ (j : Judged). j.number) same in
-            let Q : Judged → Type 0 = λ j. Among (findings_of j.found) h.finding in
-            inl (record {
-              number_is = k.number_is ∙ sym n;
-              id_is = k.id_is ∙ ap (λ (r : Rule). r.id) (one_there rules k.from.number x.number k.rule rule k.at at (sym n));
-              found = subst Q (sym same) k.found;
-            })
-          )
+              let n : x.number ≡ k.from.number = ap (λ (j : Judged). j.number) same in
+              let Q : Judged → Type 0 = λ j. Among (findings_of j.found) h.finding in
+              inl (record {
+                number_is = k.number_is ∙ sym n;
+                id_is = k.id_is ∙ ap (λ (r : Rule). r.id) (one_there rules k.from.number x.number k.rule rule k.at at (sym n));
+                found = subst Q (sym same) k.found;
+              })
+              )
           | inr a ↦ inr (record { from = k.from; is_judged = a; number_is = k.number_is; rule = k.rule; at = k.at; id_is = k.id_is; found = k.found })
         ],
         λ k. elim k [
@@ -149,9 +149,9 @@ module _ (path : List ℕ) (lang : Lang) (text : List ℕ) (tree : Node) (rules 
         let P : List Reported → Type 0 = λ xs. Among xs (reported path text rule h.finding) in
         subst P (sym e) (elim k [
           | inl same ↦ (
-            let is = one_there rules g.number h.number rule' rule at' at (ap (λ (x : Hit). x.number) same) in
-            inl (ap (λ (r : Rule). reported path text r g.finding) is ∙ ap (λ (x : Hit). reported path text rule x.finding) same)
-          )
+              let is = one_there rules g.number h.number rule' rule at' at (ap (λ (x : Hit). x.number) same) in
+              inl (ap (λ (r : Rule). reported path text r g.finding) is ∙ ap (λ (x : Hit). reported path text rule x.finding) same)
+              )
           | inr a ↦ inr (is_reported hs rest h rule are a at)
         ])
 
@@ -261,4 +261,3 @@ shown_all rules found unsorted rows shown e same exact h =
 pub if_reported : (P Q : List Reported → Type 0) (r : Result (List Reported) Memory) → ((rs : List Reported) → P rs → Q rs) → IfOk r P → IfOk r Q
 if_reported P Q (Ok rs) f h = f rs h
 if_reported P Q (Err e) f h = tt
-

@@ -162,20 +162,20 @@ module _ (path : List ℕ) (lang : Lang) (text : List ℕ) (tree : Node) (rules 
     λ h. elim ((adds x).0 h) [
       | inl a ↦ (let k = (far x).0 a in let lt = k.1 in (k.0, omega (arith, lt)))
       | inr r ↦ (
-        let j = r.1 in
-        let e = j.number_is in
-        (record { rule = rule; at = ap (slice_get rules) e ∙ at; finds = record { allows = r.0; part = j.part; has = j.has; looks = j.looks; finds = j.finds } }, omega (arith, e))
-      )
+          let j = r.1 in
+          let e = j.number_is in
+          (record { rule = rule; at = ap (slice_get rules) e ∙ at; finds = record { allows = r.0; part = j.part; has = j.has; looks = j.looks; finds = j.finds } }, omega (arith, e))
+          )
     ],
     λ h. elim (nearer x.number n h.1) [
       | inl lt ↦ (adds x).1 (inl ((far x).1 (h.0, lt)))
       | inr e ↦ (
-        let j = h.0 in
-        let same = one_there rules x.number n j.rule rule j.at at e in
-        let P : Rule → Type 0 = λ r. Among r.parts j.finds.part in
-        let Q : Rule → Type 0 = λ r. Allows r path in
-        (adds x).1 (inr (subst Q same j.finds.allows, record { number_is = e; part = j.finds.part; has = subst P same j.finds.has; looks = j.finds.looks; finds = j.finds.finds }))
-      )
+          let j = h.0 in
+          let same = one_there rules x.number n j.rule rule j.at at e in
+          let P : Rule → Type 0 = λ r. Among r.parts j.finds.part in
+          let Q : Rule → Type 0 = λ r. Allows r path in
+          (adds x).1 (inr (subst Q same j.finds.allows, record { number_is = e; part = j.finds.part; has = subst P same j.finds.has; looks = j.finds.looks; finds = j.finds.finds }))
+          )
     ],
   )
 

@@ -92,8 +92,8 @@ module _ (rules : List Rule) (path bytes : List ℕ) (o : Opened) (is : IsOpened
     seen_notices old mid new e adds =
         adds_both old mid new (Among (opened_notices path o)) (IsNotedIn rules path lang text tree) (IsNoticeIn rules (path, bytes)) (appended old mid (opened_notices path o) (Among (opened_notices path o)) e (λ n. (λ a. a, λ a. a))) adds
         (λ n.
-            let s = seen (λ l x t. IsNotedIn rules path l x t n) in
-            (λ h. (notice_in n).1 (elim h [ inl a ↦ inl a | inr k ↦ inr (s.1 k) ]), λ h. elim ((notice_in n).0 h) [ inl a ↦ inl a | inr v ↦ inr (s.0 v) ]))
+        let s = seen (λ l x t. IsNotedIn rules path l x t n) in
+        (λ h. (notice_in n).1 (elim h [ inl a ↦ inl a | inr k ↦ inr (s.1 k) ]), λ h. elim ((notice_in n).0 h) [ inl a ↦ inl a | inr v ↦ inr (s.0 v) ]))
 
 -- ---- all files
 
@@ -200,10 +200,10 @@ pub is_fresh : (files : List File) (rule_files : List RuleFile) (rules : List Ru
 is_fresh files rule_files rules results before notices listed e f whole adds up same = record {
   results = let P : List Rule → Type 0 = λ rs. IsExactly reported_cmp (IsResult rs files) results in subst P e whole;
   notices =
-    let P : List Rule → Type 0 = λ rs. Adds before notices (IsFileNotice rs files) in
-    let Q : List Notice → Type 0 = λ ns. Adds ns notices (IsFileNotice (running rule_files) files) in
-    let added = subst Q f (subst P e adds) in
-    record { exact = λ n. (λ h. (added n).0 ((same n).0 h), λ h. (same n).1 ((added n).1 h)); ordered = up };
+      let P : List Rule → Type 0 = λ rs. Adds before notices (IsFileNotice rs files) in
+      let Q : List Notice → Type 0 = λ ns. Adds ns notices (IsFileNotice (running rule_files) files) in
+      let added = subst Q f (subst P e adds) in
+      record { exact = λ n. (λ h. (added n).0 ((same n).0 h), λ h. (same n).1 ((added n).1 h)); ordered = up };
 }
 
 pub fresh_once : (files : List File) (rule_files : List RuleFile) (r s : Report) → IsFresh files rule_files r → IsFresh files rule_files s → r ≡ s

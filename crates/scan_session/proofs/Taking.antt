@@ -130,11 +130,11 @@ takes all before taken taken' rules rules' notices notices' left s ss far left-i
   ids = ids_after far.ids s;
   just = just;
   rules_are =
-    ap (λ (rs : List Rule). rs ++ built (firsts (ids_after far.ids s) ss)) r ∙ append_assoc rules (rules_at far.ids s) (built (firsts (ids_after far.ids s) ss))
-    ∙ ap (λ (rs : List Rule). rules ++ rs) (sym (next_rules far.ids s ss)) ∙ ap (λ (l : List Stated). rules ++ built (firsts far.ids l)) (sym left-is) ∙ far.rules_are;
+      ap (λ (rs : List Rule). rs ++ built (firsts (ids_after far.ids s) ss)) r ∙ append_assoc rules (rules_at far.ids s) (built (firsts (ids_after far.ids s) ss))
+      ∙ ap (λ (rs : List Rule). rules ++ rs) (sym (next_rules far.ids s ss)) ∙ ap (λ (l : List Stated). rules ++ built (firsts far.ids l)) (sym left-is) ∙ far.rules_are;
   notices_are =
-    ap (λ (ns : List Notice). ns ++ stated_notices (ids_after far.ids s) ss) n ∙ append_assoc notices (notices_at far.ids s) (stated_notices (ids_after far.ids s) ss)
-    ∙ ap (λ (ns : List Notice). notices ++ ns) (sym (next_notices far.ids s ss)) ∙ ap (λ (l : List Stated). notices ++ stated_notices far.ids l) (sym left-is) ∙ far.notices_are;
+      ap (λ (ns : List Notice). ns ++ stated_notices (ids_after far.ids s) ss) n ∙ append_assoc notices (notices_at far.ids s) (stated_notices (ids_after far.ids s) ss)
+      ∙ ap (λ (ns : List Notice). notices ++ ns) (sym (next_notices far.ids s ss)) ∙ ap (λ (l : List Stated). notices ++ stated_notices far.ids l) (sym left-is) ∙ far.notices_are;
 }
 
 -- ---- what one rule gives

@@ -296,11 +296,7 @@ fn note_content(alloc: Global, file: &RuleFile, notices: &mut Vec<Noted>) -> Res
 }
 
 // Notes what is wrong in the files or with them.
-fn note_files(
-    alloc: Global,
-    files: &[RuleFile],
-    notices: &mut Vec<Noted>,
-) -> Result<(), Memory>
+fn note_files(alloc: Global, files: &[RuleFile], notices: &mut Vec<Noted>) -> Result<(), Memory>
     ensures { OnOk result (notices.new.items ≡ notices.old.items ++ flat_map spec.file_notices files.now) }
 {
     for file in files {

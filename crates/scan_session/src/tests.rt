@@ -58,7 +58,10 @@ fn scanned<L: Ledger>(
     let mut steps = Steps::<L>::new(blank);
     let mut all = List::new(alloc);
     for (path, bytes) in files {
-        all.push((Text::from_str(alloc, path)?, Bytes::from_slice(alloc, bytes)?))?;
+        all.push((
+            Text::from_str(alloc, path)?,
+            Bytes::from_slice(alloc, bytes)?,
+        ))?;
     }
     let mut read = List::new(alloc);
     read.push(read_rule_file(alloc, "r.yaml", rules.as_bytes())?)?;
@@ -67,7 +70,9 @@ fn scanned<L: Ledger>(
 
 // A rule in Python with that id and those lines of its formula and more.
 fn rule(alloc: Global, id: &str, formula: &str) -> Result<String, Memory> {
-    format!(in alloc; "- id: {id}\n  languages: [python]\n  severity: INFO\n  message: m $X\n{formula}").map_err(Memory::from)
+    format!(in alloc;
+        "- id: {id}\n  languages: [python]\n  severity: INFO\n  message: m $X\n{formula}"
+    ).map_err(Memory::from)
 }
 
 const CALL: &str = "  pattern: f($X)\n";

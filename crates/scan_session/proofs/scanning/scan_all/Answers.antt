@@ -43,7 +43,7 @@ returns-then-most-count-clause-too_many g c n e =
     let m = c.len.ensures in (
       cc,
       has_more rules c.args.most fs c.args.notices.now.items c.requires.ordered (drop i fs) (drop (i + 1) fs) f c.loop-path.notices.items c.scan_file-found.new.notices.items c.loop-path.results c.in_ok-found.found c.append.new.results c.loop-path.invariant
-      (opened fs i f c.loop-path-test.true c.loop-path-item.is) (subst P here c.in_ok-found.ensures.results) (subst Q here c.in_ok-found.ensures.notices) c.in_ok-append.ensures (omega (arith, many, m)),
+          (opened fs i f c.loop-path-test.true c.loop-path-item.is) (subst P here c.in_ok-found.ensures.results) (subst Q here c.in_ok-found.ensures.notices) c.in_ok-append.ensures (omega (arith, many, m)),
     )
 
 pub returns-clause-results : goal.returns-clause-results
