@@ -1,18 +1,21 @@
 -- Lists of refused texts.
-use Rattle.std.specs.Prelude.{◌≡◌, ◌<◌, ℕ, List, [], ◌∷◌, ◌++◌, Result, Ok, Err}
-use Rattle.std.specs.List.{count_by, pointwise, nat_eq}
+use Rattle.std.specs.Prelude.{◌≡◌, ◌<◌, ℕ, List, [], ◌∷◌, ◌++◌, Result, Ok, Err, count_by, bytes_eq}
 use Rattle.rx_text.specs.declared.patterns.BuildFault.{BuildFault}
 use Rattle.rx_text.specs.declared.patterns.BuildFault.TheVariants.{Memory, Refused}
 
--- after Refused the list has just that text more, and after any other answer it is as before
+-- after Refused the list has just that text more, and after want of memory it is as before
+abbrev pub ListsFault : BuildFault → List ℕ → List (List ℕ) → List (List ℕ) → Type 0
+ListsFault Memory text old new = new ≡ old
+ListsFault Refused text old new = new ≡ old ++ text ∷ []
+
+-- the same of an answer; where something was built the list is as before
 abbrev pub Lists : {X : Type 0} → Result X BuildFault → List ℕ → List (List ℕ) → List (List ℕ) → Type 0
 Lists (Ok x) text old new = new ≡ old
-Lists (Err Memory) text old new = new ≡ old
-Lists (Err Refused) text old new = new ≡ old ++ text ∷ []
+Lists (Err e) text old new = ListsFault e text old new
 
 -- how many times the text stands in the list
 abbrev pub times_in : List (List ℕ) → List ℕ → ℕ
-times_in texts text = count_by (λ t. pointwise nat_eq t text) texts
+times_in texts text = count_by (λ t. bytes_eq t text) texts
 
 -- what a fake holds: the texts to refuse, how many times each, and the texts refused so far
 pub record FakeState : Type 0 where

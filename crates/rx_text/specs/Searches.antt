@@ -33,12 +33,7 @@ all_matches text hay = elim (pattern_of text) [ None ↦ [] | Some re ↦ spans_
 abbrev pub matches_at_start : List ℕ → List ℕ → Bool
 matches_at_start text hay = elim (pattern_of text) [ None ↦ false | Some re ↦ starts re hay ]
 
--- each range ends at the latest where the next one begins
-abbrev pub AreApart : List Span → Type 0
-AreApart [] = Unit {0}
-AreApart (s ∷ []) = Unit {0}
-AreApart (s ∷ t ∷ ts) = (s.to ≤ t.from) × AreApart (t ∷ ts)
-
--- the range has a byte
-abbrev pub HasByte : Span → Type 0
-HasByte s = s.from < s.to
+-- from that place on each range begins where the one before it ended or later, and has a byte
+abbrev pub FollowFrom : ℕ → List Span → Type 0
+FollowFrom at [] = Unit {0}
+FollowFrom at (s ∷ ss) = (at ≤ s.from) × (s.from < s.to) × FollowFrom s.to ss

@@ -1,7 +1,7 @@
 //! The builder over `regex`.
 
-ghost use Rattle.std.specs.Prelude.{◌≡◌, [], Err};
-ghost use Rattle.rx_text.specs.Refusals.{Lists};
+ghost use Rattle.std.specs.Prelude.{◌≡◌, []};
+ghost use Rattle.rx_text.specs.Refusals.{ListsFault};
 
 use crate::patterns::{BuildFault, Patterns};
 use crate::refusals::refuse;
@@ -37,7 +37,7 @@ impl RealPatterns {
 
     // Refuses the text.
     pub(crate) fn refuse(&mut self, text: &str) -> BuildFault
-        ensures { Lists (Err result) text.now self.old self.new }
+        ensures { ListsFault result text.now self.old self.new }
     {
         refuse(&mut self.refused, text)
     }

@@ -1,14 +1,14 @@
 //! Lists of refused texts.
 
-ghost use Rattle.std.specs.Prelude.{◌≡◌, Err};
-ghost use Rattle.rx_text.specs.Refusals.{Lists, times_in};
+ghost use Rattle.std.specs.Prelude.{◌≡◌};
+ghost use Rattle.rx_text.specs.Refusals.{ListsFault, times_in};
 
 use crate::patterns::BuildFault;
 use node_tree::{List, Text};
 
 // Puts the text at the end of the refused ones, and gives the answer that says so.
 pub(crate) fn refuse(refused: &mut List<Text>, text: &str) -> BuildFault
-    ensures { Lists (Err result) text.now refused.old refused.new }
+    ensures { ListsFault result text.now refused.old refused.new }
 {
     let Ok(text) = Text::from_str(refused.alloc(), text) else {
         return BuildFault::Memory;

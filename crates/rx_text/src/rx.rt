@@ -2,7 +2,7 @@
 
 ghost use Rattle.std.specs.Prelude.{◌≡◌, ◌<◌, ◌^◌, All, length, IfOk};
 ghost use Rattle.node_tree.specs.Span.{LiesIn};
-ghost use Rattle.rx_text.specs.Searches.{all_matches, matches_at_start, AreApart, HasByte};
+ghost use Rattle.rx_text.specs.Searches.{all_matches, matches_at_start, FollowFrom};
 
 use crate::patterns::BuildFault;
 use crate::search;
@@ -53,8 +53,7 @@ impl Rx {
         requires { length text.now < 2 ^ 32 }
         ensures found { IfOk result (λ spans. spans ≡ all_matches self.old text.now) }
         ensures placed { IfOk result (All (LiesIn text.now)) }
-        ensures bytes { IfOk result (All HasByte) }
-        ensures apart { IfOk result AreApart }
+        ensures ordered { IfOk result (FollowFrom 0) }
         ensures same { self.new ≡ self.old }
     {
         search::spans_in(self.alloc, self.compiled.as_ref(), text)
