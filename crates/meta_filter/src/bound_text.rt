@@ -13,12 +13,7 @@ use std::str;
 
 /// Whether the regular expression has a match that begins at the start of the bytes that the name is bound to, where these
 /// are a text of their own. False for a name that isn't bound.
-pub fn holds_regex(
-    rx: &mut Rx,
-    binding: &Binding,
-    name: &str,
-    bytes: &[u8],
-) -> Result<bool, Memory>
+pub fn holds_regex(rx: &mut Rx, binding: &Binding, name: &str, bytes: &[u8]) -> Result<bool, Memory>
     requires utf8 { ∥ IsUtf8 bytes.now ∥₁ }
     requires placed { All (λ (b : bound). LiesIn bytes.now b.span) binding.now }
     ensures holds { IfOk result (λ holds. holds ≡ spec.holds_regex rx.old binding.now name.now bytes.now) }
