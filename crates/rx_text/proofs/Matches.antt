@@ -1,16 +1,18 @@
 -- The matches of what a text is read as.
-use Rattle.std.proofs.Common.{◌≡◌, ℕ, zero, suc, ◌+◌, ◌<◌, ◌≤◌, true, false, ◌==◌, List, [], ◌∷◌, map, length, get_or, Option, None, Some, IsSomeAnd, option_map, refl, ap, ◌∙◌, arith, chars}
+use Rattle.std.proofs.Common.{◌≡◌, ℕ, zero, suc, ◌+◌, ◌<◌, ◌≤◌, Bool, true, false, cond, ◌==◌, List, [], ◌∷◌, map, length, get_or, Option, None, Some, IsSomeAnd, option_map, refl, sym, ap, ◌∙◌, arith, chars, string_bytes}
 use Rattle.std.proofs.lemmas.Bool.{cond_both}
 use Rattle.std.proofs.lemmas.Bool.Decides.{nat_tests}
+use Rattle.std.proofs.lemmas.Option.{none-some, same_Some}
 use Rattle.regex_hir.specs.Find.{Match, find_after, matches_from}
 use Rattle.regex_hir.specs.Text.{is_some_and}
 use Rattle.regex_syntax.specs.Brackets.{Nested}
 use Rattle.regex_syntax.specs.Grammar.{Names, read, group_count}
-use Rattle.regex.specs.Patterns.{Re, SameCaptures, Reads, default_config, find_str, span}
+use Rattle.regex.specs.Patterns.{Re, SameCaptures, Reads, default_config, find_str, find_all_str, span}
 use Rattle.regex.specs.Strings.{regex_pattern, regex_source, regex_config, regex_names, IsReadFromSource}
 use Rattle.regex.specs.declared.string.regex.Regex.{Regex}
 use Rattle.regex.proofs.ForCallers.{spans_alike, span_alike}
 use Rattle.regex.proofs.SearchLemmas.{leftmost_within}
+use Rattle.node_tree.specs.declared.span.Span.{Span}
 use Rattle.rx_text.specs.Searches.{pattern_of, with_bytes, is_at_start, spans_of, starts, all_matches, matches_at_start, FollowFrom}
 
 -- ---- a compiled pattern finds what its text is read as

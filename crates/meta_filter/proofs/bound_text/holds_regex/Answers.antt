@@ -1,3 +1,4 @@
+use Rattle.std.proofs.Common.{◌∙◌}
 use Rattle.std.proofs.lemmas.Str.{IsUtf8-between, IsUtf8-had}
 use Rattle.node_tree.specs.Span.{LiesIn}
 use Rattle.meta_bind.specs.declared.bound.Bound.{Bound}
