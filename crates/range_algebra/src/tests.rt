@@ -29,6 +29,23 @@ fn file(alloc: Global, text: &str) -> Result<Option<FileView>, Memory> {
     }
 }
 
+// The pattern that the text is, if it is one.
+fn pattern(alloc: Global, text: &str) -> Result<Option<Pattern>, Memory> {
+    if text.len() > 1_000_000 {
+        return Ok(None);
+    }
+    match read_json(alloc, text, Mode::Pattern) {
+        Err(ReadFault::NoTree) => Ok(None),
+        Err(ReadFault::Memory) => Err(Memory),
+        Ok(tree) => Ok(Some(Pattern {
+            lang: Lang::Json,
+            shape: Shape::Expr,
+            tree,
+            constants: true,
+        })),
+    }
+}
+
 // The sets of these patterns.
 fn leaves<L: Ledger>(
     alloc: Global,
@@ -43,13 +60,7 @@ fn leaves<L: Ledger>(
     let mut steps = Steps::<L>::new(blank);
     let mut leaves = List::new(alloc);
     for text in patterns {
-        if let Ok(tree) = read_json(alloc, text, Mode::Pattern) {
-            let pattern = Pattern {
-                lang: Lang::Json,
-                shape: Shape::Expr,
-                tree,
-                constants: true,
-            };
+        if let Some(pattern) = pattern(alloc, text)? {
             leaves.push(match_leaf(alloc, view, &pattern, &mut steps)?)?;
         }
     }
