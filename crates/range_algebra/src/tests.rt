@@ -67,6 +67,11 @@ fn leaves<L: Ledger>(
     Ok(leaves)
 }
 
+// The same, counted by steps of their own.
+fn sets(alloc: Global, view: &FileView, patterns: &[&str]) -> Result<List<Leaf>, Memory> {
+    leaves::<Brand>(alloc, Blank::new(1), view, patterns)
+}
+
 // The set as lines: the range, then each name with its span.
 fn lines(alloc: Global, set: &MatchSet) -> Result<String, Memory> {
     let mut lines = String::new(alloc);
@@ -93,7 +98,7 @@ fn answer(
     let Some(view) = file(alloc, text)? else {
         return Ok(String::new(alloc));
     };
-    let leaves = leaves::<Brand>(alloc, Blank::new(1), &view, patterns)?;
+    let leaves = sets(alloc, &view, patterns)?;
     match eval(alloc, &view, &Formula::All(children), &leaves) {
         Err(EvalFault::Memory) => Err(Memory),
         Err(EvalFault::Crowded(numbers)) => {
