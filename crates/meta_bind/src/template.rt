@@ -2,9 +2,9 @@
 
 ghost use Rattle.std.specs.Prelude.{◌≡◌, ◌≤◌, ◌<◌, ◌+◌, ◌++◌, ◌≢◌, ℕ, All, OnOk, IfOk, length, drop, slice_index};
 ghost use Rattle.std.specs.Str.{IsUtf8, IsCharBoundary};
-ghost use Rattle.node_tree.specs.Span.{LiesIn};
 ghost use Rattle.meta_bind.specs.declared.bound.Bound.{Bound as bound};
 ghost use Rattle.meta_bind.specs.Fills as spec;
+ghost use Rattle.meta_bind.specs.Places.{EndsLieIn};
 
 use crate::binding::Binding;
 use node_tree::{Memory, Text};
@@ -109,14 +109,18 @@ fn next_mark(text: &[u8], from: usize) -> usize
 // Adds what the name stands for, or the name where it isn't bound.
 fn push_value(name: &str, binding: &Binding, bytes: &[u8], text: &mut Text) -> Result<(), Memory>
     requires utf8 { ∥ IsUtf8 bytes.now ∥₁ }
-    requires placed { All (λ (b : bound). LiesIn bytes.now b.span) binding.now }
+    requires placed { All (λ (b : bound). EndsLieIn bytes.now b.span) binding.now }
     ensures { OnOk result (text.new ≡ text.old ++ spec.value_of binding.now bytes.now name.now) }
 {
     match binding.get(name) {
         None => text.push(name),
         Some(bound) => {
-            let value = &bytes[bound.span.from as usize..bound.span.to as usize];
-            match str::from_utf8(value) {
+            let from = bound.span.from as usize;
+            let to = bound.span.to as usize;
+            if to < from {
+                return Ok(());
+            }
+            match str::from_utf8(&bytes[from..to]) {
                 Ok(value) => text.push(value),
                 Err(_) => unreachable!(),
             }
@@ -135,7 +139,7 @@ fn fill_next(
     requires left { at < length template.now }
     requires begins { IsCharBoundary template.now at }
     requires utf8 { ∥ IsUtf8 bytes.now ∥₁ }
-    requires placed { All (λ (b : bound). LiesIn bytes.now b.span) binding.now }
+    requires placed { All (λ (b : bound). EndsLieIn bytes.now b.span) binding.now }
     ensures on { IfOk result (λ to. (at < to) × (to ≤ length template.now)) }
     ensures ends { IfOk result (λ to. IsCharBoundary template.now to) }
     ensures adds { IfOk result (λ to. text.new ++ spec.filled binding.now bytes.now (drop to template.now) ≡ text.old ++ spec.filled binding.now bytes.now (drop at template.now)) }
@@ -152,10 +156,10 @@ fn fill_next(
 }
 
 /// The text with each metavariable replaced by the bytes that it is bound to. At each `$` the longest `$NAME` or `$...NAME`
-/// is read; a name that isn't bound stays as it is written.
+/// is read; a name that isn't bound stays as it is written, and one whose span ends before it begins gives no bytes.
 pub fn fill(alloc: Global, template: &str, binding: &Binding, bytes: &[u8]) -> Result<Text, Memory>
     requires utf8 { ∥ IsUtf8 bytes.now ∥₁ }
-    requires placed { All (λ (b : bound). LiesIn bytes.now b.span) binding.now }
+    requires placed { All (λ (b : bound). EndsLieIn bytes.now b.span) binding.now }
     ensures { IfOk result (λ text. text ≡ spec.filled binding.now bytes.now template.now) }
 {
     let mut text = Text::new(alloc);

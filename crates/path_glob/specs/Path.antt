@@ -1,5 +1,5 @@
 -- What a path is, and the language that it names.
-use Rattle.std.specs.Prelude.{◌≢◌, ◌≤◌, ℕ, List, [], length, All, codes, if◌then◌else◌, Option, Some, None, nat_eq, Bool, ◌∷◌}
+use Rattle.std.specs.Prelude.{◌≡◌, ◌≢◌, ◌≤◌, ℕ, List, [], length, All, codes, if◌then◌else◌, Option, Some, None, nat_eq, Bool, ◌∷◌}
 use Rattle.std.specs.List.{ends_with, list_any}
 use Rattle.node_tree.specs.declared.view.Lang.{Lang}
 use Rattle.node_tree.specs.declared.view.Lang.TheVariants.{Json, Python, C, Regex}
@@ -17,6 +17,11 @@ pub record IsPath (text : List ℕ) : Type 0 where
   pub most : length text ≤ 1024
   pub printed : All (λ byte. 32 ≤ byte) text
   pub named : All IsSegment (segments text)
+
+-- a segment that begins with a dot names something hidden
+abbrev pub IsHidden : List ℕ → Type 0
+IsHidden [] = ⊥
+IsHidden (byte ∷ bytes) = byte ≡ 46
 
 -- the text ends with one of these
 abbrev pub has_ending : List (List ℕ) → List ℕ → Bool

@@ -10,7 +10,7 @@ mod path;
 mod segments;
 
 pub use glob::matches;
-pub use path::{lang_of, path_ok};
+pub use path::{has_hidden, lang_of, path_ok};
 
 #[cfg(test)]
 mod tests;

@@ -1,9 +1,9 @@
 //! Paths.
 
-ghost use Rattle.std.specs.Prelude.{◌≡◌, ◌≤◌, ◌↔◌, IsTrue, All, nat_eq};
+ghost use Rattle.std.specs.Prelude.{◌≡◌, ◌≤◌, ◌↔◌, IsTrue, All, Any, nat_eq};
 ghost use Rattle.std.specs.List.{ends_with};
 ghost use Rattle.path_glob.specs.Segments.{segments};
-ghost use Rattle.path_glob.specs.Path.{IsPath, IsSegment, has_ending, plain_endings, language};
+ghost use Rattle.path_glob.specs.Path.{IsPath, IsSegment, IsHidden, has_ending, plain_endings, language};
 
 use crate::segments::first_segment;
 use node_tree::Lang;
@@ -42,6 +42,30 @@ pub fn path_ok(path: &str) -> bool
     ensures { IsTrue result ↔ IsPath path.now }
 {
     !path.is_empty() && path.len() <= 1024 && is_printed(path) && is_named(path)
+}
+
+/// Whether a segment begins with a dot.
+fn is_hidden(segment: &str) -> bool
+    ensures { IsTrue result ↔ IsHidden segment.now }
+{
+    match segment.as_bytes() {
+        [] => false,
+        [first, ..] => *first == b'.',
+    }
+}
+
+/// Whether some segment of a path begins with a dot, as that of a hidden file or folder does.
+pub fn has_hidden(path: &str) -> bool
+    ensures { IsTrue result ↔ Any IsHidden (segments path.now) }
+{
+    let mut left = Some(path);
+    'segments: while let Some((segment, rest)) = first_segment(left) {
+        if is_hidden(segment) {
+            return true;
+        }
+        left = rest;
+    }
+    false
 }
 
 /// Whether a path ends so.

@@ -82,3 +82,13 @@ fn tells_languages(rt: HostRuntime) {
     assert!(rt; lang_of("a.pyc").is_none());
     assert!(rt; lang_of("py").is_none());
 }
+
+#[test]
+fn tells_hidden_paths(rt: HostRuntime) {
+    for path in [".a", "a/.b", ".git/a.py", "a/.b/c"] {
+        assert!(rt; has_hidden(path), "{path}");
+    }
+    for path in ["a", "a.b/c.py", "a./b"] {
+        assert!(rt; !has_hidden(path), "{path}");
+    }
+}

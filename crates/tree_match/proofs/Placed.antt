@@ -1,0 +1,185 @@
+-- The members of a pattern stand at places of the file's text.
+use Rattle.std.proofs.Common.{◌≡◌, ℕ, List, [], ◌∷◌, ◌++◌, ◌⊎◌, inl, inr, ◌-◌, take, drop, map, refl, sym, subst, Bool, true, false, cond}
+use Rattle.std.specs.Prelude.{All, None, Some, Result, Ok, Err, IfOk}
+use Rattle.std.specs.Ordering.{is_lt}
+use Rattle.std.specs.Str.{IsCharBoundary}
+use Rattle.std.specs.List.{flat_map}
+use Rattle.std.proofs.lemmas.List.Concat.{flat_map-cons}
+use Rattle.std.proofs.lemmas.List.Elements.{All-nil, All-cons, All-head, All-tail, All-append, All-take, All-drop, All-filter, All-weaker}
+use Rattle.node_tree.specs.declared.node.Node.{Node, Node-F, roll-Node, out-roll-Node, ind-Node}
+use Rattle.node_tree.specs.declared.span.Span.{Span}
+use Rattle.node_tree.specs.declared.view.Pattern.{Pattern}
+use Rattle.node_tree.specs.declared.view.Shape.{Shape}
+use Rattle.node_tree.specs.declared.view.Shape.TheVariants as shapes
+use Rattle.node_tree.specs.Tree.{kind_of, text_of, kids_of, span_of, pre_of}
+use Rattle.node_tree.specs.Blocks.{is_block, blocks_of}
+use Rattle.node_tree.specs.Span.{LiesIn}
+use Rattle.node_tree.specs.Spans.{SpansLieIn}
+use Rattle.node_tree.proofs.Trees.{pre_is}
+use Rattle.meta_bind.specs.declared.bound.Bound.{Bound}
+use Rattle.meta_bind.specs.Bounds.{name_cmp, with_bound}
+use Rattle.meta_bind.specs.Places.{EndsLieIn}
+use Rattle.tree_match.specs.declared.leaf.Leaf.{Leaf}
+use Rattle.tree_match.specs.declared.leaf.Leaf.TheVariants.{Full, Crowded}
+use Rattle.tree_match.specs.Sets.{Among}
+use Rattle.tree_match.specs.Free.{Part, parts_of}
+use Rattle.tree_match.specs.Relation.{end_of, run_span, bound_by, Binds, fresh, again, Matches, same_node, wildcard, metavariable, some_string, deep, MatchesKids, in_order, MatchesList, both_empty, head_and_rest, free_and_rest, dots, named_dots}
+use Rattle.tree_match.specs.Members.{Member, MemberAt, MemberRun, MemberOf, IsMember, kids_between}
+use Rattle.tree_match.specs.Leaf.{IsLeaf}
+use Rattle.tree_match.specs.Placed.{IsPlaced, IsLeafPlaced}
+
+-- ---- what holds of all items
+
+module _ {X : Type 0} (P : X → Type 0) where
+  pub all_among : (xs : List X) (x : X) → All P xs → Among xs x → P x
+  all_among [] x all h = elim h [ ]
+  all_among (y ∷ ys) x all h = at h (λ k. all_among ys x (All-tail P y ys all) k)
+    where
+      at : (y ≡ x) ⊎ Among ys x → (Among ys x → P x) → P x
+      at (inl e) rest = subst P e (All-head P y ys all)
+      at (inr k) rest = rest k
+
+  pub among_all : (xs : List X) → ((x : X) → Among xs x → P x) → All P xs
+  among_all [] each = All-nil P
+  among_all (x ∷ xs) each = All-cons P x xs (each x (inl refl)) (among_all xs (λ y h. each y (inr h)))
+
+  all_front : (xs ys : List X) → All P (xs ++ ys) → All P xs
+  all_front [] ys all = All-nil P
+  all_front (x ∷ xs) ys all = All-cons P x xs (All-head P x (xs ++ ys) all) (all_front xs ys (All-tail P x (xs ++ ys) all))
+
+  all_rest : (xs ys : List X) → All P (xs ++ ys) → All P ys
+  all_rest [] ys all = all
+  all_rest (x ∷ xs) ys all = all_rest xs ys (All-tail P x (xs ++ ys) all)
+
+module _ (text : List ℕ) where
+  -- ---- the nodes of a tree
+
+  abbrev Lies : Node → Type 0
+  Lies n = SpansLieIn text n
+
+  abbrev SpanLies : Node → Type 0
+  SpanLies n = LiesIn text (span_of n)
+
+  abbrev Ends : Node → Type 0
+  Ends n = EndsLieIn text (span_of n)
+
+  opened : (n : Node) → Lies n → All SpanLies (n ∷ flat_map pre_of (kids_of n))
+  opened n lies = let P : List Node → Type 0 = All SpanLies in subst P (pre_is n) lies
+
+  ends_lie : (n : Node) → Lies n → Ends n
+  ends_lie n lies = let l = All-head SpanLies n (flat_map pre_of (kids_of n)) (opened n lies) in (l.begins, l.ends)
+
+  trees_lie : (ns : List Node) → All SpanLies (flat_map pre_of ns) → All Lies ns
+  trees_lie [] all = All-nil Lies
+  trees_lie (n ∷ ns) all =
+      let P : List Node → Type 0 = All SpanLies in
+      let both = subst P (flat_map-cons pre_of n ns) all in
+      All-cons Lies n ns (all_front SpanLies (pre_of n) (flat_map pre_of ns) both) (trees_lie ns (all_rest SpanLies (pre_of n) (flat_map pre_of ns) both))
+
+  kids_lie : (n : Node) → Lies n → All Lies (kids_of n)
+  kids_lie n lies = trees_lie (kids_of n) (All-tail SpanLies n (flat_map pre_of (kids_of n)) (opened n lies))
+
+  -- so it is with each node below
+  abbrev Below : Node → Type 0
+  Below n = Lies n → All Lies (pre_of n)
+
+  below_kids : (ns : List ((n : Node) × Below n)) → All Lies (map (λ e. e.0) ns) → All Lies (flat_map pre_of (map (λ e. e.0) ns))
+  below_kids [] all = All-nil Lies
+  below_kids (n ∷ ns) all =
+      let ms : List Node = map (λ e. e.0) ns in
+      let P : List Node → Type 0 = All Lies in
+      subst P (sym (flat_map-cons pre_of n.0 ms)) (All-append Lies (pre_of n.0) (flat_map pre_of ms) (n.1 (All-head Lies n.0 ms all)) (below_kids ns (All-tail Lies n.0 ms all)))
+
+  nodes_lie : (n : Node) → Below n
+  nodes_lie = ind-Node Below (λ x y is lies.
+      let n = roll-Node x in
+      let P : List Node → Type 0 = All Lies in
+      let Q : List Node → Type 0 = λ ks. All Lies ks → All Lies (flat_map pre_of ks) in
+      let R : Node-F Node → Type 0 = λ z. All Lies z.kids → All Lies (flat_map pre_of z.kids) in
+      let kids : R (record { kind = x.kind; text = x.text; kids = kids_of n; span = x.span }) = subst R (sym (out-roll-Node x)) (subst R is (below_kids y.kids)) in
+      subst P (sym (pre_is n)) (All-cons Lies n (flat_map pre_of (kids_of n)) lies (kids (kids_lie n lies))))
+
+  -- ---- runs
+
+  run_ends : (n : Node) (ns : List Node) → IsCharBoundary text (span_of n).to → All Ends ns → IsCharBoundary text (end_of n ns)
+  run_ends n [] here all = here
+  run_ends n (m ∷ ms) here all = run_ends m ms (All-head Ends m ms all).1 (All-tail Ends m ms all)
+
+  run_lies : (h : Node) (ns : List Node) → Ends h → All Ends ns → EndsLieIn text (run_span h ns)
+  run_lies h [] holder all = (holder.0, holder.0)
+  run_lies h (n ∷ ns) holder all = ((All-head Ends n ns all).0, run_ends n ns (All-head Ends n ns all).1 (All-tail Ends n ns all))
+
+  kids_run_lies : (h : Node) (ns : List Node) → Lies h → All Lies ns → EndsLieIn text (run_span h ns)
+  kids_run_lies h ns lies all = run_lies h ns (ends_lie h lies) (All-weaker Lies Ends ends_lie ns all)
+
+  -- ---- bindings
+
+  abbrev BoundLies : Bound → Type 0
+  BoundLies b = EndsLieIn text b.span
+
+  abbrev AreBound : List Bound → Type 0
+  AreBound b = All BoundLies b
+
+  one_more : (x : Bound) (bs : List Bound) → BoundLies x → AreBound bs → AreBound (with_bound x bs)
+  one_more x [] lies all = All-cons BoundLies x [] lies all
+  one_more x (c ∷ cs) lies all = at (is_lt (name_cmp x.name c.name)) (one_more x cs lies (All-tail BoundLies c cs all))
+    where
+      at : (t : Bool) → AreBound (with_bound x cs) → AreBound (cond t (x ∷ c ∷ cs) (c ∷ with_bound x cs))
+      at true rest = All-cons BoundLies x (c ∷ cs) lies all
+      at false rest = All-cons BoundLies c (with_bound x cs) (All-head BoundLies c cs all) rest
+
+  binds_lies : (h : Node) (name : List ℕ) (run : List Node) (b c : List Bound) → EndsLieIn text (run_span h run) → AreBound b → Binds h name run b c → AreBound c
+  binds_lies h name run b _ lies all (fresh none) = one_more (bound_by h name run) b lies all
+  binds_lies h name run b _ lies all (again old is same) = all
+
+  -- ---- matches
+
+  mutual
+    one_bound : (p n : Node) (b c : List Bound) → Matches p n b c → Lies n → AreBound b → AreBound c
+    one_bound p n b c (same_node r k t x) lies all = kids_bound n (parts_of p) (kids_of n) b c x lies (kids_lie n lies) all
+    one_bound p n b _ (wildcard r w t) lies all = all
+    one_bound p n b c (metavariable r w t x) lies all = binds_lies n (text_of p) (n ∷ []) b c (kids_run_lies n (n ∷ []) lies (All-cons Lies n [] lies (All-nil Lies))) all x
+    one_bound p n b _ (some_string r s) lies all = all
+    one_bound p n b c (deep q m r k e among x) lies all = one_bound q m b c x (all_among Lies (pre_of n) m (nodes_lie n lies) among) all
+
+    kids_bound : (h : Node) (ps : List Part) (ns : List Node) (b c : List Bound) → MatchesKids h ps ns b c → Lies h → All Lies ns → AreBound b → AreBound c
+    kids_bound h ps ns b c (in_order x) lies kids all = list_bound h ps ns b c x lies kids all
+
+    list_bound : (h : Node) (ps : List Part) (ns : List Node) (b c : List Bound) → MatchesList h ps ns b c → Lies h → All Lies ns → AreBound b → AreBound c
+    list_bound h _ _ b _ both_empty lies kids all = all
+    list_bound h (Some p ∷ ps) (n ∷ ns) b c (head_and_rest {c = d} x y) lies kids all = list_bound h ps ns d c y lies (All-tail Lies n ns kids) (one_bound p n b d x (All-head Lies n ns kids) all)
+    list_bound h (None ∷ ps) (n ∷ ns) b c (free_and_rest y) lies kids all = list_bound h ps ns b c y lies (All-tail Lies n ns kids) all
+    list_bound h (Some p ∷ ps) ns b c (dots k r y) lies kids all = list_bound h ps (drop k ns) b c y lies (All-drop Lies k ns kids) all
+    list_bound h (Some p ∷ ps) ns b c (named_dots {c = d} k r x y) lies kids all =
+        list_bound h ps (drop k ns) d c y lies (All-drop Lies k ns kids) (binds_lies h (text_of p) (take k ns) b d (kids_run_lies h (take k ns) lies (All-take Lies k ns kids)) all x)
+
+  -- ---- members
+
+  at_range : (s t : Span) → s ≡ t → EndsLieIn text t → EndsLieIn text s
+  at_range s t e lies = let P : Span → Type 0 = EndsLieIn text in subst P (sym e) lies
+
+  node_member : (p n : Node) (m : Member) → Lies n → MemberAt p n m → IsPlaced text m
+  node_member p n m lies (may, is, x) = (at_range m.0 (span_of n) is (ends_lie n lies), one_bound p n [] m.1 x lies (All-nil BoundLies))
+
+  run_member : (p h : Node) (m : Member) → Lies h → MemberRun p h m → IsPlaced text m
+  run_member p h m lies r =
+      let kids = All-take Lies (r.end - r.from) (drop r.from (kids_of h)) (All-drop Lies r.from (kids_of h) (kids_lie h lies)) in (
+        at_range m.0 (run_span h (kids_between h r.from r.end)) r.range (kids_run_lies h (kids_between h r.from r.end) lies kids),
+        list_bound h (parts_of p) (kids_between h r.from r.end) [] m.1 r.matches lies kids (All-nil BoundLies),
+      )
+
+  member_of : (s : Shape) (p tree : Node) (m : Member) → Lies tree → MemberOf s p tree m → IsPlaced text m
+  member_of shapes.Expr p tree m lies (n, among, x) = node_member p n m (all_among Lies (pre_of tree) n (nodes_lie tree lies) among) x
+  member_of shapes.Run p tree m lies (h, among, x) =
+      run_member p h m (all_among Lies (blocks_of tree) h (All-filter (λ (n : Node). is_block (kind_of n)) Lies (pre_of tree) (nodes_lie tree lies)) among) x
+
+  pub member_placed : (pattern : Pattern) (tree : Node) (m : Member) → SpansLieIn text tree → IsMember pattern tree m → IsPlaced text m
+  member_placed pattern tree m lies x = member_of pattern.shape pattern.tree tree m lies x
+
+  leaf_placed : (pattern : Pattern) (tree : Node) (leaf : Leaf) → SpansLieIn text tree → IsLeaf (IsMember pattern tree) leaf → IsLeafPlaced text leaf
+  leaf_placed pattern tree (Full members) lies whole = among_all (IsPlaced text) members (λ m h. member_placed pattern tree m lies ((whole.0.exact m).0 h))
+  leaf_placed pattern tree Crowded lies more = tt
+
+  pub leaves_placed : {E : Type 0} (pattern : Pattern) (tree : Node) (r : Result Leaf E) → SpansLieIn text tree → IfOk r (λ leaf. IsLeaf (IsMember pattern tree) leaf) → IfOk r (λ leaf. IsLeafPlaced text leaf)
+  leaves_placed pattern tree (Ok leaf) lies exact = leaf_placed pattern tree leaf lies exact
+  leaves_placed pattern tree (Err e) lies exact = tt
