@@ -10,4 +10,3 @@ pub mod Sets
 pub mod Reading
 pub mod Comparisons
 pub mod Values
-pub mod BoundTexts

@@ -2,7 +2,6 @@
 #![tactic(auto)]
 
 mod arithmetic;
-mod bound_text;
 mod fault;
 mod holds;
 mod layer;
@@ -14,12 +13,9 @@ mod reader;
 mod table;
 mod token;
 
-pub use bound_text::holds_regex;
 pub use fault::CompareFault;
 pub use holds::holds_comparison;
 pub use read::read_comparison;
 
-#[cfg(test)]
-mod bound_text_tests;
 #[cfg(test)]
 mod tests;
