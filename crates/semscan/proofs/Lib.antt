@@ -1,3 +1,9 @@
 pub mod Streaming
-pub mod Texts
-pub mod Runs
+pub mod Paths
+pub mod Limits
+pub mod Files
+pub mod Rules
+pub mod Causes
+pub mod Scans
+pub mod Matches
+pub mod Requests

@@ -1,70 +1,37 @@
 -- What a run does: its status, and the lines that it prints.
-use Rattle.std.specs.Prelude.{◌≡◌, ℕ, ◌≤◌, List, [], ◌∷◌, length, map, Option}
-use Rattle.std.specs.List.{concat}
-use Rattle.std.specs.Io.KnownBytes.{Appends}
-use Rattle.node_tree.specs.declared.node.Node.{Node}
-use Rattle.node_tree.specs.declared.view.Pattern.{Pattern}
+use Rattle.std.specs.Prelude.{ℕ, List, [], Option, IsSome}
 use Rattle.node_tree.specs.declared.view.Lang.{Lang}
-use Rattle.pattern_read.specs.Patterns.{IsPatternOf}
-use Rattle.scan_world.specs.Streams.{AppendsFront}
-use Rattle.tree_match.specs.declared.leaf.Leaf.TheVariants.{Full, Crowded}
-use Rattle.tree_match.specs.Members.{Member, IsMember}
-use Rattle.tree_match.specs.Leaf.{IsLeaf}
+use Rattle.scan_world.specs.Files.{Files}
+use Rattle.wire_words.specs.Commands.{Task, Request, Matching, Scanning, IsCommand}
 use Rattle.semscan.specs.declared.status.Status.{Status}
-use Rattle.semscan.specs.declared.status.Status.TheVariants as statuses
-use Rattle.semscan.specs.declared.status.LimitKind.TheVariants.{Target}
-use Rattle.semscan.specs.Words.{AreMatchWords, AreOtherWords}
-use Rattle.semscan.specs.Reading.{IsFileOf, HasNoFile}
-use Rattle.semscan.specs.Lines.{line_of}
-use Rattle.semscan.specs.Streams.{Tells, AppendsSome}
+use Rattle.semscan.specs.declared.status.Status.TheVariants.{Usage}
+use Rattle.semscan.specs.Matching.{Matches}
+use Rattle.semscan.specs.Scan.{Scans}
 
--- the words ask where this pattern of the language matches
-pub record AskFor (words : List (List ℕ)) (lang : Lang) (pattern : Pattern) : Type 0 where
-  pub text : List ℕ
-  pub are_words : AreMatchWords words lang text
-  pub is_pattern : IsPatternOf lang text pattern
+-- the words ask for nothing
+abbrev pub AreOtherWords : List (List ℕ) → Type 0
+AreOtherWords words = (request : Request) → IsCommand words request → ⊥
 
--- the text writes no pattern of the language
-abbrev pub HasNoPattern : Lang → List ℕ → Type 0
-HasNoPattern lang text = (pattern : Pattern) → IsPatternOf lang text pattern → ⊥
+-- How a run ends, and the lines that it prints, by its words and by what its source and its tree tell, where no fault is met
+-- and memory is not wanting.
+pub data Ends (words : List (List ℕ)) (left : Option (List ℕ)) (told : Option Files) : Status → List (List ℕ) → Type 0 where
+  usage : AreOtherWords words → Ends words left told Usage []
+  matched : (lang : Lang) (text : List ℕ) (status : Status) (lines : List (List ℕ)) → IsCommand words (Matching lang text) → Matches lang text left status lines → Ends words left told status lines
+  scanned : (task : Task) (status : Status) (lines : List (List ℕ)) → IsCommand words (Scanning task) → Scans task told status lines → Ends words left told status lines
 
--- How a run ends, and the lines that it prints, by its words and its whole input, where no fault is met and memory is not
--- wanting. The first cause decides.
-pub data Ends (words : List (List ℕ)) (input : List ℕ) : Status → List (List ℕ) → Type 0 where
-  usage : AreOtherWords words → Ends words input statuses.Usage []
-  bad_pattern : (lang : Lang) (text : List ℕ) → AreMatchWords words lang text → HasNoPattern lang text → Ends words input statuses.BadPattern []
-  over_limit : (lang : Lang) (pattern : Pattern) → AskFor words lang pattern → 1000001 ≤ length input → Ends words input (statuses.OverLimit Target 1000001) []
-  bad_target : (lang : Lang) (pattern : Pattern) → AskFor words lang pattern → length input ≤ 1000000 → HasNoFile lang input → Ends words input statuses.BadTarget []
-  too_many : (lang : Lang) (pattern : Pattern) (tree : Node) → AskFor words lang pattern → IsFileOf lang input tree → IsLeaf (IsMember pattern tree) Crowded → Ends words input (statuses.TooMany 10000) []
-  done : (lang : Lang) (pattern : Pattern) (tree : Node) (members : List Member) → AskFor words lang pattern → IsFileOf lang input tree → IsLeaf (IsMember pattern tree) (Full members) → Ends words input statuses.Done (map line_of members)
+-- what a request reads is told: a match its input, a scan its files
+abbrev pub IsTold : Option (List ℕ) → Option Files → Request → Type 0
+IsTold left told (Matching lang text) = IsSome left
+IsTold left told (Scanning task) = IsSome told
 
--- the status is that of a run which met no fault and had its memory
-abbrev pub IsAnswer : Status → Type 0
-IsAnswer statuses.Memory = ⊥
-IsAnswer statuses.InputFault = ⊥
-IsAnswer statuses.OutputFault = ⊥
-IsAnswer _ = Unit {0}
+-- what the words ask for reads only what is told
+abbrev pub AreTold : List (List ℕ) → Option (List ℕ) → Option Files → Type 0
+AreTold words left told = (request : Request) → IsCommand words request → IsTold left told request
 
--- the lines of a run that ends so, on an input that the source tells of, are what was written
-pub record Printed (words : List (List ℕ)) (left written written_after : Option (List ℕ)) (status : Status) : Type 0 where
-  pub input : List ℕ
-  pub told : Tells left input
-  pub lines : List (List ℕ)
-  pub ends : Ends words input status lines
-  pub printed : Appends written written_after (concat lines)
+-- the words ask for a match
+abbrev pub AskToMatch : List (List ℕ) → Type 0
+AskToMatch words = (lang : Lang) × (text : List ℕ) × IsCommand words (Matching lang text)
 
--- the same up to a write that failed: some front of the lines of a run that would be done was written
-pub record PrintedFront (words : List (List ℕ)) (left written written_after : Option (List ℕ)) : Type 0 where
-  pub input : List ℕ
-  pub told : Tells left input
-  pub lines : List (List ℕ)
-  pub ends : Ends words input statuses.Done lines
-  pub printed : AppendsFront written written_after (concat lines)
-
--- the same up to a place where memory ran out: some first lines of a run that would be done were written, each whole
-pub record PrintedSome (words : List (List ℕ)) (left written written_after : Option (List ℕ)) : Type 0 where
-  pub input : List ℕ
-  pub told : Tells left input
-  pub lines : List (List ℕ)
-  pub ends : Ends words input statuses.Done lines
-  pub printed : AppendsSome written written_after lines
+-- the words don't ask for a scan
+abbrev pub AskForNoScan : List (List ℕ) → Type 0
+AskForNoScan words = (task : Task) → IsCommand words (Scanning task) → ⊥

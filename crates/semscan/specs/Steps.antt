@@ -1,4 +1,4 @@
--- How many steps a run takes.
+-- How many steps a match takes.
 use Rattle.std.specs.Prelude.{◌≡◌, ℕ, ◌+◌, ◌≤◌}
 use Rattle.semscan.specs.declared.status.Status.{Status}
 use Rattle.semscan.specs.declared.status.Status.TheVariants.{Done, OutputFault, TooMany, BadTarget, Memory}

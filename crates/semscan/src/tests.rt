@@ -1,7 +1,7 @@
 use crate::counted;
 use crate::status::{LimitKind, Status};
 use node_tree::{Bytes, List};
-use scan_world::{MemorySink, MemorySource};
+use scan_world::{MemorySink, MemorySource, MemoryTree};
 use std::alloc::Global;
 use std::marker::Brand;
 use std::sync::ledger::Blank;
@@ -38,7 +38,15 @@ fn run_case(alloc: Global, case: &Case<'_>) -> Result<(Status, MemorySink), Fail
     let bytes = Bytes::from_slice(alloc, case.input)?;
     let mut input = MemorySource::new(bytes, 3, calls(alloc, case.failing_read)?);
     let mut out = MemorySink::new(alloc, ROOM, calls(alloc, case.failing_write)?)?;
-    let status = counted::<_, _, Brand>(alloc, &words, &mut input, &mut out, Blank::new(1));
+    let mut tree = MemoryTree::new(List::new(alloc), List::new(alloc));
+    let status = counted::<_, _, _, Brand>(
+        alloc,
+        &words,
+        &mut tree,
+        &mut input,
+        &mut out,
+        Blank::new(1),
+    );
     Ok((status, out))
 }
 
@@ -334,9 +342,11 @@ fn understands_no_other_words(rt: HostRuntime) -> Result<(), Fail> {
         ]?;
         let mut input = MemorySource::new(Bytes::new(rt.alloc()), 1, List::new(rt.alloc()));
         let mut out = MemorySink::new(rt.alloc(), 1, List::new(rt.alloc()))?;
-        let status = counted::<_, _, Brand>(
+        let mut tree = MemoryTree::new(List::new(rt.alloc()), List::new(rt.alloc()));
+        let status = counted::<_, _, _, Brand>(
             rt.alloc(),
             &words,
+            &mut tree,
             &mut input,
             &mut out,
             Blank::new(1),

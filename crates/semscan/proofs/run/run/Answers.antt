@@ -1,92 +1,109 @@
-use Rattle.std.proofs.Common.{◌≡◌, ◌≤◌, ℕ, List, arith, Err, length, sym, ap, ◌∙◌, subst, map, string_bytes, inr}
-use Rattle.pattern_read.proofs.Laws.{refused}
-use Rattle.tree_match.specs.declared.leaf.Leaf.{Leaf}
-use Rattle.tree_match.specs.Members.{IsMember}
-use Rattle.tree_match.specs.Leaf.{IsLeaf}
-use Rattle.semscan.specs.Words.{AreOtherWords}
-use Rattle.semscan.specs.Run.{usage, bad_pattern}
-use Rattle.semscan.proofs.Runs.{asked, only_end, unread, ends_over_limit, ends_bad_target, ends_too_many, ends_done, ends_cut, ends_short, settles}
+use Rattle.std.proofs.Common.{◌≡◌, ℕ, List, map, string_bytes, subst, inl, inr, refl}
+use Rattle.wire_words.specs.declared.command.Command.{Command}
+use Rattle.wire_words.specs.Commands.{Request, IsCommand, request, task_of}
+use Rattle.semscan.specs.declared.status.Status.{Status}
+use Rattle.semscan.specs.declared.status.Status.TheVariants as statuses
+use Rattle.semscan.specs.Status.{IsOfMatch}
+use Rattle.semscan.proofs.Files.{keeps_self}
+use Rattle.semscan.proofs.Requests.{ends_usage, only_usage, ends_match, only_match, front_match, some_match, ends_scan, only_scan, front_scan, no_match}
 use Rattle.semscan.proofs.run.run.Goals as goal
 
-pub returns-in_default-clause-ends : goal.returns-in_default-clause-ends
-returns-in_default-clause-ends g c h =
-    unread _ _ _ _ (λ input. usage (subst (λ (l : List (List ℕ)). AreOtherWords l) (ap (map string_bytes) c.deref.ensures.value) c.in_default.ensures.other))
+-- what is said of the command that was read holds of its request
+asks : (words : List (List ℕ)) (a b : Command) → a ≡ b → IsCommand words (request a) → IsCommand words (request b)
+asks words a b e h = subst (λ (k : Command). IsCommand words (request k)) e h
 
-pub returns-in_default-clause-only : goal.returns-in_default-clause-only
-returns-in_default-clause-only g c h bytes s lines e ends =
-    only_end _ _ _ _ _ (λ no. absurd no) (returns-in_default-clause-ends g c h) bytes s lines e ends
+only_asks : (words : List (List ℕ)) (a b : Command) → a ≡ b → ((r : Request) → IsCommand words r → request a ≡ r) → (r : Request) → IsCommand words r → request b ≡ r
+only_asks words a b e h r is = subst (λ (k : Command). request k ≡ r) e (h r is)
 
-pub returns-in_default-fault-clause-ends : goal.returns-in_default-fault-clause-ends
-returns-in_default-fault-clause-ends g c h =
-    unread _ _ _ _
-    (λ input. bad_pattern c.in-Some.lang c.in-Some.word.now (asked _ _ _ _ (ap (map string_bytes) c.deref.ensures.value) c.in-Some.ensures.asked) (refused c.in-Some.lang c.in-Some.word.now _ c.in_default-fault.not-Memory c.in-Err.ensures.only))
+match_at : (s t : Status) → IsOfMatch s → s ≡ t → IsOfMatch t
+match_at s t h e = subst (λ (x : Status). IsOfMatch x) e h
 
-pub returns-in_default-fault-clause-only : goal.returns-in_default-fault-clause-only
-returns-in_default-fault-clause-only g c h bytes s lines e ends =
-    only_end _ _ _ _ _ (λ no. absurd no) (returns-in_default-fault-clause-ends g c h) bytes s lines e ends
+pub returns-in-None-clause-ends : goal.returns-in-None-clause-ends
+returns-in-None-clause-ends g c a = ends_usage (map string_bytes c.args.words.now.items) (g.S.Source.left c.args.input.now) (g.T.Tree.files c.args.tree.now) (g.K.Sink.written c.args.out.now) c.in-None.ensures.only
 
-pub returns-then-len-eq-MOST-clause-ends : goal.returns-then-len-eq-MOST-clause-ends
-returns-then-len-eq-MOST-clause-ends g c h =
-    let are = asked _ _ _ _ (ap (map string_bytes) c.deref.ensures.value) c.in-Some.ensures.asked in
-    ends_over_limit _ c.in-Some.lang c.in-Some.word.now c.in-Ok.pattern are c.in-Ok.ensures.pattern _ _ _ c.in-Ok-read_input.bytes.items c.in-Ok-read_input.ensures.bytes
-    (omega (arith, c.if-len-eq-MOST.true, c.len.ensures, c.in-Ok-read_input.bytes.ok.0))
+pub returns-in-None-clause-only : goal.returns-in-None-clause-only
+returns-in-None-clause-only g c a told = only_usage (map string_bytes c.args.words.now.items) (g.S.Source.left c.args.input.now) (g.T.Tree.files c.args.tree.now) (g.K.Sink.written c.args.out.now) c.in-None.ensures.only
 
-pub returns-then-len-eq-MOST-clause-only : goal.returns-then-len-eq-MOST-clause-only
-returns-then-len-eq-MOST-clause-only g c h bytes s lines e ends =
-    only_end _ _ _ _ _ (λ no. absurd no) (returns-then-len-eq-MOST-clause-ends g c h) bytes s lines e ends
+pub returns-in-None-clause-files_kept : goal.returns-in-None-clause-files_kept
+returns-in-None-clause-files_kept g c = keeps_self (g.T.Tree.files c.args.tree.now)
 
-pub returns-in-Err-NoTree-clause-ends : goal.returns-in-Err-NoTree-clause-ends
-returns-in-Err-NoTree-clause-ends g c h =
-    let are = asked _ _ _ _ (ap (map string_bytes) c.deref.ensures.value) c.in-Some.ensures.asked in
-    ends_bad_target _ c.in-Some.lang c.in-Some.word.now c.in-Ok.pattern are c.in-Ok.ensures.pattern _ _ _ c.in-Ok-read_input.bytes.items c.in-Ok-read_input.ensures.bytes
-    (c.in-Ok-read_input.ensures.end (omega (arith, c.in-Ok-read_input.ensures.limit, c.if-len-eq-MOST.false, c.len.ensures)))
-    (omega (arith, c.in-Ok-read_input.ensures.limit, c.if-len-eq-MOST.false, c.len.ensures, c.in-Ok-read_input.bytes.ok.0))
-    (c.in-Err-NoTree.ensures.none (ap Err c.in-Err-NoTree.field-0-is))
+pub returns-in-None-clause-nothing_written : goal.returns-in-None-clause-nothing_written
+returns-in-None-clause-nothing_written g c e = refl
 
-pub returns-in-Err-NoTree-clause-only : goal.returns-in-Err-NoTree-clause-only
-returns-in-Err-NoTree-clause-only g c h bytes s lines e ends =
-    only_end _ _ _ _ _ (λ no. absurd no) (returns-in-Err-NoTree-clause-ends g c h) bytes s lines e ends
+pub returns-in-Some-Match-clause-ends : goal.returns-in-Some-Match-clause-ends
+returns-in-Some-Match-clause-ends g c a =
+    let is = asks (map string_bytes c.args.words.now.items) _ _ c.in-Some-Match.field-0-is c.in-Some-Match.ensures.read in
+    ends_match (map string_bytes c.args.words.now.items) (g.S.Source.left c.args.input.now) (g.T.Tree.files c.args.tree.now) (g.K.Sink.written c.args.out.now) (g.K.Sink.written c.run_match.new.out) c.in-Some-Match.lang c.in-Some-Match.text.now is c.run_match.result (c.run_match.ensures.ends a)
 
-pub returns-in-Ok-Crowded-clause-ends : goal.returns-in-Ok-Crowded-clause-ends
-returns-in-Ok-Crowded-clause-ends g c h =
-    let are = asked _ _ _ _ (ap (map string_bytes) c.deref.ensures.value) c.in-Some.ensures.asked in
-    let end = c.in-Ok-read_input.ensures.end (omega (arith, c.in-Ok-read_input.ensures.limit, c.if-len-eq-MOST.false, c.len.ensures)) in
-    ends_too_many _ c.in-Some.lang c.in-Some.word.now c.in-Ok.pattern are c.in-Ok.ensures.pattern _ _ c.in-Ok-read_input.bytes.items c.in-Ok-read_input.ensures.bytes end
-    c.in-Ok-read_file.file.tree c.in-Ok-read_file.ensures.file _ (subst (λ (x : Leaf). IsLeaf (IsMember c.in-Ok.pattern c.in-Ok-read_file.file.tree) x) c.in-Ok-Crowded.field-0-is c.in-Ok-Crowded.ensures.exact)
+pub returns-in-Some-Match-clause-only : goal.returns-in-Some-Match-clause-only
+returns-in-Some-Match-clause-only g c a told =
+    let words = map string_bytes c.args.words.now.items in
+    let is = asks words _ _ c.in-Some-Match.field-0-is c.in-Some-Match.ensures.read in
+    only_match words (g.S.Source.left c.args.input.now) (g.T.Tree.files c.args.tree.now) (g.K.Sink.written c.args.out.now) (g.K.Sink.written c.run_match.new.out) c.in-Some-Match.lang c.in-Some-Match.text.now is (only_asks words _ _ c.in-Some-Match.field-0-is c.in-Some-Match.ensures.only) c.run_match.result told (c.run_match.ensures.only a)
 
-pub returns-in-Ok-Crowded-clause-only : goal.returns-in-Ok-Crowded-clause-only
-returns-in-Ok-Crowded-clause-only g c h bytes s lines e ends =
-    let are = asked _ _ _ _ (ap (map string_bytes) c.deref.ensures.value) c.in-Some.ensures.asked in
-    let end = c.in-Ok-read_input.ensures.end (omega (arith, c.in-Ok-read_input.ensures.limit, c.if-len-eq-MOST.false, c.len.ensures)) in
-    let settled = settles _ c.in-Some.lang c.in-Some.word.now c.in-Ok.pattern are c.in-Ok.ensures.pattern _ _ c.in-Ok-read_input.bytes.items c.in-Ok-read_input.ensures.bytes end
-    c.in-Ok-read_file.file.tree c.in-Ok-read_file.ensures.file c.in-Ok.ensures.only c.in-Ok-read_file.ensures.only in
-    only_end _ _ _ _ _ (λ searched. settled) (returns-in-Ok-Crowded-clause-ends g c h) bytes s lines e ends
+pub returns-in-Some-Match-clause-read_to_its_end : goal.returns-in-Some-Match-clause-read_to_its_end
+returns-in-Some-Match-clause-read_to_its_end g c ask = c.run_match.ensures.read_to_its_end
 
-pub returns-in-Ok-print_all-clause-ends : goal.returns-in-Ok-print_all-clause-ends
-returns-in-Ok-print_all-clause-ends g c h =
-    let are = asked _ _ _ _ (ap (map string_bytes) c.deref.ensures.value) c.in-Some.ensures.asked in
-    let end = c.in-Ok-read_input.ensures.end (omega (arith, c.in-Ok-read_input.ensures.limit, c.if-len-eq-MOST.false, c.len.ensures)) in
-    ends_done _ c.in-Some.lang c.in-Some.word.now c.in-Ok.pattern are c.in-Ok.ensures.pattern _ _ c.in-Ok-read_input.bytes.items c.in-Ok-read_input.ensures.bytes end
-    c.in-Ok-read_file.file.tree c.in-Ok-read_file.ensures.file c.in-Ok-Full.members (subst (λ (x : Leaf). IsLeaf (IsMember c.in-Ok.pattern c.in-Ok-read_file.file.tree) x) c.in-Ok-Full.field-0-is c.in-Ok-Full.ensures.exact) _ _ c.in-Ok-print_all.ensures.ok
+pub returns-in-Some-Match-clause-files_kept : goal.returns-in-Some-Match-clause-files_kept
+returns-in-Some-Match-clause-files_kept g c = keeps_self (g.T.Tree.files c.args.tree.now)
 
-pub returns-in-Ok-print_all-clause-only : goal.returns-in-Ok-print_all-clause-only
-returns-in-Ok-print_all-clause-only g c h bytes s lines e ends =
-    let are = asked _ _ _ _ (ap (map string_bytes) c.deref.ensures.value) c.in-Some.ensures.asked in
-    let end = c.in-Ok-read_input.ensures.end (omega (arith, c.in-Ok-read_input.ensures.limit, c.if-len-eq-MOST.false, c.len.ensures)) in
-    let settled = settles _ c.in-Some.lang c.in-Some.word.now c.in-Ok.pattern are c.in-Ok.ensures.pattern _ _ c.in-Ok-read_input.bytes.items c.in-Ok-read_input.ensures.bytes end
-    c.in-Ok-read_file.file.tree c.in-Ok-read_file.ensures.file c.in-Ok.ensures.only c.in-Ok-read_file.ensures.only in
-    only_end _ _ _ _ _ (λ searched. settled) (returns-in-Ok-print_all-clause-ends g c h) bytes s lines e ends
+pub returns-in-Some-Match-clause-tree_fault : goal.returns-in-Some-Match-clause-tree_fault
+returns-in-Some-Match-clause-tree_fault g c e = absurd (match_at c.run_match.result statuses.TreeFault c.run_match.ensures.cause e)
 
-pub returns-in-Err-Memory-print_all-clause-whole_lines : goal.returns-in-Err-Memory-print_all-clause-whole_lines
-returns-in-Err-Memory-print_all-clause-whole_lines g c h =
-    let are = asked _ _ _ _ (ap (map string_bytes) c.deref.ensures.value) c.in-Some.ensures.asked in
-    let end = c.in-Ok-read_input.ensures.end (omega (arith, c.in-Ok-read_input.ensures.limit, c.if-len-eq-MOST.false, c.len.ensures)) in
-    inr (ends_short _ c.in-Some.lang c.in-Some.word.now c.in-Ok.pattern are c.in-Ok.ensures.pattern _ _ c.in-Ok-read_input.bytes.items c.in-Ok-read_input.ensures.bytes end
-    c.in-Ok-read_file.file.tree c.in-Ok-read_file.ensures.file c.in-Ok-Full.members (subst (λ (x : Leaf). IsLeaf (IsMember c.in-Ok.pattern c.in-Ok-read_file.file.tree) x) c.in-Ok-Full.field-0-is c.in-Ok-Full.ensures.exact) _ _ (c.in-Err-Memory-print_all.ensures.whole (ap Err c.in-Err-Memory-print_all.field-0-is)))
+pub returns-in-Some-Match-clause-absent : goal.returns-in-Some-Match-clause-absent
+returns-in-Some-Match-clause-absent g c e = absurd (match_at c.run_match.result statuses.NoSuchPath c.run_match.ensures.cause e)
+
+pub returns-in-Some-Match-clause-nothing_written : goal.returns-in-Some-Match-clause-nothing_written
+returns-in-Some-Match-clause-nothing_written g c h =
+    elim h [ inl e ↦ c.run_match.ensures.nothing_written e | inr e ↦ absurd (match_at c.run_match.result statuses.TreeFault c.run_match.ensures.cause e) ]
+
+pub returns-in-Some-Match-clause-front_written : goal.returns-in-Some-Match-clause-front_written
+returns-in-Some-Match-clause-front_written g c e =
+    let is = asks (map string_bytes c.args.words.now.items) _ _ c.in-Some-Match.field-0-is c.in-Some-Match.ensures.read in
+    front_match (map string_bytes c.args.words.now.items) (g.S.Source.left c.args.input.now) (g.T.Tree.files c.args.tree.now) (g.K.Sink.written c.args.out.now) (g.K.Sink.written c.run_match.new.out) c.in-Some-Match.lang c.in-Some-Match.text.now is (c.run_match.ensures.front_written e)
+
+pub returns-in-Some-Match-clause-whole_lines : goal.returns-in-Some-Match-clause-whole_lines
+returns-in-Some-Match-clause-whole_lines g c e =
+    let is = asks (map string_bytes c.args.words.now.items) _ _ c.in-Some-Match.field-0-is c.in-Some-Match.ensures.read in
+    some_match (map string_bytes c.args.words.now.items) (g.S.Source.left c.args.input.now) (g.T.Tree.files c.args.tree.now) (g.K.Sink.written c.args.out.now) (g.K.Sink.written c.run_match.new.out) c.in-Some-Match.lang c.in-Some-Match.text.now is (c.run_match.ensures.whole_lines e)
+
+pub returns-in-Some-Match-clause-work : goal.returns-in-Some-Match-clause-work
+returns-in-Some-Match-clause-work g c no = c.run_match.ensures.work
+
+pub returns-clause-ends : goal.returns-clause-ends
+returns-clause-ends g c a =
+    let is = asks (map string_bytes c.args.words.now.items) _ _ c.in-Some-Scan.field-0-is c.in-Some-Scan.ensures.read in
+    ends_scan (map string_bytes c.args.words.now.items) (g.S.Source.left c.args.input.now) (g.T.Tree.files c.args.tree.now) (g.K.Sink.written c.args.out.now) (g.K.Sink.written c.run_scan.new.out) (task_of c.in-Some-Scan.job) is c.run_scan.result (c.run_scan.ensures.ends a)
+
+pub returns-clause-only : goal.returns-clause-only
+returns-clause-only g c a told =
+    let words = map string_bytes c.args.words.now.items in
+    let is = asks words _ _ c.in-Some-Scan.field-0-is c.in-Some-Scan.ensures.read in
+    only_scan words (g.S.Source.left c.args.input.now) (g.T.Tree.files c.args.tree.now) (g.K.Sink.written c.args.out.now) (g.K.Sink.written c.run_scan.new.out) (task_of c.in-Some-Scan.job) is (only_asks words _ _ c.in-Some-Scan.field-0-is c.in-Some-Scan.ensures.only) c.run_scan.result told (c.run_scan.ensures.only a)
+
+pub returns-clause-read_to_its_end : goal.returns-clause-read_to_its_end
+returns-clause-read_to_its_end g c ask =
+    let words = map string_bytes c.args.words.now.items in
+    let is = asks words _ _ c.in-Some-Scan.field-0-is c.in-Some-Scan.ensures.read in
+    let none : ⊥ = no_match words (g.S.Source.left c.args.input.now) (g.T.Tree.files c.args.tree.now) (g.K.Sink.written c.args.out.now) (g.K.Sink.written c.args.out.now) (task_of c.in-Some-Scan.job) is
+    (only_asks words _ _ c.in-Some-Scan.field-0-is c.in-Some-Scan.ensures.only) ask in
+    absurd none
+
+pub returns-clause-input_fault : goal.returns-clause-input_fault
+returns-clause-input_fault g c e = absurd (c.run_scan.ensures.no_input e)
+
+pub returns-clause-nothing_written : goal.returns-clause-nothing_written
+returns-clause-nothing_written g c h = elim h [ inl e ↦ absurd (c.run_scan.ensures.no_input e) | inr e ↦ c.run_scan.ensures.nothing_written e ]
 
 pub returns-clause-front_written : goal.returns-clause-front_written
-returns-clause-front_written g c h =
-    let are = asked _ _ _ _ (ap (map string_bytes) c.deref.ensures.value) c.in-Some.ensures.asked in
-    let end = c.in-Ok-read_input.ensures.end (omega (arith, c.in-Ok-read_input.ensures.limit, c.if-len-eq-MOST.false, c.len.ensures)) in
-    ends_cut _ c.in-Some.lang c.in-Some.word.now c.in-Ok.pattern are c.in-Ok.ensures.pattern _ _ c.in-Ok-read_input.bytes.items c.in-Ok-read_input.ensures.bytes end
-    c.in-Ok-read_file.file.tree c.in-Ok-read_file.ensures.file c.in-Ok-Full.members (subst (λ (x : Leaf). IsLeaf (IsMember c.in-Ok.pattern c.in-Ok-read_file.file.tree) x) c.in-Ok-Full.field-0-is c.in-Ok-Full.ensures.exact) _ _ c.in-Err-Failed-print_all.ensures.front
+returns-clause-front_written g c e =
+    let is = asks (map string_bytes c.args.words.now.items) _ _ c.in-Some-Scan.field-0-is c.in-Some-Scan.ensures.read in
+    front_scan (map string_bytes c.args.words.now.items) (g.S.Source.left c.args.input.now) (g.T.Tree.files c.args.tree.now) (g.K.Sink.written c.args.out.now) (g.K.Sink.written c.run_scan.new.out) (task_of c.in-Some-Scan.job) is (c.run_scan.ensures.front_written e)
+
+pub returns-clause-whole_lines : goal.returns-clause-whole_lines
+returns-clause-whole_lines g c e = inl (c.run_scan.ensures.unwritten e)
+
+pub returns-clause-work : goal.returns-clause-work
+returns-clause-work g c no =
+    let is = asks (map string_bytes c.args.words.now.items) _ _ c.in-Some-Scan.field-0-is c.in-Some-Scan.ensures.read in
+    absurd (no (task_of c.in-Some-Scan.job) is)

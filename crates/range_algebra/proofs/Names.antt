@@ -1,0 +1,114 @@
+-- The names of all members of a formula stand in order.
+use Rattle.std.proofs.Common.{◌≡◌, inl, inr, ℕ, List, [], ◌∷◌, map, refl, sym, subst, Bool, true, false}
+use Rattle.std.specs.Prelude.{None, MatchBool}
+use Rattle.meta_bind.specs.declared.bound.Bound.{Bound}
+use Rattle.meta_bind.specs.declared.join.Keep.TheVariants.{Later, First}
+use Rattle.meta_bind.specs.Bounds.{NamesAscend}
+use Rattle.meta_bind.specs.Merges.{merged}
+use Rattle.meta_bind.proofs.Joins.{ascends_joined}
+use Rattle.tree_match.specs.declared.leaf.Leaf.{Leaf}
+use Rattle.tree_match.specs.Members.{Member}
+use Rattle.range_algebra.specs.declared.join.Role.{Role}
+use Rattle.range_algebra.specs.declared.join.Role.TheVariants.{Plain, Inside}
+use Rattle.range_algebra.specs.Sizes.{Each}
+use Rattle.range_algebra.specs.Trees
+use Rattle.range_algebra.specs.Choices.{Chosen, FirstOf, NoneOf, IsMet, binding_of, merged_with, merged_all}
+use Rattle.range_algebra.specs.Meets.{Meets, MeetsSome, OneOfEach, OneAnd, IsShownAmong}
+use Rattle.range_algebra.specs.Operands.{Ascends, LeavesAscend}
+
+pub merged_ascends : (b : List Bound) (cs : List (List Bound)) → NamesAscend b → Each NamesAscend cs → NamesAscend (merged_with b cs)
+merged_ascends b [] up each = up
+merged_ascends b (c ∷ cs) up each = merged_ascends (merged b c) cs (ascends_joined Later b c up (each c (inl refl))) (λ x h. each x (inr h))
+
+pub bindings_ascend : (ms : List Member) → Each Ascends ms → Each NamesAscend (map binding_of ms)
+bindings_ascend [] each b h = elim h [ ]
+bindings_ascend (m ∷ ms) each b (inl e) = subst NamesAscend e (each m (inl refl))
+bindings_ascend (m ∷ ms) each b (inr h) = bindings_ascend ms (λ x k. each x (inr k)) b h
+
+pub all_ascend : (ms : List Member) → Each Ascends ms → NamesAscend (merged_all (map binding_of ms))
+all_ascend ms each = merged_ascends [] (map binding_of ms) tt (bindings_ascend ms each)
+
+-- each list of the set has members whose names stand in order
+abbrev pub AllAscend : Chosen → Type 0
+AllAscend C = (ms : List Member) → C ms → Each Ascends ms
+
+pub none_ascend : AllAscend NoneOf
+none_ascend [] h m k = elim k [ ]
+none_ascend (n ∷ ns) h m k = absurd cc
+
+met_ascends : (P I : Chosen) → AllAscend P → AllAscend I → (m : Member) → IsMet P I m → Ascends m
+met_ascends P I p i m h =
+    let c = h.choice in
+    let plain = subst NamesAscend (sym c.plain) (all_ascend c.chosen (p c.chosen c.plain_members)) in
+    let inside = subst NamesAscend (sym c.inside) (all_ascend c.around (i c.around c.inside_members)) in
+    subst NamesAscend (sym h.binding) (ascends_joined First h.state.plain h.state.inside plain inside)
+
+operands_ascend : (P I : Chosen) → AllAscend P → AllAscend I → (m : Member) (p q : Bool) → MatchBool p (IsMet P I m) (MatchBool q (IsMet I NoneOf m) ⊥) → Ascends m
+operands_ascend P I p i m true b h = met_ascends P I p i m h
+operands_ascend P I p i m false true h = met_ascends I NoneOf i none_ascend m h
+operands_ascend P I p i m false false h = elim h [ ]
+
+shown_ascends : (c m : Member) (names : List (List ℕ)) (f : Bool) → MatchBool f (IsShownAmong names c m) (m ≡ c) → Ascends c → Ascends m
+shown_ascends c m names true (name, there, (b, bound, some, is)) up = let P : Member → Type 0 = Ascends in subst P (sym is) up
+shown_ascends c m names false is up = let P : Member → Type 0 = Ascends in subst P (sym is) up
+
+pub first_ascends : (Set : Member → Type 0) (Rest : Chosen) → ((m : Member) → Set m → Ascends m) → AllAscend Rest → (ms : List Member) → FirstOf Set Rest ms → Each Ascends ms
+first_ascends Set Rest one rest [] h m k = elim h [ ]
+first_ascends Set Rest one rest (n ∷ ns) h m (inl e) = let P : Member → Type 0 = Ascends in subst P e (one n h.0)
+first_ascends Set Rest one rest (n ∷ ns) h m (inr k) = rest ns h.1 m k
+
+module _ (leaves : List Leaf) (bytes : List ℕ) (up : LeavesAscend leaves) where
+  -- the members of the formula of an operand
+  abbrev BranchAscends : Trees.Branch → Type 0
+  BranchAscends (Trees.positive t) = (m : Member) → Meets leaves bytes t None m → Ascends m
+  BranchAscends (Trees.inside t) = (m : Member) → Meets leaves bytes t None m → Ascends m
+  BranchAscends _ = Unit {0}
+
+  one_ascends : (b : Trees.Branch) (role : Role) (Rest : Chosen) → BranchAscends b → AllAscend Rest → AllAscend (OneAnd leaves bytes role b Rest)
+  one_ascends (Trees.positive t) Plain Rest one rest ms h = first_ascends (Meets leaves bytes t None) Rest one rest ms h
+  one_ascends (Trees.positive t) Inside Rest one rest ms h = rest ms h
+  one_ascends (Trees.inside t) Plain Rest one rest ms h = rest ms h
+  one_ascends (Trees.inside t) Inside Rest one rest ms h = first_ascends (Meets leaves bytes t None) Rest one rest ms h
+  one_ascends (Trees.without t) Plain Rest one rest ms h = rest ms h
+  one_ascends (Trees.without t) Inside Rest one rest ms h = rest ms h
+  one_ascends (Trees.outside t) Plain Rest one rest ms h = rest ms h
+  one_ascends (Trees.outside t) Inside Rest one rest ms h = rest ms h
+  one_ascends (Trees.without_regex k) Plain Rest one rest ms h = rest ms h
+  one_ascends (Trees.without_regex k) Inside Rest one rest ms h = rest ms h
+  one_ascends (Trees.meta_regex name k) Plain Rest one rest ms h = rest ms h
+  one_ascends (Trees.meta_regex name k) Inside Rest one rest ms h = rest ms h
+  one_ascends (Trees.meta_compare x) Plain Rest one rest ms h = rest ms h
+  one_ascends (Trees.meta_compare x) Inside Rest one rest ms h = rest ms h
+  one_ascends (Trees.meta_pattern name t) Plain Rest one rest ms h = rest ms h
+  one_ascends (Trees.meta_pattern name t) Inside Rest one rest ms h = rest ms h
+  one_ascends (Trees.focus names) Plain Rest one rest ms h = rest ms h
+  one_ascends (Trees.focus names) Inside Rest one rest ms h = rest ms h
+
+  mutual
+    pub tree_ascends : (t : Trees.Tree) (m : Member) → Meets leaves bytes t None m → Ascends m
+    tree_ascends (Trees.leaf k) m h = up k m h
+    tree_ascends (Trees.regex k) m h = elim h [ ]
+    tree_ascends (Trees.some_of ts) m h = trees_ascend ts m h
+    tree_ascends (Trees.all_of bs) m (c, ops, allowed, shown) =
+        shown_ascends c m (Trees.focused bs) (Trees.has Trees.is_focus bs) shown
+        (operands_ascend (OneOfEach leaves bytes Plain bs) (OneOfEach leaves bytes Inside bs) (each_ascends bs Plain) (each_ascends bs Inside) c (Trees.has Trees.is_positive bs) (Trees.has Trees.is_inside bs) ops)
+
+    pub trees_ascend : (ts : Trees.Trees) (m : Member) → MeetsSome leaves bytes ts m → Ascends m
+    trees_ascend Trees.no_trees m h = elim h [ ]
+    trees_ascend (Trees.tree_then t ts) m (inl h) = tree_ascends t m h
+    trees_ascend (Trees.tree_then t ts) m (inr h) = trees_ascend ts m h
+
+    pub each_ascends : (bs : Trees.Branches) (role : Role) → AllAscend (OneOfEach leaves bytes role bs)
+    each_ascends Trees.no_branches role ms h = none_ascend ms h
+    each_ascends (Trees.branch_then b bs) role ms h = one_ascends b role (OneOfEach leaves bytes role bs) (branch_ascends b) (each_ascends bs role) ms h
+
+    pub branch_ascends : (b : Trees.Branch) → BranchAscends b
+    branch_ascends (Trees.positive t) = tree_ascends t
+    branch_ascends (Trees.inside t) = tree_ascends t
+    branch_ascends (Trees.without t) = tt
+    branch_ascends (Trees.outside t) = tt
+    branch_ascends (Trees.without_regex k) = tt
+    branch_ascends (Trees.meta_regex name k) = tt
+    branch_ascends (Trees.meta_compare x) = tt
+    branch_ascends (Trees.meta_pattern name t) = tt
+    branch_ascends (Trees.focus names) = tt

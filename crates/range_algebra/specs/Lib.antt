@@ -1,0 +1,16 @@
+pub mod Ranges
+pub mod Sizes
+pub mod Ends
+pub mod Trees
+pub mod Choices
+pub mod Agreements
+pub mod Joins
+pub mod Conditions
+pub mod Orders
+pub mod Meets
+pub mod Parts
+pub mod Crowds
+pub mod Shown
+pub mod Faults
+pub mod Operands
+pub mod Halves

@@ -1,0 +1,58 @@
+//! The set of a formula.
+
+ghost use Rattle.std.specs.Prelude.{◌≡◌, None, IfOk, IfErr};
+ghost use Rattle.tree_match.specs.Leaf.{IsWhole};
+ghost use Rattle.range_algebra.specs.Trees.{tree_of};
+ghost use Rattle.range_algebra.specs.Meets.{Meets};
+ghost use Rattle.range_algebra.specs.Crowds.{Over, IsFault};
+
+use crate::evaluate::members_of;
+use crate::fault::EvalFault;
+use crate::scene::{Member, Scene};
+use crate::set::MatchSet;
+use node_tree::{FileView, List, Memory};
+use rule_form::Formula;
+use std::alloc::Global;
+use tree_match::Leaf;
+
+// The members with bindings of their own.
+fn keep_all<'t>(alloc: Global, members: &[Member<'t>]) -> Result<MatchSet, Memory>
+    ensures { IfOk result (λ s. s ≡ members.now) }
+{
+    let mut kept = List::new(alloc);
+    for (range, trail) in members {
+        kept.push((*range, trail.keep()?))?;
+    }
+    Ok(MatchSet::of(kept))
+}
+
+/// The members of the formula in the file, where `leaves` has the members of its patterns by number; a pattern past the end
+/// of the list has none. Until regular expressions can be searched none of them has a match.
+///
+/// `All` takes one member of each of its operands, all bindings agreeing. The ranges' intersection is the range, and must be
+/// the range of a plain operand. A name has the place that the plain operands bind it to, and of several the one that begins
+/// later. What `Not` and `NotInside` match is taken away, conditions must hold, and the ranges in focus stand in place of the
+/// whole.
+///
+/// Crowded names the first set with more than 10,000 members: of each formula its children's, then the prefixes of its
+/// operands (the plain ones first), then its own.
+pub fn eval(
+    alloc: Global,
+    view: &FileView,
+    formula: &Formula,
+    leaves: &List<Leaf>,
+) -> Result<MatchSet, EvalFault>
+    ensures exact { IfOk result (λ s. IsWhole (Meets leaves.now view.now.bytes (tree_of formula.now) None) s) }
+    ensures few { IfOk result (λ _. Over leaves.now view.now.bytes (tree_of formula.now) None) }
+    ensures crowded { IfErr result (IsFault (Over leaves.now view.now.bytes (tree_of formula.now))) }
+{
+    let bytes = view.bytes.as_slice();
+    match members_of(alloc, Scene { bytes, leaves }, formula) {
+        Ok(members) => Ok(keep_all(alloc, members.as_slice())?),
+        Err(EvalFault::Memory) => Err(EvalFault::Memory),
+        Err(EvalFault::Crowded(mut numbers)) => {
+            numbers.reverse();
+            Err(EvalFault::Crowded(numbers))
+        }
+    }
+}

@@ -1,0 +1,220 @@
+//! The members of a formula.
+
+ghost use Rattle.std.specs.Prelude.{◌≡◌, ◌↔◌, ◌≤◌, ◌<◌, ℕ, List, [], length, map, None, Ok, OnOk, IfOk, IfErr};
+ghost use Rattle.std.specs.Option.{option_to_list};
+ghost use Rattle.tree_match.specs.Sets.{Among, Adds};
+ghost use Rattle.tree_match.specs.Ascending.{IsAscending};
+ghost use Rattle.tree_match.specs.Members.{Member as member_value, member_cmp};
+ghost use Rattle.range_algebra.specs.Trees.{tree_of, trees_of, branch_of, branches_of, meta_pattern};
+ghost use Rattle.range_algebra.specs.Parts.{IsSetOf, AreSetsOf, IsInSome, IsPart, AreParts, AreTakenAway};
+ghost use Rattle.range_algebra.specs.Crowds.{NamesSet, IsFaultFrom, OneSet, Over, OverTrees, OverBranches, OverBranch};
+ghost use Rattle.range_algebra.specs.Faults.{IsFaultOf};
+
+use crate::all::all_members;
+use crate::fault::EvalFault;
+use crate::leaf::leaf_members;
+use crate::operand::is_bare;
+use crate::order::settled;
+use crate::part::Part;
+use crate::scene::{MOST, Member, ROOM, Scene};
+use node_tree::{List, Memory};
+use rule_form::{Child, Formula};
+use std::alloc::Global;
+
+/// That a set has too many members: the formula's own, or that of the child with this number.
+pub fn crowded<T>(alloc: Global, number: Option<usize>) -> Result<T, EvalFault>
+    ensures none { IfOk result (λ _. ⊥) }
+    ensures named { IfErr result (NamesSet (option_to_list number)) }
+{
+    let mut numbers = List::new(alloc);
+    if let Some(number) = number {
+        numbers.push(number as u64)?;
+    }
+    Err(EvalFault::Crowded(numbers))
+}
+
+/// The members, unless there are more than 10,000.
+pub fn limited<'t>(alloc: Global, members: Vec<Member<'t>>) -> Result<Vec<Member<'t>>, EvalFault>
+    ensures few { IfOk result (λ v. (v.items ≡ members.entry.items) × (length members.entry.items ≤ 10000)) }
+    ensures named { IfErr result (NamesSet []) }
+    ensures many { IfErr result (λ _. 10000 < length members.entry.items) }
+{
+    if members.len() > MOST {
+        return crowded(alloc, None);
+    }
+    Ok(members)
+}
+
+/// The members in order, each once, unless there are more than 10,000.
+pub fn gathered<'t>(alloc: Global, members: Vec<Member<'t>>) -> Result<Vec<Member<'t>>, EvalFault>
+    ensures ordered { IfOk result (λ v. IsAscending member_cmp v.items) }
+    ensures same { IfOk result (λ v. (m : member_value) → Among v.items m ↔ Among members.entry.items m) }
+    ensures few { IfOk result (λ v. length v.items ≤ 10000) }
+    ensures crowded { IfErr result (IsFaultFrom (OneSet [] (Among members.entry.items))) }
+{
+    limited(alloc, settled(alloc, members)?)
+}
+
+/// The same members, put in order and each once where they are many.
+pub fn thinned<'t>(alloc: Global, members: Vec<Member<'t>>) -> Result<Vec<Member<'t>>, EvalFault>
+    ensures same { IfOk result (λ v. (m : member_value) → Among v.items m ↔ Among members.entry.items m) }
+    ensures crowded { IfErr result (IsFaultFrom (OneSet [] (Among members.entry.items))) }
+{
+    if members.len() <= ROOM {
+        return Ok(members);
+    }
+    gathered(alloc, members)
+}
+
+// Adds the members of the set.
+fn add_all<'t>(set: &[Member<'t>], members: &mut Vec<Member<'t>>) -> Result<(), Memory>
+    ensures { OnOk result (Adds members.old.items members.new.items (Among set.now)) }
+{
+    for (range, trail) in set {
+        members.push((*range, trail.copy()?))?;
+    }
+    Ok(())
+}
+
+// What is found in the child with that number. The numbers lead from the set up.
+fn inside<T: Drop>(number: usize, found: Result<T, EvalFault>) -> Result<T, EvalFault>
+    ensures same { IfOk result (λ v. found ≡ Ok v) }
+    ensures named { IfErr result (IsFaultOf number found) }
+{
+    match found {
+        Err(EvalFault::Crowded(mut numbers)) => {
+            numbers.push(number as u64)?;
+            Err(EvalFault::Crowded(numbers))
+        }
+        Err(EvalFault::Memory) => Err(EvalFault::Memory),
+        Ok(found) => Ok(found),
+    }
+}
+
+// The members of all the sets.
+fn union<'t>(alloc: Global, sets: &[Vec<Member<'t>>]) -> Result<Vec<Member<'t>>, EvalFault>
+    ensures ordered { IfOk result (λ v. IsAscending member_cmp v.items) }
+    ensures exact { IfOk result (λ v. (m : member_value) → Among v.items m ↔ IsInSome sets.now m) }
+    ensures crowded { IfErr result (IsFaultFrom (OneSet [] (IsInSome sets.now))) }
+    ensures few { IfOk result (λ v. length v.items ≤ 10000) }
+{
+    let mut members = Vec::new(alloc);
+    for set in sets {
+        add_all(set.as_slice(), &mut members)?;
+        members = thinned(alloc, members)?;
+    }
+    gathered(alloc, members)
+}
+
+/// The members of the formula in order, each once.
+#[cycle(evaluate)]
+pub fn members_of<'t>(
+    alloc: Global,
+    scene: Scene<'t>,
+    formula: &'t Formula,
+) -> Result<Vec<Member<'t>>, EvalFault>
+    ensures exact { IfOk result (λ v. IsSetOf scene.entry.leaves.now scene.entry.bytes.now (tree_of formula.now) v.items) }
+    ensures few { IfOk result (λ _. Over scene.entry.leaves.now scene.entry.bytes.now (tree_of formula.now) None) }
+    ensures crowded { IfErr result (IsFaultFrom (Over scene.entry.leaves.now scene.entry.bytes.now (tree_of formula.now))) }
+{
+    match formula {
+        Formula::Leaf(number) => leaf_members(alloc, scene, *number),
+        Formula::Regex(_) => Ok(Vec::new(alloc)),
+        Formula::Any(formulas) => {
+            let sets = members_of_each(alloc, scene, formulas.as_slice())?;
+            union(alloc, sets.as_slice())
+        }
+        Formula::All(children) => {
+            let parts = parts_of_each(alloc, scene, children.as_slice())?;
+            all_members(alloc, scene, children.as_slice(), parts.as_slice())
+        }
+    }
+}
+
+// The sets of the formulas, in order.
+#[cycle(evaluate)]
+fn members_of_each<'t>(
+    alloc: Global,
+    scene: Scene<'t>,
+    formulas: &'t [Formula],
+) -> Result<Vec<Vec<Member<'t>>>, EvalFault>
+    ensures exact { IfOk result (λ sets. AreSetsOf scene.entry.leaves.now scene.entry.bytes.now (trees_of (map tree_of formulas.now)) sets.items) }
+    ensures few { IfOk result (λ _. OverTrees scene.entry.leaves.now scene.entry.bytes.now 0 (trees_of (map tree_of formulas.now)) None) }
+    ensures crowded { IfErr result (IsFaultFrom (OverTrees scene.entry.leaves.now scene.entry.bytes.now 0 (trees_of (map tree_of formulas.now)))) }
+{
+    let mut sets = Vec::new(alloc);
+    for (i, formula) in formulas.iter().enumerate() {
+        sets.push(inside(i, members_of(alloc, scene, formula))?)?;
+    }
+    Ok(sets)
+}
+
+// What the children need, in order.
+#[cycle(evaluate)]
+fn parts_of_each<'t>(
+    alloc: Global,
+    scene: Scene<'t>,
+    children: &'t [Child],
+) -> Result<Vec<Part<'t>>, EvalFault>
+    ensures exact { IfOk result (λ parts. AreParts scene.entry.leaves.now scene.entry.bytes.now (branches_of (map branch_of children.now)) parts.items) }
+    ensures few { IfOk result (λ _. OverBranches scene.entry.leaves.now scene.entry.bytes.now 0 (branches_of (map branch_of children.now)) None) }
+    ensures crowded { IfErr result (IsFaultFrom (OverBranches scene.entry.leaves.now scene.entry.bytes.now 0 (branches_of (map branch_of children.now)))) }
+{
+    let mut parts = Vec::new(alloc);
+    for (i, child) in children.iter().enumerate() {
+        parts.push(inside(i, part_of(alloc, scene, child))?)?;
+    }
+    Ok(parts)
+}
+
+// What the child needs.
+#[cycle(evaluate)]
+fn part_of<'t>(alloc: Global, scene: Scene<'t>, child: &'t Child) -> Result<Part<'t>, EvalFault>
+    ensures exact { IfOk result (IsPart scene.entry.leaves.now scene.entry.bytes.now (branch_of child.now)) }
+    ensures few { IfOk result (λ _. OverBranch scene.entry.leaves.now scene.entry.bytes.now (branch_of child.now) None) }
+    ensures crowded { IfErr result (IsFaultFrom (OverBranch scene.entry.leaves.now scene.entry.bytes.now (branch_of child.now))) }
+{
+    match child {
+        Child::Positive(formula) => Ok(Part::Members(members_of(alloc, scene, formula)?)),
+        Child::Inside(formula) => Ok(Part::Members(members_of(alloc, scene, formula)?)),
+        Child::Not(formula) => Ok(Part::Members(members_of(alloc, scene, formula)?)),
+        Child::NotInside(formula) => Ok(Part::Members(members_of(alloc, scene, formula)?)),
+        Child::MetaPattern(_, formula) => asked(alloc, scene, formula),
+        _ => Ok(Part::Nothing),
+    }
+}
+
+// What a condition on a metavariable needs.
+#[cycle(evaluate)]
+fn asked<'t>(alloc: Global, scene: Scene<'t>, formula: &'t Formula) -> Result<Part<'t>, EvalFault>
+    ensures exact { IfOk result (λ part. (name : List ℕ) → IsPart scene.entry.leaves.now scene.entry.bytes.now (meta_pattern name (tree_of formula.now)) part) }
+    ensures few { IfOk result (λ _. Over scene.entry.leaves.now scene.entry.bytes.now (tree_of formula.now) None) }
+    ensures crowded { IfErr result (IsFaultFrom (Over scene.entry.leaves.now scene.entry.bytes.now (tree_of formula.now))) }
+{
+    let Formula::All(children) = formula else {
+        return Ok(Part::Members(members_of(alloc, scene, formula)?));
+    };
+    if !is_bare(children.as_slice()) {
+        return Ok(Part::Members(members_of(alloc, scene, formula)?));
+    }
+    Ok(Part::Bare(taken_away(alloc, scene, children.as_slice())?))
+}
+
+// The sets of the children of a formula without operands, in order.
+#[cycle(evaluate)]
+fn taken_away<'t>(
+    alloc: Global,
+    scene: Scene<'t>,
+    children: &'t [Child],
+) -> Result<Vec<Vec<Member<'t>>>, EvalFault>
+    ensures exact { IfOk result (λ sets. AreTakenAway scene.entry.leaves.now scene.entry.bytes.now (branches_of (map branch_of children.now)) sets.items) }
+    ensures few { IfOk result (λ _. OverBranches scene.entry.leaves.now scene.entry.bytes.now 0 (branches_of (map branch_of children.now)) None) }
+    ensures crowded { IfErr result (IsFaultFrom (OverBranches scene.entry.leaves.now scene.entry.bytes.now 0 (branches_of (map branch_of children.now)))) }
+{
+    let mut sets = Vec::new(alloc);
+    for (i, child) in children.iter().enumerate() {
+        let part = inside(i, part_of(alloc, scene, child))?;
+        sets.push(part.into_members(alloc))?;
+    }
+    Ok(sets)
+}

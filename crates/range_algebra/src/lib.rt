@@ -1,0 +1,25 @@
+//! What a formula of a rule means in a file: the ranges that it matches, each with what the metavariables stand for there.
+#![tactic(auto)]
+
+mod all;
+mod answer;
+mod choice;
+mod condition;
+mod evaluate;
+mod fault;
+mod join;
+mod leaf;
+mod operand;
+mod order;
+mod part;
+mod range;
+mod scene;
+mod set;
+mod state;
+
+pub use answer::eval;
+pub use fault::EvalFault;
+pub use set::MatchSet;
+
+#[cfg(test)]
+mod tests;
