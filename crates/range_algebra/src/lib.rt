@@ -19,6 +19,7 @@ mod state;
 
 pub use answer::eval;
 pub use fault::EvalFault;
+pub use order::{Ordered, settled};
 pub use set::MatchSet;
 
 #[cfg(test)]
