@@ -1,0 +1,3 @@
+mod PlainTrees
+mod Mapped
+mod Outcomes

@@ -1,0 +1,67 @@
+use Rattle.std.proofs.Common.{List, sym, subst}
+use Rattle.std.specs.List.{flat_map}
+use Rattle.tree_match.specs.Ascending.{IsAscending}
+use Rattle.tree_match.specs.Sets.{Adds}
+use Rattle.scan_session.specs.declared.looking.Judged.{Judged}
+use Rattle.scan_session.specs.Hits.{Hit, hit_cmp}
+use Rattle.scan_session.specs.Reports.{reported_cmp}
+use Rattle.scan_session.specs.Sets.{IsExactly}
+use Rattle.scan_session.specs.Taking.{lent}
+use Rattle.scan_session.specs.Judging.{AreAllPlaced, AreReported, judged_notices}
+use Rattle.scan_session.specs.Fresh.{IsFoundIn, IsNotedIn}
+use Rattle.scan_session.proofs.Members.{appended, on_ok}
+use Rattle.scan_session.proofs.Hits.{found_all, shown_all, numbered, hits_numbered, hits_placed, results_exactly, noted_exactly, if_reported}
+use Rattle.scan_session.proofs.scanning.scan_view.Goals as goal
+
+pub note_judged-requires : goal.note_judged-requires
+note_judged-requires g c =
+    let v = c.args.view.now in
+    let path = c.args.path.now in
+    let rules = lent c.args.running.now in
+    let found = c.as_slice-found.result.now in
+    numbered path v.lang v.bytes v.tree rules found (found_all path v.lang v.bytes v.tree rules c.in_ok-judged.judged.items found c.as_slice-found.ensures.value c.in_ok-judged.ensures.judged)
+
+pub report_rows-requires-clause-numbered : goal.report_rows-requires-clause-numbered
+report_rows-requires-clause-numbered g c =
+    let v = c.args.view.now in
+    let path = c.args.path.now in
+    let rules = lent c.args.running.now in
+    let found = c.as_slice-found.result.now in
+    let all = found_all path v.lang v.bytes v.tree rules c.in_ok-judged.judged.items found c.as_slice-found.ensures.value c.in_ok-judged.ensures.judged in
+    let whole = shown_all rules found c.in_ok-unsorted.unsorted.items c.in_ok-rows.rows.items c.as_slice.result.now c.as_slice.ensures.value c.in_ok-rows.ensures.same c.in_ok-unsorted.ensures in
+    hits_numbered path v.lang v.bytes v.tree rules found all c.as_slice.result.now whole
+
+pub report_rows-requires-clause-placed : goal.report_rows-requires-clause-placed
+report_rows-requires-clause-placed g c =
+    let v = c.args.view.now in
+    let path = c.args.path.now in
+    let rules = lent c.args.running.now in
+    let found = c.as_slice-found.result.now in
+    let all = found_all path v.lang v.bytes v.tree rules c.in_ok-judged.judged.items found c.as_slice-found.ensures.value c.in_ok-judged.ensures.judged in
+    let whole = shown_all rules found c.in_ok-unsorted.unsorted.items c.in_ok-rows.rows.items c.as_slice.result.now c.as_slice.ensures.value c.in_ok-rows.ensures.same c.in_ok-unsorted.ensures in
+    let P : List Judged → Type 0 = AreAllPlaced v.bytes in
+    hits_placed path v.lang v.bytes v.tree rules found all c.as_slice.result.now whole (subst P (sym c.as_slice-found.ensures.value) c.in_ok-judged.ensures.placed)
+
+pub returns-clause-results : goal.returns-clause-results
+returns-clause-results g c =
+    let v = c.args.view.now in
+    let path = c.args.path.now in
+    let rules = lent c.args.running.now in
+    let found = c.as_slice-found.result.now in
+    let shown = c.as_slice.result.now in
+    let all = found_all path v.lang v.bytes v.tree rules c.in_ok-judged.judged.items found c.as_slice-found.ensures.value c.in_ok-judged.ensures.judged in
+    let whole = shown_all rules found c.in_ok-unsorted.unsorted.items c.in_ok-rows.rows.items shown c.as_slice.ensures.value c.in_ok-rows.ensures.same c.in_ok-unsorted.ensures in
+    let P : List Hit → Type 0 = IsAscending hit_cmp in
+    let up = subst P (sym c.as_slice.ensures.value) c.in_ok-rows.ensures.ordered in
+    if_reported (AreReported path v.bytes rules shown) (IsExactly reported_cmp (IsFoundIn rules path v.lang v.bytes v.tree)) c.report_rows.result (λ rs are. results_exactly path v.lang v.bytes v.tree rules found all shown whole c.requires rs are up) c.report_rows.ensures
+
+pub returns-clause-notices : goal.returns-clause-notices
+returns-clause-notices g c =
+    let v = c.args.view.now in
+    let path = c.args.path.now in
+    let rules = lent c.args.running.now in
+    let found = c.as_slice-found.result.now in
+    let all = found_all path v.lang v.bytes v.tree rules c.in_ok-judged.judged.items found c.as_slice-found.ensures.value c.in_ok-judged.ensures.judged in
+    let old = c.args.notices.now.items in
+    let new = c.note_judged.new.notices.items in
+    on_ok (Adds old new (IsNotedIn rules path v.lang v.bytes v.tree)) c.report_rows.result (appended old new (flat_map (judged_notices path rules) found) (IsNotedIn rules path v.lang v.bytes v.tree) c.in_ok-note_judged.ensures (noted_exactly path v.lang v.bytes v.tree rules found all))

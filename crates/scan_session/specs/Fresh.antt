@@ -1,0 +1,97 @@
+-- What a scan of files by rule files reports.
+use Rattle.std.specs.Prelude.{◌≡◌, ◌⊎◌, ℕ, List, [], ◌∷◌}
+use Rattle.std.specs.Option.{unwrap_or}
+use Rattle.std.specs.declared.cmp.Ordering.{Ordering}
+use Rattle.node_tree.specs.declared.node.Node.{Node}
+use Rattle.node_tree.specs.declared.view.Lang.{Lang}
+use Rattle.node_tree.specs.declared.view.Lang.TheVariants.{Regex}
+use Rattle.path_glob.specs.Path.{language}
+use Rattle.meta_bind.specs.declared.finding.Finding.{Finding}
+use Rattle.meta_bind.specs.Bounds.{name_cmp}
+use Rattle.rule_form.specs.declared.rule.Rule.{Rule}
+use Rattle.tree_match.specs.Sets.{Among}
+use Rattle.judge_file.specs.declared.opened.Opened.{Opened}
+use Rattle.judge_file.specs.declared.opened.Opened.TheVariants as opened
+use Rattle.judge_file.specs.declared.outcome.Outcome.{Outcome}
+use Rattle.judge_file.specs.Opening.{IsOpened}
+use Rattle.judge_file.specs.Findings.{findings_of}
+use Rattle.fix_apply.specs.declared.notice.Notice.{Notice}
+use Rattle.fix_apply.specs.declared.notice.NoticeKind.TheVariants as kinds
+use Rattle.fix_apply.specs.declared.report.Reported.{Reported}
+use Rattle.fix_apply.specs.declared.report.Report.{Report}
+use Rattle.scan_session.specs.declared.rule_file.RuleFile.{RuleFile}
+use Rattle.scan_session.specs.Sets.{IsExactly}
+use Rattle.scan_session.specs.Notes.{notice, notice_cmp}
+use Rattle.scan_session.specs.Running.{running, rule_notices}
+use Rattle.scan_session.specs.Looking.{RuleFinds}
+use Rattle.scan_session.specs.Reports.{reported, reported_cmp, outcome_notices}
+
+-- a path, and the bytes there
+abbrev pub File : Type 0
+File = List ℕ × List ℕ
+
+-- by path
+abbrev pub file_cmp : File → File → Ordering
+file_cmp f g = name_cmp f.0 g.0
+
+-- the language in which the file at a path is opened: the one that its ending names, or else `Regex`
+abbrev pub lang_at : List ℕ → Lang
+lang_at path = unwrap_or (language path) Regex
+
+-- the file can be looked at, in that language and with that tree
+abbrev pub Shows : Opened → Lang → Node → Type 0
+Shows (opened.Read view) lang tree = (view.lang ≡ lang) × (view.tree ≡ tree)
+Shows (opened.NoTree view) lang tree = (view.lang ≡ lang) × (view.tree ≡ tree)
+Shows _ lang tree = ⊥
+
+-- why the file at a path cannot be looked at, or has no tree
+abbrev pub opened_notices : List ℕ → Opened → List Notice
+opened_notices path opened.TooLarge = notice path [] kinds.TooLarge [] ∷ []
+opened_notices path opened.NotUtf8 = notice path [] kinds.NotUtf8 [] ∷ []
+opened_notices path (opened.NoTree view) = notice path [] kinds.NoTree [] ∷ []
+opened_notices path (opened.Read view) = []
+
+-- a finding of one of the rules, in the file at a path, which is a text of that language with that tree
+pub record IsFoundIn (rules : List Rule) (path : List ℕ) (lang : Lang) (text : List ℕ) (tree : Node) (r : Reported) : Type 0 where
+  pub rule : Rule
+  pub runs : Among rules rule
+  pub outcome : Outcome
+  pub finds : RuleFinds path lang text tree rule outcome
+  pub finding : Finding
+  pub found : Among (findings_of outcome) finding
+  pub is : r ≡ reported path text rule finding
+
+-- a notice of what one of the rules finds there
+pub record IsNotedIn (rules : List Rule) (path : List ℕ) (lang : Lang) (text : List ℕ) (tree : Node) (n : Notice) : Type 0 where
+  pub rule : Rule
+  pub runs : Among rules rule
+  pub outcome : Outcome
+  pub finds : RuleFinds path lang text tree rule outcome
+  pub told : Among (outcome_notices path rule.id outcome) n
+
+-- what holds of the language and the tree of a file that is opened so and can be looked at
+abbrev pub InView : Opened → (Lang → Node → Type 0) → Type 0
+InView o P = (lang : Lang) × (tree : Node) × Shows o lang tree × P lang tree
+
+-- a finding of one of the rules in a file
+abbrev pub IsResultIn : List Rule → File → Reported → Type 0
+IsResultIn rules file r =
+    (o : Opened) × IsOpened (lang_at file.0) file.1 o × InView o (λ lang tree. IsFoundIn rules file.0 lang file.1 tree r)
+
+-- a notice of a file: how it is opened, or what one of the rules finds there
+abbrev pub IsNoticeIn : List Rule → File → Notice → Type 0
+IsNoticeIn rules file n =
+    (o : Opened) × IsOpened (lang_at file.0) file.1 o × (Among (opened_notices file.0 o) n ⊎ InView o (λ lang tree. IsNotedIn rules file.0 lang file.1 tree n))
+
+-- a finding in one of the files
+abbrev pub IsResult : List Rule → List File → Reported → Type 0
+IsResult rules files r = (file : File) × Among files file × IsResultIn rules file r
+
+-- a notice of one of the files
+abbrev pub IsFileNotice : List Rule → List File → Notice → Type 0
+IsFileNotice rules files n = (file : File) × Among files file × IsNoticeIn rules file n
+
+-- The findings of the rules that run, and the notices of rule files and files, each in order and each once.
+pub record IsFresh (files : List File) (rule_files : List RuleFile) (report : Report) : Type 0 where
+  pub results : IsExactly reported_cmp (IsResult (running rule_files) files) report.results
+  pub notices : IsExactly notice_cmp (λ n. Among (rule_notices rule_files) n ⊎ IsFileNotice (running rule_files) files n) report.notices

@@ -1,0 +1,50 @@
+-- Where rules look, and what they find there.
+use Rattle.std.specs.Prelude.{◌≡◌, ◌⊎◌, ℕ, List, [], ◌∷◌, Some, Any, Contains}
+use Rattle.node_tree.specs.declared.node.Node.{Node}
+use Rattle.node_tree.specs.declared.view.Lang.{Lang}
+use Rattle.node_tree.specs.declared.view.Lang.TheVariants.{Regex}
+use Rattle.node_tree.specs.declared.view.Pattern.{Pattern}
+use Rattle.path_glob.specs.Segments.{segments, without_first, without_last}
+use Rattle.path_glob.specs.Glob.{FitsSegment, FitsFront}
+use Rattle.rule_form.specs.declared.rule.Rule.{Rule}
+use Rattle.rule_form.specs.declared.rule.Part.{Part}
+use Rattle.tree_match.specs.declared.leaf.Leaf.{Leaf}
+use Rattle.tree_match.specs.Sets.{Among}
+use Rattle.tree_match.specs.Members.{IsMember}
+use Rattle.tree_match.specs.Leaf.{IsLeaf}
+use Rattle.judge_file.specs.declared.outcome.Outcome.{Outcome}
+use Rattle.judge_file.specs.Findings.{PartFinds}
+
+-- a glob without a slash matches some segment of the path; another one matches from the root on
+pub record GlobMatches (glob path : List ℕ) : Type 0 where
+  pub somewhere : (Contains glob 47 → ⊥) → Any (FitsSegment glob) (segments path)
+  pub from_the_root : Contains glob 47 → FitsFront (segments (without_last (without_first glob))) (segments path)
+
+abbrev pub SomeMatches : List (List ℕ) → List ℕ → Type 0
+SomeMatches globs path = (glob : List ℕ) × Among globs glob × GlobMatches glob path
+
+-- the rule's globs allow the path
+pub record Allows (rule : Rule) (path : List ℕ) : Type 0 where
+  pub included : (rule.include ≡ []) ⊎ SomeMatches rule.include path
+  pub not_excluded : SomeMatches rule.exclude path → ⊥
+
+-- for each pattern its members in the tree
+abbrev pub AreLeaves : Node → List Pattern → List Leaf → Type 0
+AreLeaves tree [] leaves = leaves ≡ []
+AreLeaves tree (p ∷ ps) leaves = (leaf : Leaf) × IsLeaf (IsMember p tree) leaf × ((rest : List Leaf) × AreLeaves tree ps rest × (leaves ≡ leaf ∷ rest))
+
+-- a part in a language looks at files of that language; one of the language `Regex` looks at all
+abbrev pub LooksAt : Part → Lang → Type 0
+LooksAt part lang = (part.lang ≡ lang) ⊎ (part.lang ≡ Regex)
+
+-- what a part finds in a text with that tree
+abbrev pub PartFindsIn : List ℕ → Node → Part → Outcome → Type 0
+PartFindsIn text tree part outcome = (leaves : List Leaf) × AreLeaves tree part.patterns leaves × PartFinds leaves text (Some part) outcome
+
+-- what some part of a rule finds in the file at a path, a text of that language with that tree
+pub record RuleFinds (path : List ℕ) (lang : Lang) (text : List ℕ) (tree : Node) (rule : Rule) (outcome : Outcome) : Type 0 where
+  pub allows : Allows rule path
+  pub part : Part
+  pub has : Among rule.parts part
+  pub looks : LooksAt part lang
+  pub finds : PartFindsIn text tree part outcome

@@ -1,0 +1,115 @@
+-- The rules that run, and the notices of rule files.
+use Rattle.std.specs.Prelude.{ℕ, suc, Bool, true, false, ◌||◌, List, [], ◌∷◌, ◌++◌, map, codes, if◌then◌else◌}
+use Rattle.std.specs.List.{list_any, flat_map}
+use Rattle.std.specs.Str.{bytes_eq}
+use Rattle.std.specs.Fmt.{decimal}
+use Rattle.rule_form.specs.declared.rule.Rule.{Rule}
+use Rattle.rule_form.specs.declared.rule.Part.{Part}
+use Rattle.rule_form.specs.declared.rule.Body.{Body}
+use Rattle.rule_form.specs.declared.rule.Body.TheVariants as bodies
+use Rattle.rule_read.specs.declared.fault.RuleOutcome.{RuleOutcome}
+use Rattle.rule_read.specs.declared.fault.RuleOutcome.TheVariants.{Good, Bad}
+use Rattle.fix_apply.specs.declared.notice.Notice.{Notice}
+use Rattle.fix_apply.specs.declared.notice.NoticeKind.TheVariants as kinds
+use Rattle.scan_session.specs.declared.rule_file.RuleContent.{RuleContent}
+use Rattle.scan_session.specs.declared.rule_file.RuleContent.TheVariants as contents
+use Rattle.scan_session.specs.declared.rule_file.RuleFile.{RuleFile}
+use Rattle.scan_session.specs.RuleFiles.{outcomes_of}
+use Rattle.scan_session.specs.Notes.{notice, kind_of, feature_word}
+
+-- a rule, the name of its file and the number of its entry there, from 0
+pub record Stated : Type 0 where
+  pub file : List ℕ
+  pub number : ℕ
+  pub rule : Rule
+
+-- the rule of the entry of that number, if it is a good one
+abbrev pub stated_at : List ℕ → ℕ → RuleOutcome → List Stated
+stated_at file k (Good rule) = record { file = file; number = k; rule = rule } ∷ []
+stated_at file k (Bad fault) = []
+
+-- the good rules of the entries from that number on
+abbrev pub stated_from : List ℕ → ℕ → List RuleOutcome → List Stated
+stated_from file k [] = []
+stated_from file k (o ∷ os) = stated_at file k o ++ stated_from file (suc k) os
+
+-- the good rules of all files, in order of file and entry
+abbrev pub stated : List RuleFile → List Stated
+stated [] = []
+stated (f ∷ fs) = stated_from f.name 0 (outcomes_of f.content) ++ stated fs
+
+-- the id is one of these
+abbrev pub is_taken : List (List ℕ) → List ℕ → Bool
+is_taken taken id = list_any (λ other. bytes_eq other id) taken
+
+-- the rules whose id no earlier one has, where these ids are taken before
+abbrev pub firsts : List (List ℕ) → List Stated → List Stated
+firsts taken [] = []
+firsts taken (s ∷ ss) = if is_taken taken s.rule.id then firsts taken ss else s ∷ firsts (s.rule.id ∷ taken) ss
+
+-- the part follows data
+abbrev pub is_taint : Body → Bool
+is_taint (bodies.Search formula) = false
+is_taint (bodies.Taint rule) = true
+
+abbrev pub has_texts : List (List ℕ) → Bool
+has_texts [] = false
+has_texts (text ∷ texts) = true
+
+-- The rule needs what is not built yet: regular expressions, or following data.
+abbrev pub is_unbuilt : Rule → Bool
+is_unbuilt rule = has_texts rule.texts || list_any (λ (part : Part). is_taint part.body) rule.parts
+
+-- the rules that run
+abbrev pub built : List Stated → List Rule
+built [] = []
+built (s ∷ ss) = if is_unbuilt s.rule then built ss else s.rule ∷ built ss
+
+abbrev pub running : List RuleFile → List Rule
+running files = built (firsts [] (stated files))
+
+-- the key of an entry
+abbrev pub entry_key : ℕ → List ℕ
+entry_key number = codes "rules." ++ decimal number
+
+-- the notice of an option that has no meaning here
+abbrev pub option_notice : List ℕ → List ℕ → List ℕ → Notice
+option_notice file id option = notice file id kinds.OptionUnread option
+
+-- a rule that is not built yet is told as one outside the profile
+abbrev pub unbuilt_notice : Stated → Notice
+unbuilt_notice s = notice s.file s.rule.id kinds.OutsideProfile (entry_key s.number)
+
+-- the notices of a rule whose id no earlier one has: its unread options, and whether it is not built yet
+abbrev pub first_notices : Stated → List Notice
+first_notices s = map (option_notice s.file s.rule.id) s.rule.unread ++ (if is_unbuilt s.rule then unbuilt_notice s ∷ [] else [])
+
+-- the notice of one whose id an earlier one has
+abbrev pub repeat_notice : Stated → Notice
+repeat_notice s = notice s.file s.rule.id kinds.DuplicateId (entry_key s.number ++ codes ".id")
+
+-- the notices of good rules, where these ids are taken before
+abbrev pub stated_notices : List (List ℕ) → List Stated → List Notice
+stated_notices taken [] = []
+stated_notices taken (s ∷ ss) =
+    if is_taken taken s.rule.id then repeat_notice s ∷ stated_notices taken ss else first_notices s ++ stated_notices (s.rule.id ∷ taken) ss
+
+-- the notice of an entry that is no rule
+abbrev pub fault_notices : List ℕ → RuleOutcome → List Notice
+fault_notices file (Good rule) = []
+fault_notices file (Bad fault) = notice file fault.id (kind_of fault.kind) fault.key ∷ []
+
+-- the notices of a rule file, but for those of its good rules
+abbrev pub content_notices : List ℕ → RuleContent → List Notice
+content_notices file (contents.Rules outcomes) = flat_map (fault_notices file) outcomes
+content_notices file contents.NotUtf8 = notice file [] kinds.NotUtf8 [] ∷ []
+content_notices file (contents.OutsideProfile feature line) = notice file [] kinds.YamlProfile (feature_word feature ++ (codes ":" ++ decimal line)) ∷ []
+content_notices file contents.NoValue = notice file [] kinds.YamlNoValue [] ∷ []
+content_notices file contents.NoRules = notice file [] kinds.NoRules [] ∷ []
+
+abbrev pub file_notices : RuleFile → List Notice
+file_notices file = content_notices file.name file.content
+
+-- the notices of the rule files
+abbrev pub rule_notices : List RuleFile → List Notice
+rule_notices files = flat_map file_notices files ++ stated_notices [] (stated files)

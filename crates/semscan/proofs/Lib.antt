@@ -1,0 +1,10 @@
+pub mod Streaming
+pub mod Paths
+pub mod Limits
+pub mod Files
+pub mod Rules
+pub mod Causes
+pub mod Scans
+pub mod Matches
+pub mod Requests
+pub mod Others

@@ -1,0 +1,11 @@
+pub mod Status
+pub mod Streams
+pub mod Lines
+pub mod Reading
+pub mod Ways
+pub mod Matching
+pub mod Taking
+pub mod Config
+pub mod Scan
+pub mod Steps
+pub mod Run

@@ -1,0 +1,17 @@
+-- What was read and written.
+use Rattle.std.specs.Prelude.{◌≡◌, ℕ, List, ◌++◌, length, take, Option, Some, None, ⊤}
+use Rattle.std.specs.List.{concat}
+use Rattle.std.specs.Io.KnownBytes.{Consumes, Appends}
+
+-- a source that tells the bytes that it has tells these
+abbrev pub Tells : Option (List ℕ) → List ℕ → Type 0
+Tells None bytes = ⊤
+Tells (Some told) bytes = told ≡ bytes
+
+-- the bytes grew by a piece of so many bytes, which was read
+abbrev pub TakesPiece : Option (List ℕ) → Option (List ℕ) → List ℕ → List ℕ → ℕ → Type 0
+TakesPiece left_old left_new old new n = (piece : List ℕ) × (new ≡ old ++ piece) × (length piece ≡ n) × Consumes left_old left_new piece
+
+-- the first ones of these lines were written, each whole
+abbrev pub AppendsSome : Option (List ℕ) → Option (List ℕ) → List (List ℕ) → Type 0
+AppendsSome old new lines = (count : ℕ) × Appends old new (concat (take count lines))

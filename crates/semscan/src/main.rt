@@ -1,0 +1,111 @@
+//! `semscan`: where patterns that look like code match, in the input or in a folder.
+#![tactic(auto)]
+
+ghost use Rattle.std.specs.Prelude.{◌≡◌, ◌<◌, map, string_bytes};
+ghost use Rattle.scan_world.specs.Faults.{Rose};
+ghost use Rattle.semscan.specs.Status.{IsAnswer};
+ghost use Rattle.semscan.specs.Ways.{Printed};
+ghost use Rattle.semscan.specs.Run.{Ends};
+
+mod adapters;
+mod config;
+mod folder;
+mod input;
+mod matching;
+mod output;
+mod run;
+mod scan;
+mod status;
+mod taking;
+
+use crate::adapters::{StdinSource, StdoutSink};
+use crate::folder::FolderTree;
+use crate::run::run;
+use crate::status::Status;
+use node_tree::Steps;
+use scan_world::{Sink, Source, Tree};
+use std::alloc::Global;
+use std::marker::Brand;
+use std::process::ExitCode;
+use std::sync::ledger::{Blank, Ledger};
+use std::{env, io};
+
+fn main(rt: HostRuntime) -> io::Result<ExitCode> {
+    let status = match words_of(&rt) {
+        Ok(words) => {
+            let mut tree = FolderTree::new(rt);
+            let mut input = StdinSource::new(rt.stdin());
+            let mut out = StdoutSink::new(rt.stdout());
+            counted::<_, _, _, Brand>(
+                rt.alloc(),
+                &words,
+                &mut tree,
+                &mut input,
+                &mut out,
+                Blank::new(1),
+            )
+        }
+        Err(status) => status,
+    };
+    report(&rt, status)?;
+    Ok(ExitCode::from(status.number()))
+}
+
+// The words after the program's name. Words that aren't UTF-8 are no words that the program understands.
+fn words_of(rt: &HostRuntime) -> Result<Vec<String>, Status> {
+    let given = match env::args(rt) {
+        Ok(given) => given,
+        Err(e) if e.kind() == io::ErrorKind::OutOfMemory => return Err(Status::Memory),
+        Err(_) => return Err(Status::Usage),
+    };
+    let mut words = Vec::new(rt.alloc());
+    for word in given.skip(1) {
+        if words.push(word).is_err() {
+            return Err(Status::Memory);
+        }
+    }
+    Ok(words)
+}
+
+// Runs with a counter of its own.
+fn counted<T: Tree, S: Source, K: Sink, L: Ledger>(
+    alloc: Global,
+    words: &Vec<String>,
+    tree: &mut T,
+    input: &mut S,
+    out: &mut K,
+    blank: Blank,
+) -> Status
+    requires name { blank.name ≡ L.name }
+    requires parts { blank.parts ≡ L.parts }
+    requires some { 0 < L.parts }
+    ensures ends { IsAnswer result → Printed (Ends (map string_bytes words.now.items) (S.left input.old) (T.files tree.old)) (K.written out.old) (K.written out.new) result }
+    ensures tree_fault { result ≡ Status.TreeFault → Rose (T.faults tree.old) (T.faults tree.new) }
+    ensures input_fault { result ≡ Status.InputFault → Rose (S.faults input.old) (S.faults input.new) }
+    ensures output_fault { result ≡ Status.OutputFault → Rose (K.faults out.old) (K.faults out.new) }
+{
+    let mut steps = Steps::<L>::new(blank);
+    run(alloc, words, tree, input, out, &mut steps)
+}
+
+// The line of a status on standard error.
+fn report(rt: &impl Eprint, status: Status) -> io::Result<()> {
+    match status {
+        Status::Done | Status::Findings => Ok(()),
+        Status::Usage => eprintln!(rt; "semscan: usage"),
+        Status::Memory => eprintln!(rt; "semscan: out of memory"),
+        Status::InputFault => eprintln!(rt; "semscan: input failed"),
+        Status::OutputFault => eprintln!(rt; "semscan: output failed"),
+        Status::TreeFault => eprintln!(rt; "semscan: folder failed"),
+        Status::OverLimit(_, count) => eprintln!(rt; "semscan: over limit {count}"),
+        Status::TooMany(most) => eprintln!(rt; "semscan: more than {most}"),
+        Status::NoSuchPath => eprintln!(rt; "semscan: no config"),
+        Status::BadTarget => eprintln!(rt; "semscan: no tree"),
+        Status::BadPattern => eprintln!(rt; "semscan: no pattern"),
+    }
+}
+
+#[cfg(test)]
+mod scan_tests;
+#[cfg(test)]
+mod tests;

@@ -1,0 +1,109 @@
+//! The command `scan`: what rules find in a folder.
+
+ghost use Rattle.std.specs.Prelude.{◌≡◌, [], ◌∷◌, IfOk, IsSome};
+ghost use Rattle.scan_world.specs.Faults.{Rose};
+ghost use Rattle.scan_world.specs.Trees.{KeepsFiles};
+ghost use Rattle.tree_match.specs.Ascending.{IsAscending};
+ghost use Rattle.wire_words.specs.Commands.{task_of};
+ghost use Rattle.scan_session.specs.Fresh.{file_cmp};
+ghost use Rattle.semscan.specs.Status.{IsAnswer, IsFinished, IsOfReport};
+ghost use Rattle.semscan.specs.Ways.{Printed, PrintedFront, IsOnlyEnd};
+ghost use Rattle.semscan.specs.Scan.{status_of, ReportEnds, IsOneReport, Scans};
+
+use crate::config::read_config;
+use crate::status::Status;
+use crate::taking::read_files;
+use finding_json::{Report, report_text};
+use node_tree::{Bytes, List, Memory, Steps, Text};
+use scan_session::{RuleFile, ScanFault, scan_files};
+use scan_world::{Sink, Tree};
+use std::alloc::Global;
+use std::sync::ledger::Ledger;
+use wire_words::Job;
+
+// How a scan ends whose report was printed: findings show where the flag asks for that.
+fn end_of(flag: bool, report: &Report) -> Status
+    ensures { result ≡ status_of flag report.now.results }
+{
+    if flag && !report.results.is_empty() {
+        Status::Findings
+    } else {
+        Status::Done
+    }
+}
+
+// The rule files of a scan, of which there is one.
+fn one_file(alloc: Global, rules: RuleFile) -> Result<List<RuleFile>, Memory>
+    ensures { IfOk result (λ all. all ≡ rules ∷ []) }
+{
+    let mut all = List::new(alloc);
+    all.push(rules)?;
+    Ok(all)
+}
+
+// Prints the report of a scan of these files, in one write.
+fn print_report<K: Sink, L: Ledger>(
+    alloc: Global,
+    job: &Job<'_>,
+    files: &List<(Text, Bytes)>,
+    rules: RuleFile,
+    out: &mut K,
+    steps: &mut Steps<L>,
+) -> Status
+    requires { IsAscending file_cmp files.now }
+    ensures ends { IsAnswer result → Printed (ReportEnds job.now.flag job.now.most files.now rules) (K.written out.old) (K.written out.new) result }
+    ensures one_report { IsFinished result → IsOneReport files.now rules }
+    ensures cause { IsOfReport result }
+    ensures unwritten { result ≡ Status.Memory → K.written out.new ≡ K.written out.old }
+    ensures output_kept { IsAnswer result → K.faults out.new ≡ K.faults out.old }
+    ensures output_fault { result ≡ Status.OutputFault → Rose (K.faults out.old) (K.faults out.new) }
+    ensures front_written { result ≡ Status.OutputFault → PrintedFront (ReportEnds job.now.flag job.now.most files.now rules) (K.written out.old) (K.written out.new) }
+{
+    let Ok(all) = one_file(alloc, rules) else {
+        return Status::Memory;
+    };
+    let report = match scan_files(alloc, files, &all, job.most, steps) {
+        Ok(report) => report,
+        Err(ScanFault::Memory) => return Status::Memory,
+        Err(ScanFault::TooMany(most)) => return Status::TooMany(most),
+    };
+    let Ok(line) = report_text(alloc, &report) else {
+        return Status::Memory;
+    };
+    match out.write(line.as_slice()) {
+        Ok(()) => end_of(job.flag, &report),
+        Err(_) => Status::OutputFault,
+    }
+}
+
+/// Prints what the rules of the job's config find in the files under its prefix, as `specs/Scan.antt` says.
+pub fn run_scan<T: Tree, K: Sink, L: Ledger>(
+    alloc: Global,
+    job: &Job<'_>,
+    tree: &mut T,
+    out: &mut K,
+    steps: &mut Steps<L>,
+) -> Status
+    ensures ends { IsAnswer result → Printed (Scans (task_of job.now) (T.files tree.old)) (K.written out.old) (K.written out.new) result }
+    ensures only { IsAnswer result → IsSome (T.files tree.old) → IsOnlyEnd (Scans (task_of job.now) (T.files tree.old)) (K.written out.old) (K.written out.new) result }
+    ensures files_kept { KeepsFiles (T.files tree.old) (T.files tree.new) }
+    ensures tree_kept { IsAnswer result → T.faults tree.new ≡ T.faults tree.old }
+    ensures output_kept { IsAnswer result → K.faults out.new ≡ K.faults out.old }
+    ensures no_input { result ≡ Status.InputFault → ⊥ }
+    ensures tree_fault { result ≡ Status.TreeFault → Rose (T.faults tree.old) (T.faults tree.new) }
+    ensures absent { result ≡ Status.NoSuchPath → Rose (T.absences tree.old) (T.absences tree.new) }
+    ensures nothing_written { result ≡ Status.TreeFault → K.written out.new ≡ K.written out.old }
+    ensures unwritten { result ≡ Status.Memory → K.written out.new ≡ K.written out.old }
+    ensures output_fault { result ≡ Status.OutputFault → Rose (K.faults out.old) (K.faults out.new) }
+    ensures front_written { result ≡ Status.OutputFault → PrintedFront (Scans (task_of job.now) (T.files tree.old)) (K.written out.old) (K.written out.new) }
+{
+    let rules = match read_config(alloc, tree, job.config) {
+        Ok(rules) => rules,
+        Err(status) => return status,
+    };
+    let files = match read_files(alloc, tree, job.prefix) {
+        Ok(files) => files,
+        Err(status) => return status,
+    };
+    print_report(alloc, job, &files, rules, out, steps)
+}
