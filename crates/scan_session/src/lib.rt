@@ -13,6 +13,3 @@ mod scanning;
 pub use fault::ScanFault;
 pub use rule_file::{RuleContent, RuleFile, read_rule_file};
 pub use scanning::scan_files;
-
-#[cfg(test)]
-mod tests;

@@ -17,7 +17,7 @@ use Rattle.semscan.proofs.Limits.{bytes_of, limit_after}
 use Rattle.semscan.specs.Config.{IsConfig}
 use Rattle.semscan.proofs.Paths.{Below, tail_ascends, first_below, ascends_on, one_list}
 
-Path : Type 0
+abbrev pub Path : Type 0
 Path = List ℕ
 
 -- ---- a tree that keeps its files tells of them as before
@@ -72,7 +72,7 @@ end_before told now prefix status h (files, are, e) = (files, files_before told 
 taken_on : (xs ys ts us : List Path) → AreTaken xs ts → AreTaken ys us → AreTaken (xs ++ ys) (ts ++ us)
 taken_on [] ys ts us h k = let P : List Path → Type 0 = λ l. AreTaken ys (l ++ us) in subst P (sym h) k
 taken_on (x ∷ xs) ys ts us (inl (is, (rest, e, r))) k = inl (is, (rest ++ us, ap (λ (l : List Path). l ++ us) e, taken_on xs ys rest us r k))
-taken_on (x ∷ xs) ys ts us (inr (no, r)) k = inr (no, taken_on xs ys ts us r k)
+taken_on (x ∷ xs) ys ts us (inr (nay, r)) k = inr (nay, taken_on xs ys ts us r k)
 
 module _ (paths taken : List Path) (i : ℕ) (x d : Path) (lt : i < length paths) (is : x ≡ get_or paths i d) (so_far : AreTaken (take i paths) taken) where
   whole : take (i + 1) paths ≡ take i paths ++ x ∷ []
@@ -82,10 +82,10 @@ module _ (paths taken : List Path) (i : ℕ) (x d : Path) (lt : i < length paths
   one_taken t = let P : List Path → Type 0 = λ l. AreTaken l (taken ++ x ∷ []) in subst P (sym whole) (taken_on (take i paths) (x ∷ []) taken (x ∷ []) so_far (inl (t, ([], refl, refl))))
 
   pub one_passed : (IsTaken x → ⊥) → AreTaken (take (i + 1) paths) taken
-  one_passed no =
+  one_passed nay =
       let P : List Path → Type 0 = λ l. AreTaken l taken in
       let Q : List Path → Type 0 = λ l. AreTaken (take i paths ++ x ∷ []) l in
-      subst P (sym whole) (subst Q (append-nil taken) (taken_on (take i paths) (x ∷ []) taken [] so_far (inr (no, refl))))
+      subst P (sym whole) (subst Q (append-nil taken) (taken_on (take i paths) (x ∷ []) taken [] so_far (inr (nay, refl))))
 
 read_on : (told : Option Files) (xs ys : List Path) (fs gs : List File) → AreRead told xs fs → AreRead told ys gs → AreRead told (xs ++ ys) (fs ++ gs)
 read_on told [] ys fs gs h k = let P : List File → Type 0 = λ l. AreRead told ys (l ++ gs) in subst P (sym h) k
@@ -175,14 +175,14 @@ module _ (told now : Option Files) (kept : KeepsFiles told now) (prefix : Path) 
 taken_below : (x : Path) (xs ts : List Path) → Below x xs → AreTaken xs ts → Below x ts
 taken_below x [] ts below h = let P : List Path → Type 0 = λ l. Below x l in subst P (sym h) tt
 taken_below x (y ∷ ys) ts below (inl (is, (rest, e, r))) = let P : List Path → Type 0 = λ l. Below x l in subst P (sym e) (below.0, taken_below x ys rest below.1 r)
-taken_below x (y ∷ ys) ts below (inr (no, r)) = taken_below x ys ts below.1 r
+taken_below x (y ∷ ys) ts below (inr (nay, r)) = taken_below x ys ts below.1 r
 
 taken_ascend : (xs ts : List Path) → PathsAscend xs → AreTaken xs ts → PathsAscend ts
 taken_ascend [] ts up h = let P : List Path → Type 0 = λ l. PathsAscend l in subst P (sym h) tt
 taken_ascend (x ∷ xs) ts up (inl (is, (rest, e, r))) =
     let P : List Path → Type 0 = λ l. PathsAscend l in
     subst P (sym e) (ascends_on x rest (taken_below x xs rest (first_below x xs up) r) (taken_ascend xs rest (tail_ascends x xs up) r))
-taken_ascend (x ∷ xs) ts up (inr (no, r)) = taken_ascend xs ts (tail_ascends x xs up) r
+taken_ascend (x ∷ xs) ts up (inr (nay, r)) = taken_ascend xs ts (tail_ascends x xs up) r
 
 -- the path is below those of all these files
 abbrev FileBelow : Path → List File → Type 0
@@ -216,9 +216,9 @@ one_listing map prefix xs ys x y = one_list xs ys x.ordered y.ordered (λ p h. (
 taken_once : (xs ts us : List Path) → AreTaken xs ts → AreTaken xs us → us ≡ ts
 taken_once [] ts us h k = k ∙ sym h
 taken_once (x ∷ xs) ts us (inl (is, (rest, e, r))) (inl (is', (rest', e', r'))) = e' ∙ ap (λ (l : List Path). x ∷ l) (taken_once xs rest rest' r r') ∙ sym e
-taken_once (x ∷ xs) ts us (inl (is, _)) (inr (no, _)) = absurd (no is)
-taken_once (x ∷ xs) ts us (inr (no, _)) (inl (is, _)) = absurd (no is)
-taken_once (x ∷ xs) ts us (inr (no, r)) (inr (no', r')) = taken_once xs ts us r r'
+taken_once (x ∷ xs) ts us (inl (is, _)) (inr (nay, _)) = absurd (nay is)
+taken_once (x ∷ xs) ts us (inr (nay, _)) (inl (is, _)) = absurd (nay is)
+taken_once (x ∷ xs) ts us (inr (nay, r)) (inr (nay', r')) = taken_once xs ts us r r'
 
 one_whole : (a b : List ℕ) → Some a ≡ Some b → a ≡ b
 one_whole a b e = cc

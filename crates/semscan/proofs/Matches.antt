@@ -94,10 +94,10 @@ only_read lang bytes view only tree f = only tree f.is_tree
 
 -- bytes that are opened as no file of the language are none
 pub none_opened : (lang : Lang) (bytes : List ℕ) (o : Opened) → ((view : FileView) → o ≡ opened.Read view → ⊥) → length bytes ≤ 1000000 → IsOpened lang bytes o → HasNoFile lang bytes
-none_opened lang bytes opened.TooLarge no small large tree f = absurd (omega arith)
-none_opened lang bytes opened.NotUtf8 no small none tree f = none.1 f.is_text.1
-none_opened lang bytes (opened.NoTree view) no small none tree f = none.1 tree f.is_tree
-none_opened lang bytes (opened.Read view) no small is tree f = no view refl
+none_opened lang bytes opened.TooLarge nay small large tree f = absurd (omega arith)
+none_opened lang bytes opened.NotUtf8 nay small none tree f = none.1 f.is_text.1
+none_opened lang bytes (opened.NoTree view) nay small none tree f = none.1 tree f.is_tree
+none_opened lang bytes (opened.Read view) nay small is tree f = nay view refl
 
 -- ---- a match
 
@@ -115,7 +115,7 @@ module _ (lang : Lang) (text input : List ℕ) where
   match_once _ _ _ _ settled (over_limit p is long) (over_limit _ _ _) = (refl, refl)
   match_once _ _ _ _ settled (over_limit p is long) (bad_target _ _ small _) = absurd (omega arith)
   match_once _ _ _ _ settled (over_limit p is long) (searched _ tree _ _ _ file _) = absurd (omega (arith, file_small lang input tree file))
-  match_once _ _ _ _ settled (bad_target p is small none) (bad_pattern no) = absurd (no p is)
+  match_once _ _ _ _ settled (bad_target p is small none) (bad_pattern nay) = absurd (nay p is)
   match_once _ _ _ _ settled (bad_target p is small none) (over_limit _ _ long) = absurd (omega arith)
   match_once _ _ _ _ settled (bad_target p is small none) (bad_target _ _ _ _) = (refl, refl)
   match_once _ _ _ _ settled (bad_target p is small none) (searched _ tree _ _ _ file _) = absurd (none tree file)
@@ -177,7 +177,7 @@ pub unprinted : (lang : Lang) (text : List ℕ) (left w : Option (List ℕ)) (s 
 unprinted lang text left w s u = record { lines = []; ends = (u.input, u.told, u.ends); printed = nothing_written w }
 
 pub only_unprinted : (lang : Lang) (text : List ℕ) (left w : Option (List ℕ)) (s : Status) → (HasSearched s → ⊥) → Unprinted lang text left s → IsSome left → IsOnlyEnd (Matches lang text left) w w s
-only_unprinted lang text left w s no u = only_match lang text u.input left w w s [] u.told (λ h. absurd (no h)) u.ends (nothing_written w)
+only_unprinted lang text left w s nay u = only_match lang text u.input left w w s [] u.told (λ h. absurd (nay h)) u.ends (nothing_written w)
 
 pub ends_bad_pattern : (lang : Lang) (text : List ℕ) (left : Option (List ℕ)) → HasNoPattern lang text → Unprinted lang text left BadPattern
 ends_bad_pattern lang text left none = let i = some_input left in record { input = i.0; told = i.1; ends = bad_pattern none }

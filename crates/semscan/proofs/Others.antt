@@ -38,11 +38,11 @@ pub other_files : (rule_files : List RuleFile) (before after : List File) (file 
     → (r : Reported) → (r.path ≡ file.0 → ⊥) → Among more.results r ↔ Among less.results r
 other_files rule_files before after file more less a b r apart = (
   λ h. let f = (a.results.exact r).0 h in
-  elim (one_of before after file f.0 f.1) [
-    | inl e ↦ absurd (apart (path_is (running rule_files) f.0 r f.2 ∙ ap (λ (x : File). x.0) (sym e)))
-    | inr k ↦ (b.results.exact r).1 (f.0, k, f.2)
-  ],
-  λ h. let f = (b.results.exact r).0 h in (a.results.exact r).1 (f.0, still_there before after file f.0 f.1, f.2)
+      elim (one_of before after file f.0 f.1) [
+        | inl e ↦ absurd (apart (path_is (running rule_files) f.0 r f.2 ∙ ap (λ (x : File). x.0) (sym e)))
+        | inr k ↦ (b.results.exact r).1 (f.0, k, f.2)
+      ],
+  λ h. let f = (b.results.exact r).0 h in (a.results.exact r).1 (f.0, still_there before after file f.0 f.1, f.2),
 )
 
 -- ---- one entry more that is no rule

@@ -1,5 +1,5 @@
 -- Paths in order, each once.
-use Rattle.std.proofs.Common.{◌≡◌, ◌⊎◌, inl, inr, ℕ, zero, suc, ◌<◌, List, [], ◌∷◌, ◌++◌, length, get_or, Contains, refl, sym, ap, ◌∙◌, subst, arith}
+use Rattle.std.proofs.Common.{◌≡◌, ◌⊎◌, inl, inr, ℕ, zero, suc, ◌+◌, ◌<◌, List, [], ◌∷◌, ◌++◌, length, get_or, Contains, refl, sym, ap, ◌∙◌, subst, arith}
 use Rattle.std.specs.declared.cmp.Ordering.{Ordering}
 use Rattle.std.specs.declared.cmp.Ordering.TheVariants.{Less, Equal, Greater}
 use Rattle.std.specs.Ordering.{nat_cmp, ordering_reverse}
@@ -9,7 +9,7 @@ use Rattle.node_tree.proofs.Orders.{IsOrder, nat_order, lists_order}
 use Rattle.meta_bind.proofs.Chains.{Follows, nat_chains, lists_chain}
 use Rattle.scan_world.specs.Files.{IsUnder, path_cmp, PathsAscend}
 
-abbrev Path : Type 0
+abbrev pub Path : Type 0
 Path = List ℕ
 
 pub path_below : (x y z : Path) → path_cmp x y ≡ Less → path_cmp y z ≡ Less → path_cmp x z ≡ Less

@@ -1,13 +1,15 @@
 -- What a config ends a scan with is one thing.
 use Rattle.std.proofs.Common.{◌≡◌, ℕ, ◌<◌, ◌≤◌, List, length, refl, sym, ap, ◌∙◌, subst, arith}
-use Rattle.std.specs.Prelude.{Option, Some, None}
+use Rattle.std.specs.Prelude.{Option, Some, None, Result, Ok, Err, IfErr}
+use Rattle.scan_world.specs.Files.{Files}
+use Rattle.scan_world.specs.Trees.{HasFront}
 use Rattle.scan_session.specs.declared.rule_file.RuleFile.{RuleFile}
 use Rattle.scan_session.specs.RuleFiles.{IsRuleFile}
 use Rattle.semscan.specs.declared.status.Status.{Status}
 use Rattle.semscan.specs.declared.status.Status.TheVariants as statuses
 use Rattle.semscan.specs.declared.status.LimitKind.TheVariants.{RuleBytes, Rules}
 use Rattle.semscan.specs.Status.{HasReadingCause, IsOfLimit}
-use Rattle.semscan.specs.Config.{entry_count, IsRules, ConfigEnds, absent, too_long, too_many_rules, IsOneFile}
+use Rattle.semscan.specs.Config.{entry_count, IsRules, ConfigEnds, absent, too_long, too_many_rules, IsOneFile, HasConfigEnd}
 
 -- bytes of which one rule file was read, and no other, are one rule file
 pub one_file : (path bytes : List ℕ) (rules : RuleFile) → ((f : RuleFile) → IsRuleFile path bytes f → rules ≡ f) → IsOneFile path (Some bytes)
@@ -77,3 +79,15 @@ limit_cause f f' (statuses.TooMany n) e h = absurd h
 limit_cause f f' statuses.NoSuchPath e h = absurd h
 limit_cause f f' statuses.BadTarget e h = absurd h
 limit_cause f f' statuses.BadPattern e h = absurd h
+
+-- a file of at most 262,145 bytes ends a scan as these bytes end it
+pub config_end : (told : Option Files) (path bytes slice : List ℕ) → slice ≡ bytes → length bytes ≤ 262145 → HasFront told path 262145 bytes → (s : Status) → ConfigEnds path (Some slice) s → IsOneFile path (Some slice) → HasConfigEnd told path s
+config_end told path bytes slice same short front s ends one =
+    let E : List ℕ → Type 0 = λ l. ConfigEnds path (Some l) s in
+    let O : List ℕ → Type 0 = λ l. IsOneFile path (Some l) in
+    record { config = Some bytes; is_config = (short, front); ends = subst E same ends; one_file = subst O same one }
+
+-- what two facts of an error say together
+pub both_of_err : {A E : Type 0} (r : Result A E) (P Q R : E → Type 0) → ((e : E) → P e → Q e → R e) → IfErr r P → IfErr r Q → IfErr r R
+both_of_err (Ok a) P Q R f p q = p
+both_of_err (Err e) P Q R f p q = f e p q

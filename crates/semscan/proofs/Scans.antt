@@ -156,7 +156,7 @@ module _ (task : Task) (told : Option Files) (rules : RuleFile) (h : HasRules to
   ends_by_limit w status (files, are, e) = record { lines = []; ends = with_rules h.config rules files status [] h.is_config h.are_rules are (over_limit status e); printed = nothing_written w }
 
   pub only_limit : (w : Option (List ℕ)) (status : Status) → (IsFinished status → ⊥) → FilesEnd told task.prefix status → IsSome told → IsOnlyEnd (Scans task told) w w status
-  only_limit w status no (files, are, e) = only_files task h.config h.one_file told rules files w w status [] h.is_config h.are_rules are (λ f. absurd (no f)) (over_limit status e) (nothing_written w)
+  only_limit w status nay (files, are, e) = only_files task h.config h.one_file told rules files w w status [] h.is_config h.are_rules are (λ f. absurd (nay f)) (over_limit status e) (nothing_written w)
 
   module _ (files : List File) (are : AreFiles told task.prefix files) (within : limit_end 0 0 files ≡ None) where
     -- by what the rules find

@@ -44,7 +44,7 @@ pub data ScanEnds (task : Task) (rules : RuleFile) (files : List File) : Status 
 pub data Scans (task : Task) (told : Option Files) : Status → List (List ℕ) → Type 0 where
   no_rules : (config : Option (List ℕ)) (status : Status) → IsConfig told task.config config → ConfigEnds task.config config status → Scans task told status []
   with_rules : (config : Option (List ℕ)) (rules : RuleFile) (files : List File) (status : Status) (lines : List (List ℕ))
-    → IsConfig told task.config config → IsRules task.config config rules → AreFiles told task.prefix files → ScanEnds task rules files status lines → Scans task told status lines
+      → IsConfig told task.config config → IsRules task.config config rules → AreFiles told task.prefix files → ScanEnds task rules files status lines → Scans task told status lines
 
 -- the files and the rules give one report at most
 abbrev pub IsOneReport : List File → RuleFile → Type 0

@@ -26,10 +26,7 @@ fn rules_of(alloc: Global, path: &str, bytes: &[u8]) -> Result<RuleFile, Status>
     ensures cause { IfErr result IsOfLimit }
 {
     if bytes.len() > MOST_BYTES {
-        return Err(Status::OverLimit(
-            LimitKind::RuleBytes,
-            MOST_BYTES as u64 + 1,
-        ));
+        return Err(Status::OverLimit(LimitKind::RuleBytes, MOST_BYTES as u64 + 1));
     }
     let rules = read_rule_file(alloc, path, bytes)?;
     let entries = rules.entries();

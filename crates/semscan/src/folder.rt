@@ -9,10 +9,9 @@ use path_glob::path_ok;
 use scan_world::{Tree, TreeFault, is_under};
 use std::alloc::Global;
 use std::cmp::Ordering;
-use std::fs;
 use std::fs::{Files, Metadata};
-use std::io;
 use std::io::{ErrorKind, Read};
+use std::{fs, io};
 
 const PIECE: usize = 16384;
 
@@ -114,7 +113,9 @@ impl Search {
                 Err(e) => return Err(e),
             };
             let path = path_in(rt.alloc(), folder, entry.file_name())?;
-            if path_ok(&path) && let Some(metadata) = found(entry.metadata())? {
+            if path_ok(&path)
+                && let Some(metadata) = found(entry.metadata())?
+            {
                 self.add(path, &metadata)?;
             }
         }

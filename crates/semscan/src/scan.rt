@@ -65,7 +65,7 @@ fn print_report<K: Sink, L: Ledger>(
     let report = match scan_files(alloc, files, &all, job.most, steps) {
         Ok(report) => report,
         Err(ScanFault::Memory) => return Status::Memory,
-        Err(ScanFault::TooMany(most)) => return Status::TooMany(most),
+        Err(ScanFault::TooMany(_)) => return Status::TooMany(job.most),
     };
     let Ok(line) = report_text(alloc, &report) else {
         return Status::Memory;

@@ -19,7 +19,8 @@ const ALL: [&str; 4] = ["scan", "--config", "r.yaml", "."];
 const NOTHING: &[u8] = b"{\"notices\":[],\"results\":[]}\n";
 
 // A rule that finds the calls of `f`.
-const CALLS: &[u8] = b"rules:\n- id: p\n  languages: [python]\n  severity: INFO\n  message: m\n  pattern: f($X)\n";
+const CALLS: &[u8] =
+    b"rules:\n- id: p\n  languages: [python]\n  severity: INFO\n  message: m\n  pattern: f($X)\n";
 
 // The numbers of the calls that fail.
 fn calls(alloc: Global, failing: &[u32]) -> Result<List<u32>, Fail> {
@@ -105,7 +106,8 @@ fn joins_patterns(rt: HostRuntime) -> Result<(), Fail> {
     let first = "  - pattern: |\n      a()\n      ...\n      c()\n";
     let second = "  - pattern: |\n      b()\n      ...\n      d()\n";
     let third = "  - pattern: c()\n";
-    let printed = b"{\"notices\":[],\"results\":[{\"check_id\":\"p\",\"end\":{\"col\":4,\"line\":3,\"offset\":11},\"extra\":{\"message\":\"m\",\"metavars\":{},\"severity\":\"INFO\"},\"path\":\"a.py\",\"start\":{\"col\":1,\"line\":3,\"offset\":8}}]}\n";
+    let printed =
+        b"{\"notices\":[],\"results\":[{\"check_id\":\"p\",\"end\":{\"col\":4,\"line\":3,\"offset\":11},\"extra\":{\"message\":\"m\",\"metavars\":{},\"severity\":\"INFO\"},\"path\":\"a.py\",\"start\":{\"col\":1,\"line\":3,\"offset\":8}}]}\n";
     let alloc = rt.alloc();
     let forth = format!(in alloc; "  patterns:\n{first}{second}{third}")?;
     assert!(rt; finds(alloc, forth.as_str(), file, printed)?);
@@ -118,20 +120,29 @@ fn joins_patterns(rt: HostRuntime) -> Result<(), Fail> {
 
 #[test]
 fn removes_by_patterns(rt: HostRuntime) -> Result<(), Fail> {
-    let formula =
-        "  patterns:\n  - pattern: os.system($C)\n  - pattern-not: os.system(\"...\")\n";
-    let printed = b"{\"notices\":[],\"results\":[{\"check_id\":\"p\",\"end\":{\"col\":13,\"line\":2,\"offset\":28},\"extra\":{\"message\":\"m\",\"metavars\":{\"$C\":[26,27]},\"severity\":\"INFO\"},\"path\":\"a.py\",\"start\":{\"col\":1,\"line\":2,\"offset\":16}}]}\n";
-    assert!(rt; finds(rt.alloc(), formula, b"os.system(\"ls\")\nos.system(c)\n", printed)?);
+    let formula = "  patterns:\n  - pattern: os.system($C)\n  - pattern-not: os.system(\"...\")\n";
+    let printed =
+        b"{\"notices\":[],\"results\":[{\"check_id\":\"p\",\"end\":{\"col\":13,\"line\":2,\"offset\":28},\"extra\":{\"message\":\"m\",\"metavars\":{\"$C\":[26,27]},\"severity\":\"INFO\"},\"path\":\"a.py\",\"start\":{\"col\":1,\"line\":2,\"offset\":16}}]}\n";
+    assert!(rt;
+        finds(
+            rt.alloc(),
+            formula,
+            b"os.system(\"ls\")\nos.system(c)\n",
+            printed
+        )?
+    );
     Ok(())
 }
 
 #[test]
 fn focuses_and_looks_inside(rt: HostRuntime) -> Result<(), Fail> {
     let focus = "  patterns:\n  - pattern: f($X)\n  - focus-metavariable: $X\n";
-    let printed = b"{\"notices\":[],\"results\":[{\"check_id\":\"p\",\"end\":{\"col\":4,\"line\":1,\"offset\":3},\"extra\":{\"message\":\"m\",\"metavars\":{\"$X\":[2,3]},\"severity\":\"INFO\"},\"path\":\"a.py\",\"start\":{\"col\":3,\"line\":1,\"offset\":2}}]}\n";
+    let printed =
+        b"{\"notices\":[],\"results\":[{\"check_id\":\"p\",\"end\":{\"col\":4,\"line\":1,\"offset\":3},\"extra\":{\"message\":\"m\",\"metavars\":{\"$X\":[2,3]},\"severity\":\"INFO\"},\"path\":\"a.py\",\"start\":{\"col\":3,\"line\":1,\"offset\":2}}]}\n";
     assert!(rt; finds(rt.alloc(), focus, b"f(1)\n", printed)?);
     let inside = "  patterns:\n  - pattern: f($X)\n  - pattern-inside: \"def $F(...): ...\"\n";
-    let printed = b"{\"notices\":[],\"results\":[{\"check_id\":\"p\",\"end\":{\"col\":9,\"line\":2,\"offset\":17},\"extra\":{\"message\":\"m\",\"metavars\":{\"$F\":[4,5],\"$X\":[15,16]},\"severity\":\"INFO\"},\"path\":\"a.py\",\"start\":{\"col\":5,\"line\":2,\"offset\":13}}]}\n";
+    let printed =
+        b"{\"notices\":[],\"results\":[{\"check_id\":\"p\",\"end\":{\"col\":9,\"line\":2,\"offset\":17},\"extra\":{\"message\":\"m\",\"metavars\":{\"$F\":[4,5],\"$X\":[15,16]},\"severity\":\"INFO\"},\"path\":\"a.py\",\"start\":{\"col\":5,\"line\":2,\"offset\":13}}]}\n";
     assert!(rt; finds(rt.alloc(), inside, b"def g():\n    f(1)\nf(2)\n", printed)?);
     Ok(())
 }
@@ -147,7 +158,8 @@ fn negated(alloc: Global, count: usize) -> Result<Vec<u8>, Fail> {
 fn names_a_crowded_set(rt: HostRuntime) -> Result<(), Fail> {
     let alloc = rt.alloc();
     let formula = "  patterns:\n  - pattern: $X\n  - pattern: $Y\n";
-    let printed = b"{\"notices\":[{\"detail\":\"1\",\"kind\":\"Crowded\",\"path\":\"a.py\",\"rule\":\"p\"}],\"results\":[]}\n";
+    let printed =
+        b"{\"notices\":[{\"detail\":\"1\",\"kind\":\"Crowded\",\"path\":\"a.py\",\"rule\":\"p\"}],\"results\":[]}\n";
     assert!(rt; finds(alloc, formula, &negated(alloc, 100)?, printed)?);
     let rule = rule(alloc, formula)?;
     let bytes = negated(alloc, 99)?;
@@ -156,7 +168,11 @@ fn names_a_crowded_set(rt: HostRuntime) -> Result<(), Fail> {
     let (status, out) = run_over(alloc, &ALL, &mut tree, &[])?;
     assert_eq!(rt; status, Status::Done);
     let key = b"\"check_id\"".as_slice();
-    let found = out.as_slice().windows(key.len()).filter(|w| *w == key).count();
+    let found = out
+        .as_slice()
+        .windows(key.len())
+        .filter(|w| *w == key)
+        .count();
     assert_eq!(rt; found, 10_000);
     Ok(())
 }
@@ -164,7 +180,8 @@ fn names_a_crowded_set(rt: HostRuntime) -> Result<(), Fail> {
 #[test]
 fn fills_in_fixes(rt: HostRuntime) -> Result<(), Fail> {
     let formula = "  pattern: f($X)\n  fix: g($X)\n";
-    let printed = b"{\"notices\":[],\"results\":[{\"check_id\":\"p\",\"end\":{\"col\":8,\"line\":1,\"offset\":7},\"extra\":{\"fix\":\"g(f(1))\",\"message\":\"m\",\"metavars\":{\"$X\":[2,6]},\"severity\":\"INFO\"},\"path\":\"a.py\",\"start\":{\"col\":1,\"line\":1,\"offset\":0}},{\"check_id\":\"p\",\"end\":{\"col\":7,\"line\":1,\"offset\":6},\"extra\":{\"fix\":\"g(1)\",\"message\":\"m\",\"metavars\":{\"$X\":[4,5]},\"severity\":\"INFO\"},\"path\":\"a.py\",\"start\":{\"col\":3,\"line\":1,\"offset\":2}},{\"check_id\":\"p\",\"end\":{\"col\":5,\"line\":2,\"offset\":12},\"extra\":{\"fix\":\"g(2)\",\"message\":\"m\",\"metavars\":{\"$X\":[10,11]},\"severity\":\"INFO\"},\"path\":\"a.py\",\"start\":{\"col\":1,\"line\":2,\"offset\":8}},{\"check_id\":\"p\",\"end\":{\"col\":9,\"line\":3,\"offset\":21},\"extra\":{\"fix\":\"g(3)\",\"message\":\"m\",\"metavars\":{\"$X\":[18,19]},\"severity\":\"INFO\"},\"path\":\"a.py\",\"start\":{\"col\":1,\"line\":3,\"offset\":13}}]}\n";
+    let printed =
+        b"{\"notices\":[],\"results\":[{\"check_id\":\"p\",\"end\":{\"col\":8,\"line\":1,\"offset\":7},\"extra\":{\"fix\":\"g(f(1))\",\"message\":\"m\",\"metavars\":{\"$X\":[2,6]},\"severity\":\"INFO\"},\"path\":\"a.py\",\"start\":{\"col\":1,\"line\":1,\"offset\":0}},{\"check_id\":\"p\",\"end\":{\"col\":7,\"line\":1,\"offset\":6},\"extra\":{\"fix\":\"g(1)\",\"message\":\"m\",\"metavars\":{\"$X\":[4,5]},\"severity\":\"INFO\"},\"path\":\"a.py\",\"start\":{\"col\":3,\"line\":1,\"offset\":2}},{\"check_id\":\"p\",\"end\":{\"col\":5,\"line\":2,\"offset\":12},\"extra\":{\"fix\":\"g(2)\",\"message\":\"m\",\"metavars\":{\"$X\":[10,11]},\"severity\":\"INFO\"},\"path\":\"a.py\",\"start\":{\"col\":1,\"line\":2,\"offset\":8}},{\"check_id\":\"p\",\"end\":{\"col\":9,\"line\":3,\"offset\":21},\"extra\":{\"fix\":\"g(3)\",\"message\":\"m\",\"metavars\":{\"$X\":[18,19]},\"severity\":\"INFO\"},\"path\":\"a.py\",\"start\":{\"col\":1,\"line\":3,\"offset\":13}}]}\n";
     assert!(rt; finds(rt.alloc(), formula, b"f(f(1))\nf(2)\nf (  3 )\n", printed)?);
     Ok(())
 }
@@ -172,10 +189,17 @@ fn fills_in_fixes(rt: HostRuntime) -> Result<(), Fail> {
 #[test]
 fn keeps_to_the_most_findings(rt: HostRuntime) -> Result<(), Fail> {
     let words = ["scan", "--max", "3", "--config", "r.yaml", "a.py"];
-    let three = [("r.yaml", CALLS), ("a.py", b"f(1)\nf(1)\nf(1)\n".as_slice())];
-    let printed = b"{\"notices\":[],\"results\":[{\"check_id\":\"p\",\"end\":{\"col\":5,\"line\":1,\"offset\":4},\"extra\":{\"message\":\"m\",\"metavars\":{\"$X\":[2,3]},\"severity\":\"INFO\"},\"path\":\"a.py\",\"start\":{\"col\":1,\"line\":1,\"offset\":0}},{\"check_id\":\"p\",\"end\":{\"col\":5,\"line\":2,\"offset\":9},\"extra\":{\"message\":\"m\",\"metavars\":{\"$X\":[7,8]},\"severity\":\"INFO\"},\"path\":\"a.py\",\"start\":{\"col\":1,\"line\":2,\"offset\":5}},{\"check_id\":\"p\",\"end\":{\"col\":5,\"line\":3,\"offset\":14},\"extra\":{\"message\":\"m\",\"metavars\":{\"$X\":[12,13]},\"severity\":\"INFO\"},\"path\":\"a.py\",\"start\":{\"col\":1,\"line\":3,\"offset\":10}}]}\n";
+    let three = [
+        ("r.yaml", CALLS),
+        ("a.py", b"f(1)\nf(1)\nf(1)\n".as_slice()),
+    ];
+    let printed =
+        b"{\"notices\":[],\"results\":[{\"check_id\":\"p\",\"end\":{\"col\":5,\"line\":1,\"offset\":4},\"extra\":{\"message\":\"m\",\"metavars\":{\"$X\":[2,3]},\"severity\":\"INFO\"},\"path\":\"a.py\",\"start\":{\"col\":1,\"line\":1,\"offset\":0}},{\"check_id\":\"p\",\"end\":{\"col\":5,\"line\":2,\"offset\":9},\"extra\":{\"message\":\"m\",\"metavars\":{\"$X\":[7,8]},\"severity\":\"INFO\"},\"path\":\"a.py\",\"start\":{\"col\":1,\"line\":2,\"offset\":5}},{\"check_id\":\"p\",\"end\":{\"col\":5,\"line\":3,\"offset\":14},\"extra\":{\"message\":\"m\",\"metavars\":{\"$X\":[12,13]},\"severity\":\"INFO\"},\"path\":\"a.py\",\"start\":{\"col\":1,\"line\":3,\"offset\":10}}]}\n";
     assert!(rt; gives(rt.alloc(), &words, &three, Status::Done, printed)?);
-    let four = [("r.yaml", CALLS), ("a.py", b"f(1)\nf(1)\nf(1)\nf(1)\n".as_slice())];
+    let four = [
+        ("r.yaml", CALLS),
+        ("a.py", b"f(1)\nf(1)\nf(1)\nf(1)\n".as_slice()),
+    ];
     assert!(rt; gives(rt.alloc(), &words, &four, Status::TooMany(3), b"")?);
     Ok(())
 }
@@ -183,14 +207,16 @@ fn keeps_to_the_most_findings(rt: HostRuntime) -> Result<(), Fail> {
 #[test]
 fn a_crowded_pattern_is_a_notice(rt: HostRuntime) -> Result<(), Fail> {
     let alloc = rt.alloc();
-    let rule = b"rules:\n- id: p\n  languages: [json]\n  severity: INFO\n  message: m\n  pattern: '0'\n";
+    let rule =
+        b"rules:\n- id: p\n  languages: [json]\n  severity: INFO\n  message: m\n  pattern: '0'\n";
     let mut zeros = String::from_str(alloc, "[0")?;
     for _ in 0..10_000 {
         zeros.push_str(",0")?;
     }
     zeros.push_str("]")?;
     let given = [("r.yaml", rule.as_slice()), ("a.json", zeros.as_bytes())];
-    let printed = b"{\"notices\":[{\"detail\":\"\",\"kind\":\"Crowded\",\"path\":\"a.json\",\"rule\":\"p\"}],\"results\":[]}\n";
+    let printed =
+        b"{\"notices\":[{\"detail\":\"\",\"kind\":\"Crowded\",\"path\":\"a.json\",\"rule\":\"p\"}],\"results\":[]}\n";
     assert!(rt; gives(alloc, &ALL, &given, Status::Done, printed)?);
     Ok(())
 }
@@ -200,7 +226,8 @@ fn findings_show_in_the_status(rt: HostRuntime) -> Result<(), Fail> {
     let alloc = rt.alloc();
     let words = ["scan", "--error", "--config", "r.yaml", "."];
     let given = [("r.yaml", CALLS), ("a.py", b"f(1)\n".as_slice())];
-    let printed = b"{\"notices\":[],\"results\":[{\"check_id\":\"p\",\"end\":{\"col\":5,\"line\":1,\"offset\":4},\"extra\":{\"message\":\"m\",\"metavars\":{\"$X\":[2,3]},\"severity\":\"INFO\"},\"path\":\"a.py\",\"start\":{\"col\":1,\"line\":1,\"offset\":0}}]}\n";
+    let printed =
+        b"{\"notices\":[],\"results\":[{\"check_id\":\"p\",\"end\":{\"col\":5,\"line\":1,\"offset\":4},\"extra\":{\"message\":\"m\",\"metavars\":{\"$X\":[2,3]},\"severity\":\"INFO\"},\"path\":\"a.py\",\"start\":{\"col\":1,\"line\":1,\"offset\":0}}]}\n";
     assert!(rt; gives(alloc, &words, &given, Status::Findings, printed)?);
     assert!(rt; gives(alloc, &ALL, &given, Status::Done, printed)?);
     let none = [("r.yaml", CALLS), ("a.py", b"g(1)\n".as_slice())];
@@ -213,7 +240,9 @@ fn goes_on_after_bad_files_and_rules(rt: HostRuntime) -> Result<(), Fail> {
     let alloc = rt.alloc();
     let mut rules = Vec::new(alloc);
     rules.extend_from_slice(CALLS)?;
-    rules.extend_from_slice(b"- id: q\n  languages: [python]\n  severity: INFO\n  message: m\n  patterns:\n  - pattern-foo: f($X)\n")?;
+    rules.extend_from_slice(
+        b"- id: q\n  languages: [python]\n  severity: INFO\n  message: m\n  patterns:\n  - pattern-foo: f($X)\n",
+    )?;
     let large = vec![in alloc; b'#'; 1_000_001]?;
     let given = [
         ("src/b.py", b"\xff".as_slice()),
@@ -223,7 +252,8 @@ fn goes_on_after_bad_files_and_rules(rt: HostRuntime) -> Result<(), Fail> {
         ("r.yaml", rules.as_slice()),
     ];
     let words = ["scan", "--config", "r.yaml", "src"];
-    let printed = b"{\"notices\":[{\"detail\":\"rules.1.patterns.0.pattern-foo\",\"kind\":\"UnknownKey\",\"path\":\"r.yaml\",\"rule\":\"q\"},{\"detail\":\"\",\"kind\":\"NotUtf8\",\"path\":\"src/b.py\",\"rule\":\"\"},{\"detail\":\"\",\"kind\":\"NoTree\",\"path\":\"src/c.c\",\"rule\":\"\"},{\"detail\":\"\",\"kind\":\"TooLarge\",\"path\":\"src/d.py\",\"rule\":\"\"}],\"results\":[{\"check_id\":\"p\",\"end\":{\"col\":5,\"line\":1,\"offset\":4},\"extra\":{\"message\":\"m\",\"metavars\":{\"$X\":[2,3]},\"severity\":\"INFO\"},\"path\":\"src/e.py\",\"start\":{\"col\":1,\"line\":1,\"offset\":0}}]}\n";
+    let printed =
+        b"{\"notices\":[{\"detail\":\"rules.1.patterns.0.pattern-foo\",\"kind\":\"UnknownKey\",\"path\":\"r.yaml\",\"rule\":\"q\"},{\"detail\":\"\",\"kind\":\"NotUtf8\",\"path\":\"src/b.py\",\"rule\":\"\"},{\"detail\":\"\",\"kind\":\"NoTree\",\"path\":\"src/c.c\",\"rule\":\"\"},{\"detail\":\"\",\"kind\":\"TooLarge\",\"path\":\"src/d.py\",\"rule\":\"\"}],\"results\":[{\"check_id\":\"p\",\"end\":{\"col\":5,\"line\":1,\"offset\":4},\"extra\":{\"message\":\"m\",\"metavars\":{\"$X\":[2,3]},\"severity\":\"INFO\"},\"path\":\"src/e.py\",\"start\":{\"col\":1,\"line\":1,\"offset\":0}}]}\n";
     assert!(rt; gives(alloc, &words, &given, Status::Done, printed)?);
     Ok(())
 }
@@ -231,10 +261,22 @@ fn goes_on_after_bad_files_and_rules(rt: HostRuntime) -> Result<(), Fail> {
 #[test]
 fn tells_of_bad_configs(rt: HostRuntime) -> Result<(), Fail> {
     let rows: [(&[u8], &[u8]); 4] = [
-        (b"rules: \xff\n", b"{\"notices\":[{\"detail\":\"\",\"kind\":\"NotUtf8\",\"path\":\"r.rules\",\"rule\":\"\"}],\"results\":[]}\n"),
-        (b"a: &x 1\n", b"{\"notices\":[{\"detail\":\"Anchor:1\",\"kind\":\"YamlProfile\",\"path\":\"r.rules\",\"rule\":\"\"}],\"results\":[]}\n"),
-        (b"a: 1\n  b: 2\n", b"{\"notices\":[{\"detail\":\"\",\"kind\":\"YamlNoValue\",\"path\":\"r.rules\",\"rule\":\"\"}],\"results\":[]}\n"),
-        (b"a: 1\n", b"{\"notices\":[{\"detail\":\"\",\"kind\":\"NoRules\",\"path\":\"r.rules\",\"rule\":\"\"}],\"results\":[]}\n"),
+        (
+            b"rules: \xff\n",
+            b"{\"notices\":[{\"detail\":\"\",\"kind\":\"NotUtf8\",\"path\":\"r.rules\",\"rule\":\"\"}],\"results\":[]}\n",
+        ),
+        (
+            b"a: &x 1\n",
+            b"{\"notices\":[{\"detail\":\"Anchor:1\",\"kind\":\"YamlProfile\",\"path\":\"r.rules\",\"rule\":\"\"}],\"results\":[]}\n",
+        ),
+        (
+            b"a: 1\n  b: 2\n",
+            b"{\"notices\":[{\"detail\":\"\",\"kind\":\"YamlNoValue\",\"path\":\"r.rules\",\"rule\":\"\"}],\"results\":[]}\n",
+        ),
+        (
+            b"a: 1\n",
+            b"{\"notices\":[{\"detail\":\"\",\"kind\":\"NoRules\",\"path\":\"r.rules\",\"rule\":\"\"}],\"results\":[]}\n",
+        ),
     ];
     let words = ["scan", "--config", "r.rules", "."];
     for (config, printed) in rows {

@@ -3,4 +3,4 @@ use Rattle.tree_match.specs.Placed.{IsLeafPlaced}
 use Rattle.judge_file.proofs.tests.leaves_of.Given as goal
 
 abbrev pub invariant-loop-pattern : goal.invariant-loop-pattern
-invariant-loop-pattern l = All (λ leaf. IsLeafPlaced l.view.bytes leaf) l.leaves
+invariant-loop-pattern g l = All (λ leaf. IsLeafPlaced l.view.bytes leaf) l.leaves

@@ -1,7 +1,7 @@
 use Rattle.std.proofs.Common.{Err, ap}
 use Rattle.std.specs.Prelude.{None}
 use Rattle.semscan.specs.Config.{absent}
-use Rattle.semscan.proofs.Rules.{no_file}
+use Rattle.semscan.proofs.Rules.{no_file, config_end, both_of_err}
 use Rattle.semscan.proofs.config.read_config.Goals as goal
 
 pub returns-in-Err-Absent-clause-ended : goal.returns-in-Err-Absent-clause-ended
@@ -11,3 +11,9 @@ returns-in-Err-Absent-clause-ended g c a = record {
   ends = absent;
   one_file = no_file c.args.path.now;
 }
+
+pub returns-in-Ok-clause-ended : goal.returns-in-Ok-clause-ended
+returns-in-Ok-clause-ended g c =
+    let told = g.T.Tree.files c.args.tree.now in
+    let short = c.in-Ok.ensures.bound in
+    both_of_err c.rules_of.result _ _ _ (λ s ends one a. config_end told c.args.path.now c.in-Ok.bytes c.as_slice.result.now c.as_slice.ensures short c.in-Ok.ensures.front s (ends a) (one a)) c.rules_of.ensures.ended c.rules_of.ensures.one_file_ended

@@ -2,6 +2,7 @@ use Rattle.std.proofs.Common.{ℕ, Some, arith, sym, subst}
 use Rattle.semscan.specs.declared.status.Status.TheVariants.{OverLimit}
 use Rattle.semscan.specs.declared.status.LimitKind.TheVariants.{Rules}
 use Rattle.semscan.specs.Config.{ConfigEnds, too_long, too_many_rules}
+use Rattle.semscan.proofs.Rules.{one_file}
 use Rattle.semscan.proofs.config.rules_of.Goals as goal
 
 pub returns-then-bytes-gt-MOST_BYTES-clause-ended : goal.returns-then-bytes-gt-MOST_BYTES-clause-ended
@@ -12,3 +13,9 @@ returns-then-entries-gt-MOST_RULES-clause-ended c a =
     let e = c.entries-entries.ensures in
     subst (λ (n : ℕ). ConfigEnds c.args.path.now (Some c.args.bytes.now) (OverLimit Rules n)) (sym e)
     (too_many_rules c.args.bytes.now c.in_ok-rules.rules (omega arith) c.in_ok-rules.ensures.file (omega (arith, e)))
+
+pub returns-then-entries-gt-MOST_RULES-clause-one_file_ended : goal.returns-then-entries-gt-MOST_RULES-clause-one_file_ended
+returns-then-entries-gt-MOST_RULES-clause-one_file_ended c a = one_file c.args.path.now c.args.bytes.now c.in_ok-rules.rules c.in_ok-rules.ensures.only
+
+pub returns-clause-one_file : goal.returns-clause-one_file
+returns-clause-one_file c = one_file c.args.path.now c.args.bytes.now c.in_ok-rules.rules c.in_ok-rules.ensures.only

@@ -68,42 +68,42 @@ returns-in-Some-Match-clause-whole_lines g c e =
     some_match (map string_bytes c.args.words.now.items) (g.S.Source.left c.args.input.now) (g.T.Tree.files c.args.tree.now) (g.K.Sink.written c.args.out.now) (g.K.Sink.written c.run_match.new.out) c.in-Some-Match.lang c.in-Some-Match.text.now is (c.run_match.ensures.whole_lines e)
 
 pub returns-in-Some-Match-clause-work : goal.returns-in-Some-Match-clause-work
-returns-in-Some-Match-clause-work g c no = c.run_match.ensures.work
+returns-in-Some-Match-clause-work g c nay = c.run_match.ensures.work
 
-pub returns-clause-ends : goal.returns-clause-ends
-returns-clause-ends g c a =
+pub returns-in-Some-Scan-clause-ends : goal.returns-in-Some-Scan-clause-ends
+returns-in-Some-Scan-clause-ends g c a =
     let is = asks (map string_bytes c.args.words.now.items) _ _ c.in-Some-Scan.field-0-is c.in-Some-Scan.ensures.read in
     ends_scan (map string_bytes c.args.words.now.items) (g.S.Source.left c.args.input.now) (g.T.Tree.files c.args.tree.now) (g.K.Sink.written c.args.out.now) (g.K.Sink.written c.run_scan.new.out) (task_of c.in-Some-Scan.job) is c.run_scan.result (c.run_scan.ensures.ends a)
 
-pub returns-clause-only : goal.returns-clause-only
-returns-clause-only g c a told =
+pub returns-in-Some-Scan-clause-only : goal.returns-in-Some-Scan-clause-only
+returns-in-Some-Scan-clause-only g c a told =
     let words = map string_bytes c.args.words.now.items in
     let is = asks words _ _ c.in-Some-Scan.field-0-is c.in-Some-Scan.ensures.read in
     only_scan words (g.S.Source.left c.args.input.now) (g.T.Tree.files c.args.tree.now) (g.K.Sink.written c.args.out.now) (g.K.Sink.written c.run_scan.new.out) (task_of c.in-Some-Scan.job) is (only_asks words _ _ c.in-Some-Scan.field-0-is c.in-Some-Scan.ensures.only) c.run_scan.result told (c.run_scan.ensures.only a)
 
-pub returns-clause-read_to_its_end : goal.returns-clause-read_to_its_end
-returns-clause-read_to_its_end g c ask =
+pub returns-in-Some-Scan-clause-read_to_its_end : goal.returns-in-Some-Scan-clause-read_to_its_end
+returns-in-Some-Scan-clause-read_to_its_end g c ask =
     let words = map string_bytes c.args.words.now.items in
     let is = asks words _ _ c.in-Some-Scan.field-0-is c.in-Some-Scan.ensures.read in
     let none : ⊥ = no_match words (g.S.Source.left c.args.input.now) (g.T.Tree.files c.args.tree.now) (g.K.Sink.written c.args.out.now) (g.K.Sink.written c.args.out.now) (task_of c.in-Some-Scan.job) is
     (only_asks words _ _ c.in-Some-Scan.field-0-is c.in-Some-Scan.ensures.only) ask in
     absurd none
 
-pub returns-clause-input_fault : goal.returns-clause-input_fault
-returns-clause-input_fault g c e = absurd (c.run_scan.ensures.no_input e)
+pub returns-in-Some-Scan-clause-input_fault : goal.returns-in-Some-Scan-clause-input_fault
+returns-in-Some-Scan-clause-input_fault g c e = absurd (c.run_scan.ensures.no_input e)
 
-pub returns-clause-nothing_written : goal.returns-clause-nothing_written
-returns-clause-nothing_written g c h = elim h [ inl e ↦ absurd (c.run_scan.ensures.no_input e) | inr e ↦ c.run_scan.ensures.nothing_written e ]
+pub returns-in-Some-Scan-clause-nothing_written : goal.returns-in-Some-Scan-clause-nothing_written
+returns-in-Some-Scan-clause-nothing_written g c h = elim h [ inl e ↦ absurd (c.run_scan.ensures.no_input e) | inr e ↦ c.run_scan.ensures.nothing_written e ]
 
-pub returns-clause-front_written : goal.returns-clause-front_written
-returns-clause-front_written g c e =
+pub returns-in-Some-Scan-clause-front_written : goal.returns-in-Some-Scan-clause-front_written
+returns-in-Some-Scan-clause-front_written g c e =
     let is = asks (map string_bytes c.args.words.now.items) _ _ c.in-Some-Scan.field-0-is c.in-Some-Scan.ensures.read in
     front_scan (map string_bytes c.args.words.now.items) (g.S.Source.left c.args.input.now) (g.T.Tree.files c.args.tree.now) (g.K.Sink.written c.args.out.now) (g.K.Sink.written c.run_scan.new.out) (task_of c.in-Some-Scan.job) is (c.run_scan.ensures.front_written e)
 
-pub returns-clause-whole_lines : goal.returns-clause-whole_lines
-returns-clause-whole_lines g c e = inl (c.run_scan.ensures.unwritten e)
+pub returns-in-Some-Scan-clause-whole_lines : goal.returns-in-Some-Scan-clause-whole_lines
+returns-in-Some-Scan-clause-whole_lines g c e = inl (c.run_scan.ensures.unwritten e)
 
-pub returns-clause-work : goal.returns-clause-work
-returns-clause-work g c no =
+pub returns-in-Some-Scan-clause-work : goal.returns-in-Some-Scan-clause-work
+returns-in-Some-Scan-clause-work g c nay =
     let is = asks (map string_bytes c.args.words.now.items) _ _ c.in-Some-Scan.field-0-is c.in-Some-Scan.ensures.read in
-    absurd (no (task_of c.in-Some-Scan.job) is)
+    absurd (nay (task_of c.in-Some-Scan.job) is)

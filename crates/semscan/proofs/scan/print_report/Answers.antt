@@ -1,4 +1,4 @@
-use Rattle.std.proofs.Common.{◌≡◌, ◌∙◌, ℕ, List, Err, sym, ap, subst}
+use Rattle.std.proofs.Common.{◌≡◌, ◌∙◌, ℕ, List, Err, refl, sym, ap, subst}
 use Rattle.std.specs.Io.KnownBytes.{Appends}
 use Rattle.scan_world.specs.Streams.{AppendsFront}
 use Rattle.semscan.proofs.Scans.{ends_too_many, ends_reported, front_reported, fresh_of_one, more_of_one, one_report, of_report}
@@ -6,8 +6,8 @@ use Rattle.semscan.proofs.scan.print_report.Goals as goal
 
 pub returns-in-Err-TooMany-clause-ends : goal.returns-in-Err-TooMany-clause-ends
 returns-in-Err-TooMany-clause-ends g c a =
-    let t = c.in-Err-TooMany.ensures.too_many c.in-Err-TooMany.most (ap Err c.in-Err-TooMany.field-0-is) in
-    ends_too_many c.args.job.now.flag c.args.job.now.most c.args.files.now c.args.rules _ c.in-Err-TooMany.most t.0 (more_of_one c.args.files.now c.args.rules c.in-Ok.all c.in-Ok.ensures c.args.job.now.most t.1)
+    let t = c.in-Err-TooMany.ensures.too_many _ (ap Err c.in-Err-TooMany.field-0-is) in
+    ends_too_many c.args.job.now.flag c.args.job.now.most c.args.files.now c.args.rules _ c.args.job.now.most refl (more_of_one c.args.files.now c.args.rules c.in-Ok.all c.in-Ok.ensures c.args.job.now.most t.1)
 
 pub returns-in-Ok-write-clause-ends : goal.returns-in-Ok-write-clause-ends
 returns-in-Ok-write-clause-ends g c a =

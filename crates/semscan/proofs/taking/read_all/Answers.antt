@@ -10,7 +10,7 @@ loop-path-preserved-in-Err-Absent g c =
     let h = c.loop-path.invariant in
     record {
       read = step_absent (g.T.Tree.files c.args.tree.now) (g.T.Tree.files c.loop-path.tree) h.kept c.as_slice-path-items.result.now c.loop-path.files c.loop-path.path-index c.path-item.result c.as_str.result.now c.loop-path-test.true c.path-item.is h.read c.as_str.ensures
-      (c.in-Err-Absent.ensures.absent (ap Err c.in-Err-Absent.field-0-is));
+          (c.in-Err-Absent.ensures.absent (ap Err c.in-Err-Absent.field-0-is));
       within = h.within;
       few = h.few;
       counted = h.counted;
@@ -40,7 +40,7 @@ loop-path-preserved g c =
     let counted = count_more c.loop-path.files c.push.new.self (c.in_ok-copy.field-0, c.in-Ok.bytes) c.len.result c.loop-path.total c.len-in-loop-path.result c.in_ok-total.total c.len.ensures h.counted h.within c.len-in-loop-path.ensures w.0 w.1 w.2 c.in_ok-push.ensures.ok in
     record {
       read = step_read (g.T.Tree.files c.args.tree.now) (g.T.Tree.files c.loop-path.tree) h.kept c.as_slice-path-items.result.now c.loop-path.files c.loop-path.path-index c.path-item.result c.as_str.result.now c.loop-path-test.true c.path-item.is h.read c.as_str.ensures
-      c.in-Ok.bytes c.in-Ok.ensures.bound c.in-Ok.ensures.front c.push.new.self c.in_ok-copy.field-0 c.in_ok-copy.ensures c.in_ok-push.ensures.ok;
+          c.in-Ok.bytes c.in-Ok.ensures.bound c.in-Ok.ensures.front c.push.new.self c.in_ok-copy.field-0 c.in_ok-copy.ensures c.in_ok-push.ensures.ok;
       within = counted.within;
       few = counted.few;
       counted = counted.counted;
