@@ -17,7 +17,7 @@ among_get (y ∷ ys) x (inr h) = let r = among_get ys x h in (suc r.0, r.1)
 abbrev pub FirstAscend : List Leaf → ℕ → Type 0
 FirstAscend leaves i = (k : ℕ) (m : Member) → k < i → InLeaf (slice_get leaves k) m → Ascends m
 
-split : (k i : ℕ) → k < i + 1 → (k < i) ⊎ (k ≡ i)
+pub split : (k i : ℕ) → k < i + 1 → (k < i) ⊎ (k ≡ i)
 split k i lt = grind (arith, lt)
 
 pub first_more : (leaves : List Leaf) (i : ℕ) (leaf : Leaf) → i < length leaves → leaf ≡ get_or leaves i leaf → ((m : Member) → InLeaf (Some leaf) m → Ascends m) → FirstAscend leaves i → FirstAscend leaves (i + 1)

@@ -21,3 +21,4 @@ pub mod Taking
 pub mod Given
 pub mod LeafNames
 pub mod Halving
+pub mod Spreads

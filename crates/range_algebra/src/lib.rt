@@ -15,6 +15,7 @@ mod part;
 mod range;
 mod scene;
 mod set;
+mod spread;
 mod state;
 
 pub use answer::eval;
