@@ -20,8 +20,8 @@ use Rattle.range_algebra.specs.Faults.{IsSeenFrom, IsFaultOf}
 
 -- ---- members one by one, and sets one by one
 
-pub among_left : {X : Type 0} (xs : List X) (i : ℕ) (x y : X) → i < length xs → x ≡ get_or xs i x → Among (drop i xs) y ↔ ((x ≡ y) ⊎ Among (drop (i + 1) xs) y)
-among_left {X} xs i x y lt is =
+pub among_parted : {X : Type 0} (xs : List X) (i : ℕ) (x y : X) → i < length xs → x ≡ get_or xs i x → Among (drop i xs) y ↔ ((x ≡ y) ⊎ Among (drop (i + 1) xs) y)
+among_parted {X} xs i x y lt is =
     let P : List X → Type 0 = λ zs. Among zs y ↔ ((x ≡ y) ⊎ Among (drop (i + 1) xs) y) in
     subst P (sym (opened xs i x lt is)) (λ h. h, λ h. h)
 

@@ -14,34 +14,19 @@ use Rattle.tree_match.specs.Members.{Member}
 use Rattle.range_algebra.specs.declared.state.State.{State}
 use Rattle.range_algebra.specs.declared.join.Role.{Role}
 use Rattle.range_algebra.specs.declared.join.Role.TheVariants.{Plain, Inside}
+use Rattle.range_algebra.specs.Orders.{state_is}
 use Rattle.range_algebra.specs.Sizes.{Each}
 use Rattle.range_algebra.specs.Ranges.{IsShared}
 use Rattle.range_algebra.specs.Agreements.{AgreesWith}
 use Rattle.range_algebra.specs.Choices.{Chosen, NoneOf, IsChoice, AllAgree, merged_with, merged_all, range_of, binding_of}
 use Rattle.range_algebra.specs.Joins.{meet, same_range, joined, begun}
 use Rattle.range_algebra.specs.Operands.{Ascends}
-use Rattle.range_algebra.proofs.Steps.{among_front, among_end, among_snoc, merged_snoc, shared_snoc, shared_is_one, shared_alone, all_agree_snoc, all_agree_front}
+use Rattle.range_algebra.proofs.Lists.{among_left, among_right, among_front, among_end, among_snoc, each_cons, each_append}
+use Rattle.range_algebra.proofs.Steps.{merged_snoc, shared_snoc, shared_is_one, shared_alone, all_agree_snoc, all_agree_front}
 use Rattle.range_algebra.proofs.Merged.{agree_joined, agree_left, agree_right}
 use Rattle.range_algebra.proofs.Names.{bindings_ascend, AllAscend}
 
 -- ---- what agrees with all bindings agrees with them made one
-
-pub each_cons : {X : Type 0} (P : X → Type 0) (y : X) (ys : List X) → P y → Each P ys → Each P (y ∷ ys)
-each_cons P y ys p all x (inl e) = subst P e p
-each_cons P y ys p all x (inr k) = all x k
-
-each_append : {X : Type 0} (P : X → Type 0) (xs ys : List X) → Each P xs → Each P ys → Each P (xs ++ ys)
-each_append P [] ys h k = k
-each_append P (x ∷ xs) ys h k = each_cons P x (xs ++ ys) (h x (inl refl)) (each_append P xs ys (λ y g. h y (inr g)) k)
-
-pub among_left : {X : Type 0} (xs ys : List X) (x : X) → Among xs x → Among (xs ++ ys) x
-among_left [] ys x h = elim h [ ]
-among_left (z ∷ zs) ys x (inl e) = inl e
-among_left (z ∷ zs) ys x (inr h) = inr (among_left zs ys x h)
-
-among_right : {X : Type 0} (xs ys : List X) (x : X) → Among ys x → Among (xs ++ ys) x
-among_right [] ys x h = h
-among_right (z ∷ zs) ys x h = inr (among_right zs ys x h)
 
 agree_all : (a : List Bound) (cs : List (List Bound)) (d : List Bound) → NamesAscend a → Each NamesAscend cs → NamesAscend d → Each (Agree a) cs → AllAgree cs
     → Agree (merged_with a cs) d ↔ (Agree a d × Each (λ b. Agree b d) cs)
@@ -175,14 +160,6 @@ pub record Holds (all chosen around : List Member) (s : State) : Type 0 where
   pub marked : IsTrue s.marked ↔ Among (map range_of chosen) s.range
   pub plain : s.plain ≡ merged_all (map binding_of chosen)
   pub inside : s.inside ≡ merged_all (map binding_of around)
-
-state_is : (s t : State) → s.range ≡ t.range → s.marked ≡ t.marked → s.plain ≡ t.plain → s.inside ≡ t.inside → s ≡ t
-state_is s t range marked plain inside =
-    let f1 : Span → State = λ x. record { range = x; marked = s.marked; plain = s.plain; inside = s.inside } in
-    let f2 : Bool → State = λ x. record { range = t.range; marked = x; plain = s.plain; inside = s.inside } in
-    let f3 : List Bound → State = λ x. record { range = t.range; marked = t.marked; plain = x; inside = s.inside } in
-    let f4 : List Bound → State = λ x. record { range = t.range; marked = t.marked; plain = t.plain; inside = x } in
-    ap f1 range ∙ ap f2 marked ∙ ap f3 plain ∙ ap f4 inside
 
 one_state : (all chosen around : List Member) (s t : State) → Holds all chosen around s → Holds all chosen around t → s ≡ t
 one_state all chosen around s t h k =

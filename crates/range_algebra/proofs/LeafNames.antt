@@ -1,6 +1,7 @@
 -- The members of all patterns, looked at one by one.
 use Rattle.std.proofs.Common.{◌≡◌, ◌⊎◌, ◌<◌, ◌≤◌, inl, inr, ℕ, suc, ◌+◌, List, [], ◌∷◌, length, get_or, refl, ap, subst, arith}
 use Rattle.std.specs.Prelude.{Option, Some, slice_get}
+use Rattle.std.proofs.lemmas.Bool.{cases_lt}
 use Rattle.std.proofs.lemmas.Option.{slice_get_read, slice_get_past}
 use Rattle.tree_match.specs.declared.leaf.Leaf.{Leaf}
 use Rattle.tree_match.specs.Sets.{Among}
@@ -31,11 +32,8 @@ first_more leaves i leaf lt is one first k m le h = at (split k i le)
         one m (subst Q (slice_get_read leaves (length leaves) i leaf refl lt is) (subst P e h))
 
 pub first_all : (leaves : List Leaf) (i : ℕ) → length leaves ≤ i → FirstAscend leaves i → LeavesAscend leaves
-first_all leaves i le first k m h = at (order k (length leaves))
+first_all leaves i le first k m h = at (cases_lt k (length leaves))
   where
-    order : (a b : ℕ) → (a < b) ⊎ (b ≤ a)
-    order a b = grind arith
-
     at : (k < length leaves) ⊎ (length leaves ≤ k) → Ascends m
     at (inl lt) = first k m (omega (arith, lt, le)) h
     at (inr past) = let Q : Option Leaf → Type 0 = λ o. InLeaf o m in elim (subst Q (slice_get_past leaves k past) h) [ ]

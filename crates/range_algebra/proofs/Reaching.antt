@@ -2,11 +2,13 @@
 use Rattle.std.proofs.Common.{◌≡◌, ◌⊎◌, ◌↔◌, ◌≤◌, ◌<◌, inl, inr, ℕ, zero, suc, ◌+◌, List, [], ◌∷◌, ◌++◌, length, map, take, drop, get_or, reverse, refl, sym, ap, ◌∙◌, subst, true, arith}
 use Rattle.std.specs.Prelude.{Option, None, Some, max, min, ◌&&◌}
 use Rattle.std.proofs.lemmas.List.{append-nil, take-append-drop, take_more, drop_all}
+use Rattle.std.proofs.lemmas.Bool.{cases_lt}
 use Rattle.node_tree.specs.declared.span.Span.{Span}
 use Rattle.meta_bind.proofs.Lookups.{opened}
 use Rattle.tree_match.specs.Sets.{Among}
 use Rattle.tree_match.specs.Members.{Member}
 use Rattle.tree_match.proofs.Ascents.{among_at}
+use Rattle.tree_match.proofs.Sets.{chain}
 use Rattle.range_algebra.specs.declared.state.State.{State}
 use Rattle.range_algebra.specs.declared.operand.Operand.{Operand}
 use Rattle.range_algebra.specs.declared.join.Role.TheVariants.{Plain, Inside}
@@ -73,15 +75,12 @@ none_searched plains insides e f =
 
 -- ---- what is needed later was needed before
 
-order : (a b : ℕ) → (a < b) ⊎ (b ≤ a)
-order a b = grind arith
-
 shrinks : (b : State) (m : Member) → max b.range.from m.0.from ≡ min b.range.to m.0.to → b.range.to ≤ b.range.from → (b.range.from ≡ b.range.to) × (meet b.range m.0 ≡ b.range)
 shrinks b m e le = (omega (arith, e, le), span_is (meet b.range m.0) b.range (omega (arith, e, le)) (omega (arith, e, le)))
 
 needed_plain : (x : Operand) (later : List Operand) (b : State) (m : Member) → Among x.members.now m → IsNeeded later (joined Plain b m) → IsNeeded (x ∷ later) b
 needed_plain x later b m k (inl bytes) = inl (omega (arith, bytes))
-needed_plain x later b m k (inr (e, why)) = at (order b.range.from b.range.to)
+needed_plain x later b m k (inr (e, why)) = at (cases_lt b.range.from b.range.to)
   where
     at : (b.range.from < b.range.to) ⊎ (b.range.to ≤ b.range.from) → IsNeeded (x ∷ later) b
     at (inl lt) = inl lt
@@ -101,7 +100,7 @@ needed_plain x later b m k (inr (e, why)) = at (order b.range.from b.range.to)
 needed_inside : (b : State) (m : Member) → IsNeeded [] (joined Inside b m) → IsNeeded [] b
 needed_inside b m (inl bytes) = inl (omega (arith, bytes))
 needed_inside b m (inr (e, inr f)) = elim f.1 [ ]
-needed_inside b m (inr (e, inl f)) = at (order b.range.from b.range.to)
+needed_inside b m (inr (e, inl f)) = at (cases_lt b.range.from b.range.to)
   where
     at : (b.range.from < b.range.to) ⊎ (b.range.to ≤ b.range.from) → IsNeeded [] b
     at (inl lt) = inl lt
@@ -204,14 +203,11 @@ pub record PlainGoing (plains insides done left : List Operand) (states : List S
 abbrev Counted : List Operand → List Operand → State → Type 0
 Counted plains insides = IsCounted (ChosenFrom plains) (ChosenFrom insides)
 
-chain : {A B C : Type 0} → (A ↔ B) → (B ↔ C) → (A ↔ C)
-chain f g = (λ a. g.0 (f.0 a), λ c. f.1 (g.1 c))
-
 module _ (first : Operand) (rest insides : List Operand) where
   pub going_start : (states : List State) → ((s : State) → Among states s ↔ (IsBegun first.members.now s × IsNeeded rest s)) → OneSet (first.number ∷ []) (WithBytes (IsBegun first.members.now)) None
       → PlainGoing (first ∷ rest) insides (first ∷ []) rest states
   going_start states exact few = record {
-    exact = λ s. chain (exact s) (begun_step first rest s);
+    exact = λ s. chain _ _ _ (exact s) (begun_step first rest s);
     search = then_deeper (OneSet (first.number ∷ []) (Counted (first ∷ []) [])) (PlainFronts (first ∷ []) rest) (InsideFronts (first ∷ rest) [] insides) (one_set_as (first.number ∷ []) (WithBytes (IsBegun first.members.now)) (Counted (first ∷ []) []) (begun_counts first rest) None few);
   }
 
@@ -230,7 +226,7 @@ module _ (plains insides : List Operand) (o : Operand) (os : List Operand) (x : 
   pub going_more : (next : List State) → ((s : State) → Among next s ↔ (IsJoined Plain states x.members.now s × IsNeeded left s)) → OneSet (x.number ∷ []) NextCount None
       → PlainGoing plains insides ((o ∷ os) ++ x ∷ []) left next
   going_more next exact few = record {
-    exact = λ s. chain (exact s) (plain_step o os x left states up ux going.exact s);
+    exact = λ s. chain _ _ _ (exact s) (plain_step o os x left states up ux going.exact s);
     search = λ p h. going.search p (then_deeper (OneSet (x.number ∷ []) (Counted ((o ∷ os) ++ x ∷ []) [])) (PlainFronts ((o ∷ os) ++ x ∷ []) left) (InsideFronts plains [] insides) (next_set None few) p h);
   }
 
@@ -259,7 +255,7 @@ module _ (insides : List Operand) (o : Operand) (os done : List Operand) (x : Op
   pub inside_goes : (next : List State) → ((s : State) → Among next s ↔ (IsJoined Inside states x.members.now s × IsNeeded [] s)) → OneSet (x.number ∷ []) InsideCount None
       → InsideGoing (o ∷ os) insides (done ++ x ∷ []) left next
   inside_goes next exact few = record {
-    exact = λ s. chain (exact s) (inside_step o os done x states up ud ux going.exact s);
+    exact = λ s. chain _ _ _ (exact s) (inside_step o os done x states up ud ux going.exact s);
     search = λ p h. going.search p (then_next (OneSet (x.number ∷ []) (Counted (o ∷ os) (done ++ x ∷ []))) (InsideFronts (o ∷ os) (done ++ x ∷ []) left) (inside_set None few) p h);
   }
 

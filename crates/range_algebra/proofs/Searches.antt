@@ -47,10 +47,6 @@ module _ {X : Type 0} (P : X → Type 0) (xs : List X) (i : ℕ) where
       none : Any P [] → ⊥
       none (x, h, p) = h
 
-  -- the item at i is such, or a later one is
-  pub any_step : (x : X) → i < length xs → x ≡ get_or xs i x → Any P (drop i xs) ↔ (P x ⊎ Any P (drop (i + 1) xs))
-  any_step x lt is = let Q : List X → Type 0 = λ ys. Any P ys ↔ (P x ⊎ Any P (drop (i + 1) xs)) in subst Q (sym (opened xs i x lt is)) (any_cons P x (drop (i + 1) xs))
-
   -- the same beside another fact
   pub any_split : (N : Type 0) → (x : X) → i < length xs → x ≡ get_or xs i x → (Any P (drop i xs) × N) ↔ ((P x × N) ⊎ (Any P (drop (i + 1) xs) × N))
   any_split N x lt is = (to, from)

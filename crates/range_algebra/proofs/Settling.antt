@@ -15,7 +15,7 @@ use Rattle.tree_match.specs.Ascending.{IsAscending}
 use Rattle.tree_match.proofs.Ascents.{among_at}
 use Rattle.range_algebra.specs.Sizes.{Each}
 use Rattle.range_algebra.specs.Ends.{EndsWith, IsEndedBy}
-use Rattle.range_algebra.proofs.Steps.{among_front, among_end, among_snoc}
+use Rattle.range_algebra.proofs.Lists.{among_front, among_end, among_snoc}
 
 -- ---- the last item
 

@@ -12,10 +12,9 @@ use Rattle.range_algebra.specs.Sizes.{Any, Each}
 use Rattle.range_algebra.specs.Joins.{IsNeeded, IsJoinedWith, IsJoinedFrom}
 use Rattle.range_algebra.specs.Spreads.{AreEnds, AreStarts}
 use Rattle.range_algebra.proofs.Added.{needed_touches}
-use Rattle.range_algebra.proofs.Choosing.{each_cons}
 use Rattle.range_algebra.proofs.Gathering.{any_joined}
 use Rattle.range_algebra.proofs.LeafNames.{split}
-use Rattle.range_algebra.proofs.Steps.{each_snoc}
+use Rattle.range_algebra.proofs.Lists.{each_cons, each_snoc}
 
 -- ---- the ends
 
@@ -122,7 +121,7 @@ module _ (role : Role) (b : State) (members : List Member) (later : List Operand
       let reach = are.1 k (omega (arith, le, are.0)) m h in
       let e : suc k - 1 ≡ k = omega arith in
       let P : ℕ → Type 0 = λ j. slice_index ends j < b.range.from in
-      let past : P k = subst P e (last (omega arith)) in
+      let past : slice_index ends k < b.range.from = subst P e (last (omega arith)) in
       omega (arith, reach, past)
 
   -- the members before the first that reaches the state

@@ -74,6 +74,14 @@ marks_flip s t = then_flip _ _ (bool_cmp t.marked s.marked) (bindings_cmp t s) (
 state_flip : (s t : State) → state_cmp s t ≡ ordering_reverse (state_cmp t s)
 state_flip s t = then_flip _ _ (span_cmp t.range s.range) (marks_cmp t s) (span_order.flip s.range t.range) (marks_flip s t)
 
+pub state_is : (s t : State) → s.range ≡ t.range → s.marked ≡ t.marked → s.plain ≡ t.plain → s.inside ≡ t.inside → s ≡ t
+state_is s t range marked plain inside =
+    let f1 : Span → State = λ x. record { range = x; marked = s.marked; plain = s.plain; inside = s.inside } in
+    let f2 : Bool → State = λ x. record { range = t.range; marked = x; plain = s.plain; inside = s.inside } in
+    let f3 : List Bound → State = λ x. record { range = t.range; marked = t.marked; plain = x; inside = s.inside } in
+    let f4 : List Bound → State = λ x. record { range = t.range; marked = t.marked; plain = t.plain; inside = x } in
+    ap f1 range ∙ ap f2 marked ∙ ap f3 plain ∙ ap f4 inside
+
 pub state_apart : (s t : State) → state_cmp s t ≡ Equal → s ≡ t
 state_apart s t e =
     let range = span_order.same s.range t.range (then_first (span_cmp s.range t.range) (marks_cmp s t) e) in
@@ -82,11 +90,7 @@ state_apart s t e =
     let last = then_second (bool_cmp s.marked t.marked) (bindings_cmp s t) rest in
     let plain = binding_order.same s.plain t.plain (then_first (binding_cmp s.plain t.plain) (binding_cmp s.inside t.inside) last) in
     let inside = binding_order.same s.inside t.inside (then_second (binding_cmp s.plain t.plain) (binding_cmp s.inside t.inside) last) in
-    let f1 : Span → State = λ x. record { range = x; marked = s.marked; plain = s.plain; inside = s.inside } in
-    let f2 : Bool → State = λ x. record { range = t.range; marked = x; plain = s.plain; inside = s.inside } in
-    let f3 : List Bound → State = λ x. record { range = t.range; marked = t.marked; plain = x; inside = s.inside } in
-    let f4 : List Bound → State = λ x. record { range = t.range; marked = t.marked; plain = t.plain; inside = x } in
-    ap f1 range ∙ ap f2 marked ∙ ap f3 plain ∙ ap f4 inside
+    state_is s t range marked plain inside
 
 state_chains : Chains state_cmp
 state_chains s t u =
