@@ -7,3 +7,4 @@ pub mod Causes
 pub mod Scans
 pub mod Matches
 pub mod Requests
+pub mod Others

@@ -158,8 +158,8 @@ fn is_above(paths: &[Text], path: &str) -> bool
     }
 }
 
-// The listing of files: those under the prefix in order, each once.
-fn listing(alloc: Global, prefix: &str, mut files: Vec<String>) -> Result<List<Text>, Memory>
+/// The listing of files: those under the prefix in order, each once.
+pub fn listing(alloc: Global, prefix: &str, mut files: Vec<String>) -> Result<List<Text>, Memory>
     ensures { IfOk result (IsListing prefix.now None) }
 {
     files.sort_unstable();

@@ -1,5 +1,5 @@
 use crate::counted;
-use crate::folder::FolderTree;
+use crate::folder::{FolderTree, listing};
 use crate::status::{LimitKind, Status};
 use node_tree::{Bytes, List, Text};
 use scan_world::{MemorySink, MemorySource, MemoryTree, Tree, TreeFault};
@@ -48,10 +48,10 @@ fn files(alloc: Global, given: &[(&str, &[u8])]) -> Result<List<(Text, Bytes)>, 
 }
 
 // A run of these words over a tree, of whose writes the first may fail.
-fn run_over(
+fn run_over<T: Tree>(
     alloc: Global,
     words: &[&str],
-    tree: &mut MemoryTree,
+    tree: &mut T,
     failing_writes: &[u32],
 ) -> Result<(Status, MemorySink), Fail> {
     let mut given = Vec::new(alloc);
@@ -164,8 +164,8 @@ fn names_a_crowded_set(rt: HostRuntime) -> Result<(), Fail> {
 #[test]
 fn fills_in_fixes(rt: HostRuntime) -> Result<(), Fail> {
     let formula = "  pattern: f($X)\n  fix: g($X)\n";
-    let printed = b"{\"notices\":[],\"results\":[{\"check_id\":\"p\",\"end\":{\"col\":9,\"line\":1,\"offset\":8},\"extra\":{\"fix\":\"g(3)\",\"message\":\"m\",\"metavars\":{\"$X\":[5,6]},\"severity\":\"INFO\"},\"path\":\"a.py\",\"start\":{\"col\":1,\"line\":1,\"offset\":0}}]}\n";
-    assert!(rt; finds(rt.alloc(), formula, b"f (  3 )\n", printed)?);
+    let printed = b"{\"notices\":[],\"results\":[{\"check_id\":\"p\",\"end\":{\"col\":8,\"line\":1,\"offset\":7},\"extra\":{\"fix\":\"g(f(1))\",\"message\":\"m\",\"metavars\":{\"$X\":[2,6]},\"severity\":\"INFO\"},\"path\":\"a.py\",\"start\":{\"col\":1,\"line\":1,\"offset\":0}},{\"check_id\":\"p\",\"end\":{\"col\":7,\"line\":1,\"offset\":6},\"extra\":{\"fix\":\"g(1)\",\"message\":\"m\",\"metavars\":{\"$X\":[4,5]},\"severity\":\"INFO\"},\"path\":\"a.py\",\"start\":{\"col\":3,\"line\":1,\"offset\":2}},{\"check_id\":\"p\",\"end\":{\"col\":5,\"line\":2,\"offset\":12},\"extra\":{\"fix\":\"g(2)\",\"message\":\"m\",\"metavars\":{\"$X\":[10,11]},\"severity\":\"INFO\"},\"path\":\"a.py\",\"start\":{\"col\":1,\"line\":2,\"offset\":8}},{\"check_id\":\"p\",\"end\":{\"col\":9,\"line\":3,\"offset\":21},\"extra\":{\"fix\":\"g(3)\",\"message\":\"m\",\"metavars\":{\"$X\":[18,19]},\"severity\":\"INFO\"},\"path\":\"a.py\",\"start\":{\"col\":1,\"line\":3,\"offset\":13}}]}\n";
+    assert!(rt; finds(rt.alloc(), formula, b"f(f(1))\nf(2)\nf (  3 )\n", printed)?);
     Ok(())
 }
 
@@ -315,16 +315,58 @@ fn passes_over_what_is_not_taken(rt: HostRuntime) -> Result<(), Fail> {
     Ok(())
 }
 
+// So many empty files and a config. It makes each file when it is read.
+#[derive(Drop)]
+struct ManyFiles {
+    alloc: Global,
+    count: usize,
+}
+
+impl Tree for ManyFiles {
+    ghost use Rattle.std.specs.Prelude.{None};
+
+    ghost files = { λ t. None };
+
+    ghost faults = { λ t. 0 };
+
+    ghost absences = { λ t. 0 };
+
+    fn list(&mut self, prefix: &str) -> Result<List<Text>, TreeFault> {
+        let mut paths = Vec::new(self.alloc);
+        for number in 0..self.count {
+            let Ok(path) = format!(in self.alloc; "f{number}.txt") else {
+                return Err(TreeFault::Memory);
+            };
+            if paths.push(path).is_err() {
+                return Err(TreeFault::Memory);
+            }
+        }
+        Ok(listing(self.alloc, prefix, paths)?)
+    }
+
+    fn read(&mut self, path: &str, most: u64) -> Result<Bytes, TreeFault> {
+        let bytes = if path == "r.rules" { CALLS } else { b"" };
+        let count = bytes.len().min(most as usize);
+        Ok(Bytes::from_slice(self.alloc, &bytes[..count])?)
+    }
+
+    fn write(&mut self, _path: &str, _bytes: &[u8]) -> Result<(), TreeFault> {
+        Err(TreeFault::Memory)
+    }
+}
+
 #[test]
 fn counts_files(rt: HostRuntime) -> Result<(), Fail> {
     let alloc = rt.alloc();
     let words = ["scan", "--config", "r.rules", "."];
-    let mut one_more = files(alloc, &[("r.rules", CALLS), ("f.txt", b"".as_slice())])?;
-    for number in 10_000..20_000 {
-        let path = format!(in alloc; "f{number}.txt")?;
-        one_more.push(file(alloc, path.as_str(), b"")?)?;
-    }
-    let mut tree = MemoryTree::new(one_more, List::new(alloc));
+    let mut tree = ManyFiles {
+        alloc,
+        count: 10_000,
+    };
+    let (status, out) = run_over(alloc, &words, &mut tree, &[])?;
+    assert_eq!(rt; status, Status::Done);
+    assert!(rt; out.as_slice() == NOTHING);
+    tree.count = 10_001;
     let (status, out) = run_over(alloc, &words, &mut tree, &[])?;
     assert_eq!(rt; status, Status::OverLimit(LimitKind::Files, 10_001));
     assert!(rt; out.as_slice().is_empty());

@@ -1,0 +1,107 @@
+-- A file, or an entry that is no rule, changes no finding of another.
+use Rattle.std.proofs.Common.{◌≡◌, ◌⊎◌, ◌↔◌, inl, inr, ℕ, suc, Bool, true, false, List, [], ◌∷◌, ◌++◌, map, refl, sym, ap, ◌∙◌, subst}
+use Rattle.std.specs.Prelude.{if◌then◌else◌}
+use Rattle.std.proofs.lemmas.List.{append-nil, map-append}
+use Rattle.rule_form.specs.declared.rule.Rule.{Rule}
+use Rattle.rule_read.specs.declared.fault.RuleFault.{RuleFault}
+use Rattle.rule_read.specs.declared.fault.RuleOutcome.{RuleOutcome}
+use Rattle.rule_read.specs.declared.fault.RuleOutcome.TheVariants.{Good, Bad}
+use Rattle.tree_match.specs.Sets.{Among}
+use Rattle.fix_apply.specs.declared.report.Report.{Report}
+use Rattle.fix_apply.specs.declared.report.Reported.{Reported}
+use Rattle.scan_session.specs.declared.rule_file.RuleContent.TheVariants.{Rules}
+use Rattle.scan_session.specs.declared.rule_file.RuleFile.{RuleFile}
+use Rattle.scan_session.specs.Sets.{IsExactly}
+use Rattle.scan_session.specs.Reports.{reported_cmp}
+use Rattle.scan_session.specs.Running.{Stated, stated_at, stated_from, stated, is_taken, is_unbuilt, firsts, built, running}
+use Rattle.scan_session.specs.Fresh.{File, IsResultIn, IsResult, IsFresh}
+use Rattle.scan_session.specs.HitOrder.{reported_total}
+use Rattle.scan_session.proofs.Orders.{exactly_once}
+
+-- ---- one file more
+
+path_is : (rules : List Rule) (file : File) (r : Reported) → IsResultIn rules file r → r.path ≡ file.0
+path_is rules file r (o, is, (lang, tree, shows, found)) = ap (λ (x : Reported). x.path) found.is
+
+one_of : (before after : List File) (file other : File) → Among (before ++ file ∷ after) other → (file ≡ other) ⊎ Among (before ++ after) other
+one_of [] after file other h = h
+one_of (b ∷ bs) after file other (inl e) = inr (inl e)
+one_of (b ∷ bs) after file other (inr h) = elim (one_of bs after file other h) [ inl e ↦ inl e | inr k ↦ inr (inr k) ]
+
+still_there : (before after : List File) (file other : File) → Among (before ++ after) other → Among (before ++ file ∷ after) other
+still_there [] after file other h = inr h
+still_there (b ∷ bs) after file other (inl e) = inl e
+still_there (b ∷ bs) after file other (inr h) = inr (still_there bs after file other h)
+
+-- whatever a file holds, the findings of other paths are those of a scan without it
+pub other_files : (rule_files : List RuleFile) (before after : List File) (file : File) (with without : Report) → IsFresh (before ++ file ∷ after) rule_files with → IsFresh (before ++ after) rule_files without
+    → (r : Reported) → (r.path ≡ file.0 → ⊥) → Among with.results r ↔ Among without.results r
+other_files rule_files before after file with without a b r apart = (
+  λ h. let f = (a.results.exact r).0 h in
+  elim (one_of before after file f.0 f.1) [
+    | inl e ↦ absurd (apart (path_is (running rule_files) f.0 r f.2 ∙ ap (λ (x : File). x.0) (sym e)))
+    | inr k ↦ (b.results.exact r).1 (f.0, k, f.2)
+  ],
+  λ h. let f = (b.results.exact r).0 h in (a.results.exact r).1 (f.0, still_there before after file f.0 f.1, f.2)
+)
+
+-- ---- one entry more that is no rule
+
+abbrev rule_of : Stated → Rule
+rule_of s = s.rule
+
+-- the rules of good entries
+abbrev good_rules : List RuleOutcome → List Rule
+good_rules [] = []
+good_rules (Good rule ∷ os) = rule ∷ good_rules os
+good_rules (Bad fault ∷ os) = good_rules os
+
+-- those that run, where these ids are taken before
+abbrev run_from : List (List ℕ) → List Rule → List Rule
+run_from taken [] = []
+run_from taken (r ∷ rs) = if is_taken taken r.id then run_from taken rs else (if is_unbuilt r then run_from (r.id ∷ taken) rs else r ∷ run_from (r.id ∷ taken) rs)
+
+-- one rule after those that are taken up
+step : (repeated : Bool) (s : Stated) (later after : List Stated) → built (if repeated then later else s ∷ after) ≡ (if repeated then built later else (if is_unbuilt s.rule then built after else s.rule ∷ built after))
+step true s later after = refl
+step false s later after = refl
+
+runs : (taken : List (List ℕ)) (ss : List Stated) → built (firsts taken ss) ≡ run_from taken (map rule_of ss)
+runs taken [] = refl
+runs taken (s ∷ ss) =
+    let more = s.rule.id ∷ taken in
+    let later = runs taken ss in
+    let after = runs more ss in
+    let F : List Rule → List Rule → List Rule = λ x y. if is_taken taken s.rule.id then x else (if is_unbuilt s.rule then y else s.rule ∷ y) in
+    step (is_taken taken s.rule.id) s (firsts taken ss) (firsts more ss) ∙ ap (λ (x : List Rule). F x (built (firsts more ss))) later ∙ ap (λ (y : List Rule). F (run_from taken (map rule_of ss)) y) after
+
+rules_at : (file : List ℕ) (k : ℕ) (o : RuleOutcome) (os : List RuleOutcome) → map rule_of (stated_at file k o) ++ good_rules os ≡ good_rules (o ∷ os)
+rules_at file k (Good rule) os = refl
+rules_at file k (Bad fault) os = refl
+
+rules_from : (file : List ℕ) (k : ℕ) (os : List RuleOutcome) → map rule_of (stated_from file k os) ≡ good_rules os
+rules_from file k [] = refl
+rules_from file k (o ∷ os) =
+    map-append rule_of (stated_at file k o) (stated_from file (suc k) os) ∙ ap (λ (l : List Rule). map rule_of (stated_at file k o) ++ l) (rules_from file (suc k) os) ∙ rules_at file k o os
+
+without_bad : (os ps : List RuleOutcome) (fault : RuleFault) → good_rules (os ++ Bad fault ∷ ps) ≡ good_rules (os ++ ps)
+without_bad [] ps fault = refl
+without_bad (Good rule ∷ os) ps fault = ap (λ (l : List Rule). rule ∷ l) (without_bad os ps fault)
+without_bad (Bad other ∷ os) ps fault = without_bad os ps fault
+
+-- a rule file with these entries
+abbrev pub with_entries : List ℕ → List RuleOutcome → RuleFile
+with_entries name outcomes = record { name = name; content = Rules outcomes }
+
+one_runs : (name : List ℕ) (os : List RuleOutcome) → running (with_entries name os ∷ []) ≡ run_from [] (good_rules os)
+one_runs name os =
+    runs [] (stated (with_entries name os ∷ [])) ∙ ap (λ (l : List Stated). run_from [] (map rule_of l)) (append-nil (stated_from name 0 os)) ∙ ap (λ (l : List Rule). run_from [] l) (rules_from name 0 os)
+
+-- the findings are those of the rule file without the entry
+pub other_rules : (files : List File) (name : List ℕ) (os ps : List RuleOutcome) (fault : RuleFault) (with without : Report) → IsFresh files (with_entries name (os ++ Bad fault ∷ ps) ∷ []) with
+    → IsFresh files (with_entries name (os ++ ps) ∷ []) without → with.results ≡ without.results
+other_rules files name os ps fault with without a b =
+    let same : running (with_entries name (os ++ Bad fault ∷ ps) ∷ []) ≡ running (with_entries name (os ++ ps) ∷ []) =
+    one_runs name (os ++ Bad fault ∷ ps) ∙ ap (λ (l : List Rule). run_from [] l) (without_bad os ps fault) ∙ sym (one_runs name (os ++ ps)) in
+    let P : List Rule → Type 0 = λ l. IsExactly reported_cmp (IsResult l files) with.results in
+    exactly_once reported_cmp reported_total (IsResult (running (with_entries name (os ++ ps) ∷ [])) files) with.results without.results (subst P same a.results) b.results
