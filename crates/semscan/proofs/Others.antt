@@ -34,9 +34,9 @@ still_there (b ∷ bs) after file other (inl e) = inl e
 still_there (b ∷ bs) after file other (inr h) = inr (still_there bs after file other h)
 
 -- whatever a file holds, the findings of other paths are those of a scan without it
-pub other_files : (rule_files : List RuleFile) (before after : List File) (file : File) (with without : Report) → IsFresh (before ++ file ∷ after) rule_files with → IsFresh (before ++ after) rule_files without
-    → (r : Reported) → (r.path ≡ file.0 → ⊥) → Among with.results r ↔ Among without.results r
-other_files rule_files before after file with without a b r apart = (
+pub other_files : (rule_files : List RuleFile) (before after : List File) (file : File) (more less : Report) → IsFresh (before ++ file ∷ after) rule_files more → IsFresh (before ++ after) rule_files less
+    → (r : Reported) → (r.path ≡ file.0 → ⊥) → Among more.results r ↔ Among less.results r
+other_files rule_files before after file more less a b r apart = (
   λ h. let f = (a.results.exact r).0 h in
   elim (one_of before after file f.0 f.1) [
     | inl e ↦ absurd (apart (path_is (running rule_files) f.0 r f.2 ∙ ap (λ (x : File). x.0) (sym e)))
@@ -84,24 +84,24 @@ rules_from file k [] = refl
 rules_from file k (o ∷ os) =
     map-append rule_of (stated_at file k o) (stated_from file (suc k) os) ∙ ap (λ (l : List Rule). map rule_of (stated_at file k o) ++ l) (rules_from file (suc k) os) ∙ rules_at file k o os
 
-without_bad : (os ps : List RuleOutcome) (fault : RuleFault) → good_rules (os ++ Bad fault ∷ ps) ≡ good_rules (os ++ ps)
-without_bad [] ps fault = refl
-without_bad (Good rule ∷ os) ps fault = ap (λ (l : List Rule). rule ∷ l) (without_bad os ps fault)
-without_bad (Bad other ∷ os) ps fault = without_bad os ps fault
+past_bad : (os ps : List RuleOutcome) (fault : RuleFault) → good_rules (os ++ Bad fault ∷ ps) ≡ good_rules (os ++ ps)
+past_bad [] ps fault = refl
+past_bad (Good rule ∷ os) ps fault = ap (λ (l : List Rule). rule ∷ l) (past_bad os ps fault)
+past_bad (Bad other ∷ os) ps fault = past_bad os ps fault
 
 -- a rule file with these entries
-abbrev pub with_entries : List ℕ → List RuleOutcome → RuleFile
-with_entries name outcomes = record { name = name; content = Rules outcomes }
+abbrev pub file_of : List ℕ → List RuleOutcome → RuleFile
+file_of name outcomes = record { name = name; content = Rules outcomes }
 
-one_runs : (name : List ℕ) (os : List RuleOutcome) → running (with_entries name os ∷ []) ≡ run_from [] (good_rules os)
+one_runs : (name : List ℕ) (os : List RuleOutcome) → running (file_of name os ∷ []) ≡ run_from [] (good_rules os)
 one_runs name os =
-    runs [] (stated (with_entries name os ∷ [])) ∙ ap (λ (l : List Stated). run_from [] (map rule_of l)) (append-nil (stated_from name 0 os)) ∙ ap (λ (l : List Rule). run_from [] l) (rules_from name 0 os)
+    runs [] (stated (file_of name os ∷ [])) ∙ ap (λ (l : List Stated). run_from [] (map rule_of l)) (append-nil (stated_from name 0 os)) ∙ ap (λ (l : List Rule). run_from [] l) (rules_from name 0 os)
 
 -- the findings are those of the rule file without the entry
-pub other_rules : (files : List File) (name : List ℕ) (os ps : List RuleOutcome) (fault : RuleFault) (with without : Report) → IsFresh files (with_entries name (os ++ Bad fault ∷ ps) ∷ []) with
-    → IsFresh files (with_entries name (os ++ ps) ∷ []) without → with.results ≡ without.results
-other_rules files name os ps fault with without a b =
-    let same : running (with_entries name (os ++ Bad fault ∷ ps) ∷ []) ≡ running (with_entries name (os ++ ps) ∷ []) =
-    one_runs name (os ++ Bad fault ∷ ps) ∙ ap (λ (l : List Rule). run_from [] l) (without_bad os ps fault) ∙ sym (one_runs name (os ++ ps)) in
-    let P : List Rule → Type 0 = λ l. IsExactly reported_cmp (IsResult l files) with.results in
-    exactly_once reported_cmp reported_total (IsResult (running (with_entries name (os ++ ps) ∷ [])) files) with.results without.results (subst P same a.results) b.results
+pub other_rules : (files : List File) (name : List ℕ) (os ps : List RuleOutcome) (fault : RuleFault) (more less : Report) → IsFresh files (file_of name (os ++ Bad fault ∷ ps) ∷ []) more
+    → IsFresh files (file_of name (os ++ ps) ∷ []) less → more.results ≡ less.results
+other_rules files name os ps fault more less a b =
+    let same : running (file_of name (os ++ Bad fault ∷ ps) ∷ []) ≡ running (file_of name (os ++ ps) ∷ []) =
+    one_runs name (os ++ Bad fault ∷ ps) ∙ ap (λ (l : List Rule). run_from [] l) (past_bad os ps fault) ∙ sym (one_runs name (os ++ ps)) in
+    let P : List Rule → Type 0 = λ l. IsExactly reported_cmp (IsResult l files) more.results in
+    exactly_once reported_cmp reported_total (IsResult (running (file_of name (os ++ ps) ∷ [])) files) more.results less.results (subst P same a.results) b.results

@@ -3,10 +3,11 @@ use Rattle.std.proofs.Common.{◌≡◌, ◌⊎◌, inl, inr, ℕ, zero, suc, �
 use Rattle.std.specs.declared.cmp.Ordering.{Ordering}
 use Rattle.std.specs.declared.cmp.Ordering.TheVariants.{Less, Equal, Greater}
 use Rattle.std.specs.Ordering.{nat_cmp, ordering_reverse}
-use Rattle.std.proofs.lemmas.List.Elements.{Contains-append_left, Contains-append_right, Contains-append_cases}
+use Rattle.std.specs.Prelude.{All}
+use Rattle.std.proofs.lemmas.List.Elements.{Contains-append_left, Contains-append_right, Contains-append_cases, All-nil, All-cons, All-append}
 use Rattle.node_tree.proofs.Orders.{IsOrder, nat_order, lists_order}
 use Rattle.meta_bind.proofs.Chains.{Follows, nat_chains, lists_chain}
-use Rattle.scan_world.specs.Files.{path_cmp, PathsAscend}
+use Rattle.scan_world.specs.Files.{IsUnder, path_cmp, PathsAscend}
 
 abbrev Path : Type 0
 Path = List ℕ
@@ -55,6 +56,21 @@ pub ascends_last : (xs : List Path) (last x : Path) → PathsAscend xs → path_
 ascends_last [] last x up less is = tt
 ascends_last (y ∷ []) last x up less is = let P : Path → Type 0 = λ z. path_cmp z x ≡ Less in (subst P (sym (is 0 refl)) less, tt)
 ascends_last (y ∷ z ∷ zs) last x up less is = (up.0, ascends_last (z ∷ zs) last x up.1 less (λ i e. is (suc i) (omega arith)))
+
+-- ---- a path that is put at the end
+
+module _ (paths new : List Path) (x text : Path) (same : text ≡ x) (put : new ≡ paths ++ text ∷ []) where
+  with_it : new ≡ paths ++ x ∷ []
+  with_it = put ∙ ap (λ (p : Path). paths ++ p ∷ []) same
+
+  pub put_above : (slice : List Path) → slice ≡ paths → PathsAscend (slice ++ x ∷ []) → PathsAscend new
+  put_above slice e up = let P : List Path → Type 0 = λ l. PathsAscend l in subst P (ap (λ (l : List Path). l ++ x ∷ []) e ∙ sym with_it) up
+
+  pub put_under : (prefix : Path) → All (IsUnder prefix) paths → IsUnder prefix x → All (IsUnder prefix) new
+  put_under prefix all is =
+      let U : Path → Type 0 = λ p. IsUnder prefix p in
+      let P : List Path → Type 0 = λ l. All U l in
+      subst P (sym with_it) (All-append U paths (x ∷ []) all (All-cons U x [] is (All-nil U)))
 
 -- ---- two lists of the same paths are one
 

@@ -1,7 +1,7 @@
 //! The current folder as a tree of files. It tells nothing of what the files hold.
 
-ghost use Rattle.std.specs.Prelude.{◌≡◌, ◌++◌, ◌∷◌, [], ◌≤◌, vec_len, None, IfOk, IfSome, IsTrue};
-ghost use Rattle.scan_world.specs.Files.{PathsAscend};
+ghost use Rattle.std.specs.Prelude.{◌≡◌, ◌++◌, ◌∷◌, [], ◌≤◌, vec_len, None, All, IfOk, OnOk, IfSome, IsTrue};
+ghost use Rattle.scan_world.specs.Files.{IsUnder, PathsAscend};
 ghost use Rattle.scan_world.specs.Trees.{IsListing};
 
 use node_tree::{Bytes, List, Memory, Text};
@@ -158,6 +158,28 @@ fn is_above(paths: &[Text], path: &str) -> bool
     }
 }
 
+// Adds a path that is under the prefix and above the last one.
+fn add_path(
+    alloc: Global,
+    prefix: &str,
+    path: &str,
+    paths: &mut List<Text>,
+) -> Result<(), Memory>
+    requires ordered { PathsAscend paths.old }
+    requires under { All (IsUnder prefix.now) paths.old }
+    ensures ordered { OnOk result (PathsAscend paths.new) }
+    ensures under { OnOk result (All (IsUnder prefix.now) paths.new) }
+{
+    if !is_under(prefix, path) {
+        return Ok(());
+    }
+    if !is_above(paths.as_slice(), path) {
+        return Ok(());
+    }
+    paths.push(Text::from_str(alloc, path)?)?;
+    Ok(())
+}
+
 /// The listing of files: those under the prefix in order, each once.
 pub fn listing(alloc: Global, prefix: &str, mut files: Vec<String>) -> Result<List<Text>, Memory>
     ensures { IfOk result (IsListing prefix.now None) }
@@ -165,10 +187,7 @@ pub fn listing(alloc: Global, prefix: &str, mut files: Vec<String>) -> Result<Li
     files.sort_unstable();
     let mut paths = List::new(alloc);
     for file in &files {
-        let path = file.as_str();
-        if is_under(prefix, path) && is_above(paths.as_slice(), path) {
-            paths.push(Text::from_str(alloc, path)?)?;
-        }
+        add_path(alloc, prefix, file.as_str(), &mut paths)?;
     }
     Ok(paths)
 }

@@ -173,10 +173,8 @@ fn fills_in_fixes(rt: HostRuntime) -> Result<(), Fail> {
 fn keeps_to_the_most_findings(rt: HostRuntime) -> Result<(), Fail> {
     let words = ["scan", "--max", "3", "--config", "r.yaml", "a.py"];
     let three = [("r.yaml", CALLS), ("a.py", b"f(1)\nf(1)\nf(1)\n".as_slice())];
-    let mut tree = MemoryTree::new(files(rt.alloc(), &three)?, List::new(rt.alloc()));
-    let (status, out) = run_over(rt.alloc(), &words, &mut tree, &[])?;
-    assert_eq!(rt; status, Status::Done);
-    assert!(rt; !out.as_slice().is_empty());
+    let printed = b"{\"notices\":[],\"results\":[{\"check_id\":\"p\",\"end\":{\"col\":5,\"line\":1,\"offset\":4},\"extra\":{\"message\":\"m\",\"metavars\":{\"$X\":[2,3]},\"severity\":\"INFO\"},\"path\":\"a.py\",\"start\":{\"col\":1,\"line\":1,\"offset\":0}},{\"check_id\":\"p\",\"end\":{\"col\":5,\"line\":2,\"offset\":9},\"extra\":{\"message\":\"m\",\"metavars\":{\"$X\":[7,8]},\"severity\":\"INFO\"},\"path\":\"a.py\",\"start\":{\"col\":1,\"line\":2,\"offset\":5}},{\"check_id\":\"p\",\"end\":{\"col\":5,\"line\":3,\"offset\":14},\"extra\":{\"message\":\"m\",\"metavars\":{\"$X\":[12,13]},\"severity\":\"INFO\"},\"path\":\"a.py\",\"start\":{\"col\":1,\"line\":3,\"offset\":10}}]}\n";
+    assert!(rt; gives(rt.alloc(), &words, &three, Status::Done, printed)?);
     let four = [("r.yaml", CALLS), ("a.py", b"f(1)\nf(1)\nf(1)\nf(1)\n".as_slice())];
     assert!(rt; gives(rt.alloc(), &words, &four, Status::TooMany(3), b"")?);
     Ok(())
