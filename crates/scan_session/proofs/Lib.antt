@@ -1,11 +1,2 @@
-pub mod Contents
-pub mod Taking
-pub mod Members
 pub mod Orders
-pub mod Ids
-pub mod Globs
-pub mod Views
-pub mod Judged
-pub mod Hits
-pub mod Scans
 pub mod Laws

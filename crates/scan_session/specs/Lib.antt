@@ -3,10 +3,8 @@ pub mod RuleFiles
 pub mod Notes
 pub mod NoteOrder
 pub mod Running
-pub mod Taking
 pub mod Looking
 pub mod Reports
 pub mod Hits
 pub mod HitOrder
-pub mod Judging
 pub mod Fresh

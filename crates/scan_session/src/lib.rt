@@ -2,17 +2,9 @@
 #![tactic(auto)]
 
 mod fault;
-mod looking;
-mod note;
-mod reporting;
-mod row;
 mod rule_file;
-mod running;
 mod scanning;
 
 pub use fault::ScanFault;
 pub use rule_file::{RuleContent, RuleFile, read_rule_file};
 pub use scanning::scan_files;
-
-#[cfg(test)]
-mod tests;
