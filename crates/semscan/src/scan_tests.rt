@@ -343,7 +343,11 @@ impl Tree for ManyFiles {
     }
 
     fn read(&mut self, path: &str, most: u64) -> Result<Bytes, TreeFault> {
-        let bytes = if path == "r.rules" { CALLS } else { b"" };
+        let bytes = if path == "r.rules" {
+            CALLS
+        } else {
+            b"".as_slice()
+        };
         let count = bytes.len().min(most as usize);
         Ok(Bytes::from_slice(self.alloc, &bytes[..count])?)
     }
