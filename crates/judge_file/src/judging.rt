@@ -28,6 +28,5 @@ pub fn judge(
     ensures placed { IfOk result (λ found. All (λ finding. IsFindingPlaced view.now.bytes finding) (findings_in found)) }
     ensures only { IfOk result (λ found. (o : an_outcome) → PartFinds leaves.now view.now.bytes (slice_get rule.now.parts part) o → o ≡ found) }
 {
-    let _given = (alloc, view, rule, part, leaves);
     Err(Memory)
 }

@@ -35,6 +35,5 @@ pub fn open_file<L: Ledger>(
     ensures one_step { steps.new ≡ steps.old + 1 }
 {
     steps.tick();
-    let _given = (alloc, lang, bytes);
     Err(Memory)
 }

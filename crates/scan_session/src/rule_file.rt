@@ -37,7 +37,6 @@ pub fn read_rule_file(alloc: Global, name: &str, bytes: &[u8]) -> Result<RuleFil
     ensures file { IfOk result (IsRuleFile name.now bytes.now) }
     ensures only { (f : a_file) → IsRuleFile name.now bytes.now f → IfOk result (λ found. found ≡ f) }
 {
-    let _given = (alloc, name, bytes);
     Err(Memory)
 }
 

@@ -35,6 +35,5 @@ pub fn scan_files<L: Ledger>(
     ensures too_many { (n : ℕ) → result ≡ Err (TooMany n) → (n ≡ most) × HasMore reported_cmp (IsResult (rules_of rules.now) files.now) most }
     ensures only { IfOk result (λ report. (r : a_report) → IsFresh files.now rules.now r → r ≡ report) }
 {
-    let _given = (alloc, files, rules, most, steps);
     Err(ScanFault::Memory)
 }
