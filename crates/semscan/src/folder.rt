@@ -159,12 +159,7 @@ fn is_above(paths: &[Text], path: &str) -> bool
 }
 
 // Adds a path that is under the prefix and above the last one.
-fn add_path(
-    alloc: Global,
-    prefix: &str,
-    path: &str,
-    paths: &mut List<Text>,
-) -> Result<(), Memory>
+fn add_path(alloc: Global, prefix: &str, path: &str, paths: &mut List<Text>) -> Result<(), Memory>
     requires ordered { PathsAscend paths.old }
     requires under { All (IsUnder prefix.now) paths.old }
     ensures ordered { OnOk result (PathsAscend paths.new) }
