@@ -5,7 +5,7 @@ ghost use Rattle.std.specs.Option.{option_to_list};
 ghost use Rattle.tree_match.specs.Sets.{Among, Adds};
 ghost use Rattle.tree_match.specs.Ascending.{IsAscending};
 ghost use Rattle.tree_match.specs.Members.{Member as member_value, member_cmp};
-ghost use Rattle.range_algebra.specs.Trees.{tree_of, trees_of, branch_of, branches_of, meta_pattern};
+ghost use Rattle.range_algebra.specs.Trees.{tree_of, trees_of, branch_of, branches_of, meta_pattern, regex};
 ghost use Rattle.range_algebra.specs.Parts.{IsSetOf, AreSetsOf, IsInSome, IsPart, AreParts, AreTakenAway};
 ghost use Rattle.range_algebra.specs.Crowds.{NamesSet, IsFaultFrom, OneSet, Over, OverTrees, OverBranches, OverBranch};
 ghost use Rattle.range_algebra.specs.Faults.{IsFaultOf};
@@ -17,6 +17,7 @@ use crate::operand::is_bare;
 use crate::order::settled;
 use crate::part::Part;
 use crate::scene::{MOST, Member, ROOM, Scene};
+use crate::search::matches_of;
 use node_tree::{List, Memory};
 use rule_form::{Child, Formula};
 use std::alloc::Global;
@@ -66,6 +67,15 @@ pub fn thinned<'t>(alloc: Global, members: Vec<Member<'t>>) -> Result<Vec<Member
     gathered(alloc, members)
 }
 
+// The matches of the regular expression with that number, unless there are more than 10,000.
+fn found<'t>(alloc: Global, scene: Scene<'t>, number: u32) -> Result<Vec<Member<'t>>, EvalFault>
+    ensures exact { IfOk result (λ v. IsSetOf scene.entry.leaves.now scene.entry.rx.now scene.entry.bytes.now (regex number) v.items) }
+    ensures few { IfOk result (λ _. Over scene.entry.leaves.now scene.entry.rx.now scene.entry.bytes.now (regex number) None) }
+    ensures crowded { IfErr result (IsFaultFrom (Over scene.entry.leaves.now scene.entry.rx.now scene.entry.bytes.now (regex number))) }
+{
+    limited(alloc, matches_of(alloc, scene, number)?)
+}
+
 // Adds the members of the set.
 fn add_all<'t>(set: &[Member<'t>], members: &mut Vec<Member<'t>>) -> Result<(), Memory>
     ensures { OnOk result (Adds members.old.items members.new.items (Among set.now)) }
@@ -113,13 +123,13 @@ pub fn members_of<'t>(
     scene: Scene<'t>,
     formula: &'t Formula,
 ) -> Result<Vec<Member<'t>>, EvalFault>
-    ensures exact { IfOk result (λ v. IsSetOf scene.entry.leaves.now scene.entry.bytes.now (tree_of formula.now) v.items) }
-    ensures few { IfOk result (λ _. Over scene.entry.leaves.now scene.entry.bytes.now (tree_of formula.now) None) }
-    ensures crowded { IfErr result (IsFaultFrom (Over scene.entry.leaves.now scene.entry.bytes.now (tree_of formula.now))) }
+    ensures exact { IfOk result (λ v. IsSetOf scene.entry.leaves.now scene.entry.rx.now scene.entry.bytes.now (tree_of formula.now) v.items) }
+    ensures few { IfOk result (λ _. Over scene.entry.leaves.now scene.entry.rx.now scene.entry.bytes.now (tree_of formula.now) None) }
+    ensures crowded { IfErr result (IsFaultFrom (Over scene.entry.leaves.now scene.entry.rx.now scene.entry.bytes.now (tree_of formula.now))) }
 {
     match formula {
         Formula::Leaf(number) => leaf_members(alloc, scene, *number),
-        Formula::Regex(_) => Ok(Vec::new(alloc)),
+        Formula::Regex(number) => found(alloc, scene, *number),
         Formula::Any(formulas) => {
             let sets = members_of_each(alloc, scene, formulas.as_slice())?;
             union(alloc, sets.as_slice())
@@ -138,9 +148,9 @@ fn members_of_each<'t>(
     scene: Scene<'t>,
     formulas: &'t [Formula],
 ) -> Result<Vec<Vec<Member<'t>>>, EvalFault>
-    ensures exact { IfOk result (λ sets. AreSetsOf scene.entry.leaves.now scene.entry.bytes.now (trees_of (map tree_of formulas.now)) sets.items) }
-    ensures few { IfOk result (λ _. OverTrees scene.entry.leaves.now scene.entry.bytes.now 0 (trees_of (map tree_of formulas.now)) None) }
-    ensures crowded { IfErr result (IsFaultFrom (OverTrees scene.entry.leaves.now scene.entry.bytes.now 0 (trees_of (map tree_of formulas.now)))) }
+    ensures exact { IfOk result (λ sets. AreSetsOf scene.entry.leaves.now scene.entry.rx.now scene.entry.bytes.now (trees_of (map tree_of formulas.now)) sets.items) }
+    ensures few { IfOk result (λ _. OverTrees scene.entry.leaves.now scene.entry.rx.now scene.entry.bytes.now 0 (trees_of (map tree_of formulas.now)) None) }
+    ensures crowded { IfErr result (IsFaultFrom (OverTrees scene.entry.leaves.now scene.entry.rx.now scene.entry.bytes.now 0 (trees_of (map tree_of formulas.now)))) }
 {
     let mut sets = Vec::new(alloc);
     for (i, formula) in formulas.iter().enumerate() {
@@ -156,9 +166,9 @@ fn parts_of_each<'t>(
     scene: Scene<'t>,
     children: &'t [Child],
 ) -> Result<Vec<Part<'t>>, EvalFault>
-    ensures exact { IfOk result (λ parts. AreParts scene.entry.leaves.now scene.entry.bytes.now (branches_of (map branch_of children.now)) parts.items) }
-    ensures few { IfOk result (λ _. OverBranches scene.entry.leaves.now scene.entry.bytes.now 0 (branches_of (map branch_of children.now)) None) }
-    ensures crowded { IfErr result (IsFaultFrom (OverBranches scene.entry.leaves.now scene.entry.bytes.now 0 (branches_of (map branch_of children.now)))) }
+    ensures exact { IfOk result (λ parts. AreParts scene.entry.leaves.now scene.entry.rx.now scene.entry.bytes.now (branches_of (map branch_of children.now)) parts.items) }
+    ensures few { IfOk result (λ _. OverBranches scene.entry.leaves.now scene.entry.rx.now scene.entry.bytes.now 0 (branches_of (map branch_of children.now)) None) }
+    ensures crowded { IfErr result (IsFaultFrom (OverBranches scene.entry.leaves.now scene.entry.rx.now scene.entry.bytes.now 0 (branches_of (map branch_of children.now)))) }
 {
     let mut parts = Vec::new(alloc);
     for (i, child) in children.iter().enumerate() {
@@ -170,15 +180,16 @@ fn parts_of_each<'t>(
 // What the child needs.
 #[cycle(evaluate)]
 fn part_of<'t>(alloc: Global, scene: Scene<'t>, child: &'t Child) -> Result<Part<'t>, EvalFault>
-    ensures exact { IfOk result (IsPart scene.entry.leaves.now scene.entry.bytes.now (branch_of child.now)) }
-    ensures few { IfOk result (λ _. OverBranch scene.entry.leaves.now scene.entry.bytes.now (branch_of child.now) None) }
-    ensures crowded { IfErr result (IsFaultFrom (OverBranch scene.entry.leaves.now scene.entry.bytes.now (branch_of child.now))) }
+    ensures exact { IfOk result (IsPart scene.entry.leaves.now scene.entry.rx.now scene.entry.bytes.now (branch_of child.now)) }
+    ensures few { IfOk result (λ _. OverBranch scene.entry.leaves.now scene.entry.rx.now scene.entry.bytes.now (branch_of child.now) None) }
+    ensures crowded { IfErr result (IsFaultFrom (OverBranch scene.entry.leaves.now scene.entry.rx.now scene.entry.bytes.now (branch_of child.now))) }
 {
     match child {
         Child::Positive(formula) => Ok(Part::Members(members_of(alloc, scene, formula)?)),
         Child::Inside(formula) => Ok(Part::Members(members_of(alloc, scene, formula)?)),
         Child::Not(formula) => Ok(Part::Members(members_of(alloc, scene, formula)?)),
         Child::NotInside(formula) => Ok(Part::Members(members_of(alloc, scene, formula)?)),
+        Child::NotRegex(number) => Ok(Part::Members(matches_of(alloc, scene, *number)?)),
         Child::MetaPattern(_, formula) => asked(alloc, scene, formula),
         _ => Ok(Part::Nothing),
     }
@@ -187,9 +198,9 @@ fn part_of<'t>(alloc: Global, scene: Scene<'t>, child: &'t Child) -> Result<Part
 // What a condition on a metavariable needs.
 #[cycle(evaluate)]
 fn asked<'t>(alloc: Global, scene: Scene<'t>, formula: &'t Formula) -> Result<Part<'t>, EvalFault>
-    ensures exact { IfOk result (λ part. (name : List ℕ) → IsPart scene.entry.leaves.now scene.entry.bytes.now (meta_pattern name (tree_of formula.now)) part) }
-    ensures few { IfOk result (λ _. Over scene.entry.leaves.now scene.entry.bytes.now (tree_of formula.now) None) }
-    ensures crowded { IfErr result (IsFaultFrom (Over scene.entry.leaves.now scene.entry.bytes.now (tree_of formula.now))) }
+    ensures exact { IfOk result (λ part. (name : List ℕ) → IsPart scene.entry.leaves.now scene.entry.rx.now scene.entry.bytes.now (meta_pattern name (tree_of formula.now)) part) }
+    ensures few { IfOk result (λ _. Over scene.entry.leaves.now scene.entry.rx.now scene.entry.bytes.now (tree_of formula.now) None) }
+    ensures crowded { IfErr result (IsFaultFrom (Over scene.entry.leaves.now scene.entry.rx.now scene.entry.bytes.now (tree_of formula.now))) }
 {
     let Formula::All(children) = formula else {
         return Ok(Part::Members(members_of(alloc, scene, formula)?));
@@ -207,9 +218,9 @@ fn taken_away<'t>(
     scene: Scene<'t>,
     children: &'t [Child],
 ) -> Result<Vec<Vec<Member<'t>>>, EvalFault>
-    ensures exact { IfOk result (λ sets. AreTakenAway scene.entry.leaves.now scene.entry.bytes.now (branches_of (map branch_of children.now)) sets.items) }
-    ensures few { IfOk result (λ _. OverBranches scene.entry.leaves.now scene.entry.bytes.now 0 (branches_of (map branch_of children.now)) None) }
-    ensures crowded { IfErr result (IsFaultFrom (OverBranches scene.entry.leaves.now scene.entry.bytes.now 0 (branches_of (map branch_of children.now)))) }
+    ensures exact { IfOk result (λ sets. AreTakenAway scene.entry.leaves.now scene.entry.rx.now scene.entry.bytes.now (branches_of (map branch_of children.now)) sets.items) }
+    ensures few { IfOk result (λ _. OverBranches scene.entry.leaves.now scene.entry.rx.now scene.entry.bytes.now 0 (branches_of (map branch_of children.now)) None) }
+    ensures crowded { IfErr result (IsFaultFrom (OverBranches scene.entry.leaves.now scene.entry.rx.now scene.entry.bytes.now 0 (branches_of (map branch_of children.now)))) }
 {
     let mut sets = Vec::new(alloc);
     for (i, child) in children.iter().enumerate() {
