@@ -12,24 +12,26 @@ use Rattle.rule_form.specs.declared.formula.Formula.TheVariants as formulas
 use Rattle.rule_form.specs.declared.formula.Formula.TheVariants.{rolls-All}
 use Rattle.rule_form.specs.declared.formula.Child.{Child, Child-F, roll-Child}
 use Rattle.rule_form.specs.declared.formula.Child.TheVariants as children
-use Rattle.rule_form.specs.declared.formula.Child.TheVariants.{rolls-Not, rolls-NotInside, rolls-MetaRegex, rolls-MetaCompare, rolls-MetaPattern}
+use Rattle.rule_form.specs.declared.formula.Child.TheVariants.{rolls-Not, rolls-NotInside, rolls-NotRegex, rolls-MetaRegex, rolls-MetaCompare, rolls-MetaPattern}
 use Rattle.rule_form.specs.declared.formula.Child.TheOpen as layers
 use Rattle.tree_match.specs.declared.leaf.Leaf.{Leaf}
 use Rattle.tree_match.specs.Sets.{Among}
 use Rattle.tree_match.specs.Ascending.{IsAscending}
 use Rattle.tree_match.specs.Members.{Member, member_cmp}
-use Rattle.range_algebra.specs.Halves.{IsOrderedFor}
+use Rattle.range_algebra.specs.Halves.{IsOrderedFor, AreApart}
 use Rattle.range_algebra.specs.declared.part.Part.{Part}
 use Rattle.range_algebra.specs.declared.part.Part.TheVariants as parts
 use Rattle.range_algebra.specs.Sizes.{Any}
 use Rattle.range_algebra.specs.Ranges.{IsWithin}
-use Rattle.range_algebra.specs.Conditions.{IsEqualTo, IsAround, AllowsBy}
+use Rattle.range_algebra.specs.Conditions.{IsEqualTo, IsAround, IsSharedWith, AllowsBy}
+use Rattle.range_algebra.specs.Regexes.{unbound, matches_bound, AreMatches}
 use Rattle.range_algebra.specs.Choices.{Chosen}
 use Rattle.range_algebra.specs.Trees.{Tree, Branch, Branches, no_branches, branch_then, positive, inside, without, outside, without_regex, meta_regex, meta_compare, meta_pattern, focus, leaf, regex, some_of, all_of, trees_of, branches_of, tree_of, branch_of, has, is_positive, is_inside, is_focus, focused}
 use Rattle.range_algebra.specs.Meets.{Meets, MeetsSome, Allows, Allowed, IsShown, IsShownAt, IsShownAmong, IsGiven, IsOperandsMember}
 use Rattle.range_algebra.specs.Parts.{has_operands, members_in, IsBare, IsSetOf, IsPart, IsBarePart, IsTakenAway, AreTakenAway, AreParts}
 use Rattle.range_algebra.proofs.Openings.{branch_at, by_layer, tree_at, by_tree_layer, item_within, item_parted}
 use Rattle.range_algebra.proofs.Layers.{tree_all, branch_metapattern}
+use Rattle.range_algebra.proofs.Regexes.{among_matches, matches_apart}
 
 -- ---- a child's test
 
@@ -38,9 +40,9 @@ pub denied : (y : Bool) (A : Type 0) → IsTrue y ↔ A → IsTrue (not y) ↔ (
 denied true A h = (λ e. absurd (cc), λ n. absurd (n (h.0 refl)))
 denied false A h = (λ e a. (let f = h.1 a in cc), λ n. refl)
 
-module _ (bytes : List ℕ) (members : List Member) (one : Member) where
+module _ (texts : List (List ℕ)) (bytes : List ℕ) (members : List Member) (one : Member) where
   abbrev Says : Bool → Branch → Type 0
-  Says y b = IsTrue y ↔ AllowsBy bytes members one b
+  Says y b = IsTrue y ↔ AllowsBy texts bytes members one b
 
   pub says_without : (b : Branch) (t : Tree) (y : Bool) → b ≡ without t → IsTrue y ↔ Any (IsEqualTo one.0 one.1) members → Says (not y) b
   says_without b t y e h = let P : Branch → Type 0 = Says (not y) in subst P (sym e) (denied y (Any (IsEqualTo one.0 one.1) members) h)
@@ -54,28 +56,38 @@ module _ (bytes : List ℕ) (members : List Member) (one : Member) where
   pub says_outside : (b : Branch) (t : Tree) (y : Bool) → b ≡ outside t → IsTrue y ↔ Any (IsAround one.0 one.1) members → Says (not y) b
   says_outside b t y e h = let P : Branch → Type 0 = Says (not y) in subst P (sym e) (denied y (Any (IsAround one.0 one.1) members) h)
 
-  pub says_regex : (b : Branch) (name : List ℕ) (k : ℕ) → b ≡ meta_regex name k → Says false b
-  says_regex b name k e = let P : Branch → Type 0 = Says false in subst P (sym e) (λ f. absurd (cc), λ n. absurd n)
+  pub ordered_matches : (b : Branch) (k : ℕ) → b ≡ without_regex k → IsOrderedFor b members → AreApart members
+  ordered_matches b k e apart = let P : Branch → Type 0 = λ x. IsOrderedFor x members in subst P e apart
+
+  pub says_matches : (b : Branch) (k : ℕ) (y : Bool) → b ≡ without_regex k → IsTrue y ↔ Any (IsSharedWith one.0) members → Says (not y) b
+  says_matches b k y e h = let P : Branch → Type 0 = Says (not y) in subst P (sym e) (denied y (Any (IsSharedWith one.0) members) h)
+
+  -- a test that is the one that the child makes
+  says_tested : (b test : Branch) (y z : Bool) → b ≡ test → y ≡ z → IsTrue z ↔ AllowsBy texts bytes members one test → Says y b
+  says_tested b test y z e same h =
+      let P : Branch → Type 0 = Says y in
+      let Q : Bool → Type 0 = λ w. Says w test in
+      subst P (sym e) (subst Q (sym same) h)
+
+  pub says_regex : (b : Branch) (name : List ℕ) (k : ℕ) (y : Bool) → b ≡ meta_regex name k → y ≡ matches_bound texts bytes k name one.1 → Says y b
+  says_regex b name k y e same = says_tested b (meta_regex name k) y (matches_bound texts bytes k name one.1) e same (λ t. t, λ t. t)
 
   pub says_pattern : (b : Branch) (name : List ℕ) (t : Tree) → b ≡ meta_pattern name t → Says false b
   says_pattern b name t e = let P : Branch → Type 0 = Says false in subst P (sym e) (λ f. absurd (cc), λ n. absurd n)
 
   pub says_compare : (b : Branch) (x : Comparison) (y : Bool) → b ≡ meta_compare x → y ≡ holds one.1 bytes x → Says y b
-  says_compare b x y e h =
-      let P : Branch → Type 0 = Says y in
-      let Q : Bool → Type 0 = λ z. IsTrue z ↔ IsTrue (holds one.1 bytes x) in
-      subst P (sym e) (subst Q (sym h) (λ t. t, λ t. t))
+  says_compare b x y e same = says_tested b (meta_compare x) y (holds one.1 bytes x) e same (λ t. t, λ t. t)
 
-  pub says_other : (c : Child) → ((f : Formula) → c ≡ children.Not f → ⊥) → ((f : Formula) → c ≡ children.NotInside f → ⊥) → ((name : List ℕ) (k : ℕ) → c ≡ children.MetaRegex name k → ⊥) → ((x : Comparison) → c ≡ children.MetaCompare x → ⊥)
+  pub says_other : (c : Child) → ((f : Formula) → c ≡ children.Not f → ⊥) → ((f : Formula) → c ≡ children.NotInside f → ⊥) → ((k : ℕ) → c ≡ children.NotRegex k → ⊥) → ((name : List ℕ) (k : ℕ) → c ≡ children.MetaRegex name k → ⊥) → ((x : Comparison) → c ≡ children.MetaCompare x → ⊥)
       → ((name : List ℕ) (f : Formula) → c ≡ children.MetaPattern name f → ⊥) → Says true (branch_of c)
-  says_other c no_without no_outside no_regex no_compare no_pattern = (λ e. by_layer (AllowsBy bytes members one) c at, λ a. refl)
+  says_other c no_without no_outside no_matches no_regex no_compare no_pattern = (λ e. by_layer (AllowsBy texts bytes members one) c at, λ a. refl)
     where
-      at : (x : Child-F Child Formula) → c ≡ roll-Child x → AllowsBy bytes members one (branch_at x)
+      at : (x : Child-F Child Formula) → c ≡ roll-Child x → AllowsBy texts bytes members one (branch_at x)
       at (layers.Positive f) e = tt
       at (layers.Inside f) e = tt
       at (layers.Not f) e = absurd (no_without f (e ∙ rolls-Not f))
       at (layers.NotInside f) e = absurd (no_outside f (e ∙ rolls-NotInside f))
-      at (layers.NotRegex k) e = tt
+      at (layers.NotRegex k) e = absurd (no_matches k (e ∙ rolls-NotRegex k))
       at (layers.MetaRegex name k) e = absurd (no_regex name k (e ∙ rolls-MetaRegex name k))
       at (layers.MetaCompare x) e = absurd (no_compare x (e ∙ rolls-MetaCompare x))
       at (layers.MetaPattern name f) e = absurd (no_pattern name f (e ∙ rolls-MetaPattern name f))
@@ -83,9 +95,9 @@ module _ (bytes : List ℕ) (members : List Member) (one : Member) where
 
 -- ---- what is bound
 
-unbound : (name : List ℕ) (bs : List Bound) (F : Bound → Type 0) → bs ≡ [] → MatchOption (bound_at name bs) ⊥ F → ⊥
-unbound name [] F e x = x
-unbound name (b ∷ bs) F e x = absurd (cc)
+nowhere : (name : List ℕ) (bs : List Bound) (F : Bound → Type 0) → bs ≡ [] → MatchOption (bound_at name bs) ⊥ F → ⊥
+nowhere name [] F e x = x
+nowhere name (b ∷ bs) F e x = absurd (cc)
 
 at_bound : (o : Option Bound) (b : Bound) → o ≡ Some b → (F : Bound → Type 0) → MatchOption o ⊥ F ↔ F b
 at_bound o b e F = let P : Option Bound → Type 0 = λ x. MatchOption x ⊥ F ↔ F b in subst P (sym e) (λ x. x, λ x. x)
@@ -145,20 +157,26 @@ module _ (leaves : List Leaf) (texts : List (List ℕ)) (bytes : List ℕ) where
 
   -- ---- by the members of the formula
 
-  without_by : (t : Tree) (members : List Member) (one : Member) → IsSetOf leaves texts bytes t members → AllowsBy bytes members one (without t) ↔ Allows leaves texts bytes (without t) one
+  without_by : (t : Tree) (members : List Member) (one : Member) → IsSetOf leaves texts bytes t members → AllowsBy texts bytes members one (without t) ↔ Allows leaves texts bytes (without t) one
   without_by t members one set = (
     λ none b m agree. none ((one.0, b), (set.exact (one.0, b)).1 m, (refl, agree)),
     λ none x. none x.0.1 (let P : Span → Type 0 = λ r. Meets leaves texts bytes t None (r, x.0.1) in subst P x.2.0 ((set.exact x.0).0 x.1)) x.2.1,
   )
 
-  outside_by : (t : Tree) (members : List Member) (one : Member) → IsSetOf leaves texts bytes t members → AllowsBy bytes members one (outside t) ↔ Allows leaves texts bytes (outside t) one
+  outside_by : (t : Tree) (members : List Member) (one : Member) → IsSetOf leaves texts bytes t members → AllowsBy texts bytes members one (outside t) ↔ Allows leaves texts bytes (outside t) one
   outside_by t members one set = (
     λ none m is within agree. none (m, (set.exact m).1 is, (within, agree)),
     λ none x. none x.0 ((set.exact x.0).0 x.1) x.2.0 x.2.1,
   )
 
+  matches_by : (k : ℕ) (members : List Member) (one : Member) → AreMatches texts bytes k members → AllowsBy texts bytes members one (without_regex k) ↔ Allows leaves texts bytes (without_regex k) one
+  matches_by k members one are = (
+    λ none (s, among, shared). none (unbound s, (among_matches texts bytes k members are (unbound s)).1 (among, refl), shared),
+    λ none (m, among, shared). none (m.0, ((among_matches texts bytes k members are m).0 among).0, shared),
+  )
+
   -- what a child that is no condition by a formula allows, by its part
-  pub allows_of : (b : Branch) (p : Part) (one : Member) → IsPart leaves texts bytes b p → ((name : List ℕ) (t : Tree) → b ≡ meta_pattern name t → ⊥) → AllowsBy bytes (members_in p) one b ↔ Allows leaves texts bytes b one
+  pub allows_of : (b : Branch) (p : Part) (one : Member) → IsPart leaves texts bytes b p → ((name : List ℕ) (t : Tree) → b ≡ meta_pattern name t → ⊥) → AllowsBy texts bytes (members_in p) one b ↔ Allows leaves texts bytes b one
   allows_of (positive t) p one is other = (λ x. x, λ x. x)
   allows_of (inside t) p one is other = (λ x. x, λ x. x)
   allows_of (without t) parts.Nothing one is other = absurd is
@@ -167,7 +185,9 @@ module _ (leaves : List Leaf) (texts : List (List ℕ)) (bytes : List ℕ) where
   allows_of (outside t) parts.Nothing one is other = absurd is
   allows_of (outside t) (parts.Members v) one is other = outside_by t v.items one is
   allows_of (outside t) (parts.Bare sets) one is other = absurd is
-  allows_of (without_regex k) p one is other = (λ x. x, λ x. x)
+  allows_of (without_regex k) parts.Nothing one is other = absurd is
+  allows_of (without_regex k) (parts.Members v) one is other = matches_by k v.items one is
+  allows_of (without_regex k) (parts.Bare sets) one is other = absurd is
   allows_of (meta_regex name k) p one is other = (λ x. x, λ x. x)
   allows_of (meta_compare x) p one is other = (λ x. x, λ x. x)
   allows_of (meta_pattern name t) p one is other = absurd (other name t refl)
@@ -183,7 +203,9 @@ module _ (leaves : List Leaf) (texts : List (List ℕ)) (bytes : List ℕ) where
   part_ordered (outside t) (parts.Bare sets) given is same = absurd is
   part_ordered (positive t) p given is same = tt
   part_ordered (inside t) p given is same = tt
-  part_ordered (without_regex k) p given is same = tt
+  part_ordered (without_regex k) parts.Nothing given is same = absurd is
+  part_ordered (without_regex k) (parts.Members v) given is same = let P : List Member → Type 0 = AreApart in subst P (sym same) (matches_apart texts bytes k v.items is)
+  part_ordered (without_regex k) (parts.Bare sets) given is same = absurd is
   part_ordered (meta_regex name k) p given is same = tt
   part_ordered (meta_compare x) p given is same = tt
   part_ordered (meta_pattern name t) p given is same = tt
@@ -194,7 +216,7 @@ module _ (leaves : List Leaf) (texts : List (List ℕ)) (bytes : List ℕ) where
   taken_ordered (outside t) members given is same = let P : List Member → Type 0 = IsAscending member_cmp in subst P (sym same) is.ordered
   taken_ordered (positive t) members given is same = tt
   taken_ordered (inside t) members given is same = tt
-  taken_ordered (without_regex k) members given is same = tt
+  taken_ordered (without_regex k) members given is same = let P : List Member → Type 0 = AreApart in subst P (sym same) (matches_apart texts bytes k members is)
   taken_ordered (meta_regex name k) members given is same = tt
   taken_ordered (meta_compare x) members given is same = tt
   taken_ordered (meta_pattern name t) members given is same = tt
@@ -207,15 +229,15 @@ module _ (leaves : List Leaf) (texts : List (List ℕ)) (bytes : List ℕ) where
   pattern_ordered name t (parts.Members v) given is never same = let P : List Member → Type 0 = IsAscending member_cmp in subst P (sym same) is.0.ordered
 
   -- what a child of a formula without operands allows, where no name is bound
-  pub allows_taken : (b : Branch) (members : List Member) (one : Member) → one.1 ≡ [] → IsTakenAway leaves texts bytes b members → AllowsBy bytes members one b ↔ Allows leaves texts bytes b one
+  pub allows_taken : (b : Branch) (members : List Member) (one : Member) → one.1 ≡ [] → IsTakenAway leaves texts bytes b members → AllowsBy texts bytes members one b ↔ Allows leaves texts bytes b one
   allows_taken (positive t) members one e is = (λ x. x, λ x. x)
   allows_taken (inside t) members one e is = (λ x. x, λ x. x)
   allows_taken (without t) members one e is = without_by t members one is
   allows_taken (outside t) members one e is = outside_by t members one is
-  allows_taken (without_regex k) members one e is = (λ x. x, λ x. x)
+  allows_taken (without_regex k) members one e is = matches_by k members one is
   allows_taken (meta_regex name k) members one e is = (λ x. x, λ x. x)
   allows_taken (meta_compare x) members one e is = (λ x. x, λ x. x)
-  allows_taken (meta_pattern name t) members one e is = (λ n. absurd n, λ x. unbound name one.1 _ e x)
+  allows_taken (meta_pattern name t) members one e is = (λ n. absurd n, λ x. nowhere name one.1 _ e x)
   allows_taken (focus names) members one e is = (λ x. x, λ x. x)
 
   -- ---- all children
@@ -263,7 +285,7 @@ module _ (leaves : List Leaf) (texts : List (List ℕ)) (bytes : List ℕ) where
     part_parted ps p are here = item_parted cs i child lt is (AreParts leaves texts bytes) (IsPart leaves texts bytes) (λ b bs h. h) (λ b bs x xs h. h) ps are p here
 
   -- what a child of a formula without operands says, by its set
-  pub taken_says : (b : Branch) (v members : List Member) (one : Member) (y : Bool) → one.1 ≡ [] → IsTakenAway leaves texts bytes b v → members ≡ v → IsTrue y ↔ AllowsBy bytes members one b → IsTrue y ↔ Allows leaves texts bytes b one
+  pub taken_says : (b : Branch) (v members : List Member) (one : Member) (y : Bool) → one.1 ≡ [] → IsTakenAway leaves texts bytes b v → members ≡ v → IsTrue y ↔ AllowsBy texts bytes members one b → IsTrue y ↔ Allows leaves texts bytes b one
   taken_says b v members one y e is same says =
       let P : List Member → Type 0 = IsTakenAway leaves texts bytes b in
       let by = allows_taken b members one e (subst P (sym same) is) in

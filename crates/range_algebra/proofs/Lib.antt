@@ -5,6 +5,7 @@ pub mod Searches
 pub mod Settling
 pub mod Added
 pub mod Openings
+pub mod Regexes
 pub mod Allowing
 pub mod Gathering
 pub mod Limits

@@ -1,5 +1,5 @@
 -- What conditions ask of sets of members.
-use Rattle.std.specs.Prelude.{◌≡◌, ℕ, List, All, IsTrue}
+use Rattle.std.specs.Prelude.{◌≡◌, ℕ, List, All, IsTrue, MatchOption, slice_get}
 use Rattle.node_tree.specs.declared.span.Span.{Span}
 use Rattle.meta_bind.specs.declared.bound.Bound.{Bound}
 use Rattle.meta_bind.specs.Bounds.{Agree}
@@ -26,6 +26,10 @@ AreBoundIn text m = All (λ (b : Bound). EndsLieIn text b.span) m.1
 -- a byte lies in the range and in the member's
 abbrev pub IsSharedWith : Span → Member → Type 0
 IsSharedWith range m = ShareByte range m.0
+
+-- the same of the member at that place
+abbrev pub IsSharedAt : Span → List Member → ℕ → Type 0
+IsSharedAt range members i = MatchOption (slice_get members i) ⊥ (IsSharedWith range)
 
 -- What a child asks of a choice, where these are the members of its formula: that none has the range, or that it lies in none,
 -- with a binding that agrees; of matches that none shares a byte; or that the condition on a text holds. No condition by a formula

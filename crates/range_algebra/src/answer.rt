@@ -51,8 +51,7 @@ pub fn eval(
     ensures crowded { IfErr result (IsFault (Over leaves.now rx.old view.now.bytes (tree_of formula.now))) }
     ensures same { rx.new ≡ rx.old }
 {
-    let bytes = view.bytes.as_slice();
-    match members_of(alloc, Scene { bytes, leaves, rx }, formula) {
+    match members_of(alloc, Scene { view, leaves, rx }, formula) {
         Ok(members) => Ok(keep_all(alloc, members.as_slice())?),
         Err(EvalFault::Memory) => Err(EvalFault::Memory),
         Err(EvalFault::Crowded(mut numbers)) => {

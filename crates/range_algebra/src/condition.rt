@@ -4,7 +4,7 @@ ghost use Rattle.std.specs.Prelude.{◌≡◌, ◌↔◌, ◌<◌, ◌-◌, [], 
 ghost use Rattle.tree_match.specs.Ascending.{IsAscending};
 ghost use Rattle.tree_match.specs.Members.{member_cmp};
 ghost use Rattle.range_algebra.specs.Halves.{IsBefore, IsBetween, IsFrom, AreApart, IsOrderedFor};
-ghost use Rattle.range_algebra.specs.Conditions.{IsEqualTo, IsAround, IsSharedWith, AreBoundIn, AllowsBy};
+ghost use Rattle.range_algebra.specs.Conditions.{IsEqualTo, IsAround, IsSharedWith, IsSharedAt, AreBoundIn, AllowsBy};
 ghost use Rattle.range_algebra.specs.Meets.{Meets, Allows};
 ghost use Rattle.range_algebra.specs.Parts.{IsPart, AreTakenAway, has_operands};
 ghost use Rattle.range_algebra.specs.Sizes.{Any};
@@ -115,16 +115,29 @@ fn has_around<'t>(members: &[Member<'t>], range: Span, trail: &Trail<'t>) -> boo
     false
 }
 
+// Whether a byte lies in the range and in that of the member at that place, if there is one.
+fn shares_at<'t>(members: &[Member<'t>], at: usize, range: Span) -> bool
+    ensures { IsTrue result ↔ IsSharedAt range members.now at }
+{
+    if at < members.len() {
+        return shares_byte(range, members[at].0);
+    }
+    false
+}
+
 // Whether a byte lies in the range and in a member's, where the members' ranges follow one another.
 fn shares<'t>(members: &[Member<'t>], range: Span) -> bool
     requires apart { AreApart members.now }
     ensures { IsTrue result ↔ Any (IsSharedWith range) members.now }
 {
     let first = first_from(members, range);
-    if first < members.len() && shares_byte(range, members[first].0) {
+    if shares_at(members, first, range) {
         return true;
     }
-    0 < first && shares_byte(range, members[first - 1].0)
+    if first == 0 {
+        return false;
+    }
+    shares_at(members, first - 1, range)
 }
 
 // Whether the child puts names in focus.
@@ -160,8 +173,8 @@ fn allows_by<'t>(
     one: &Member<'t>,
 ) -> Result<bool, Memory>
     requires ordered { IsOrderedFor (branch_of child.now) members.now }
-    requires placed { AreBoundIn scene.bytes.now one.now }
-    ensures { IfOk result (λ y. IsTrue y ↔ AllowsBy scene.entry.rx.now scene.entry.bytes.now members.now one.now (branch_of child.now)) }
+    requires placed { AreBoundIn scene.view.now.bytes one.now }
+    ensures { IfOk result (λ y. IsTrue y ↔ AllowsBy scene.entry.rx.now scene.entry.view.now.bytes members.now one.now (branch_of child.now)) }
 {
     match child {
         Child::Not(_) => Ok(!has_equal(members, one.0, &one.1)),
@@ -170,7 +183,8 @@ fn allows_by<'t>(
         Child::MetaRegex(name, number) => matches_bound(scene, name.as_str(), *number, &one.1),
         Child::MetaPattern(_, _) => Ok(false),
         Child::MetaCompare(comparison) => {
-            Ok(holds_comparison(comparison, &one.1.keep()?, scene.bytes))
+            let bytes = scene.view.bytes.as_slice();
+            Ok(holds_comparison(comparison, &one.1.keep()?, bytes))
         }
         _ => Ok(true),
     }
@@ -185,8 +199,8 @@ fn allows_bare<'t>(
     range: Span,
 ) -> Result<bool, Memory>
     requires bare { has_operands (branches_of (map branch_of children.now)) ≡ false }
-    requires sets { AreTakenAway scene.leaves.now scene.rx.now scene.bytes.now (branches_of (map branch_of children.now)) sets.now }
-    ensures { IfOk result (λ y. IsTrue y ↔ Meets scene.entry.leaves.now scene.entry.rx.now scene.entry.bytes.now (all_of (branches_of (map branch_of children.now))) (Some range) (range, [])) }
+    requires sets { AreTakenAway scene.leaves.now scene.rx.now scene.view.now.bytes (branches_of (map branch_of children.now)) sets.now }
+    ensures { IfOk result (λ y. IsTrue y ↔ Meets scene.entry.leaves.now scene.entry.rx.now scene.entry.view.now.bytes (all_of (branches_of (map branch_of children.now))) (Some range) (range, [])) }
 {
     if has_focus(children) {
         return Ok(false);
@@ -209,8 +223,8 @@ fn matches<'t>(
     part: &Part<'t>,
     one: &Member<'t>,
 ) -> Result<bool, Memory>
-    requires part { IsPart scene.leaves.now scene.rx.now scene.bytes.now (meta_pattern name.now (tree_of formula.now)) part.now }
-    ensures { IfOk result (λ y. IsTrue y ↔ Allows scene.entry.leaves.now scene.entry.rx.now scene.entry.bytes.now (meta_pattern name.now (tree_of formula.now)) one.now) }
+    requires part { IsPart scene.leaves.now scene.rx.now scene.view.now.bytes (meta_pattern name.now (tree_of formula.now)) part.now }
+    ensures { IfOk result (λ y. IsTrue y ↔ Allows scene.entry.leaves.now scene.entry.rx.now scene.entry.view.now.bytes (meta_pattern name.now (tree_of formula.now)) one.now) }
 {
     let Some(held) = one.1.get(name) else {
         return Ok(false);
@@ -237,9 +251,9 @@ pub fn allows<'t>(
     part: &Part<'t>,
     one: &Member<'t>,
 ) -> Result<bool, Memory>
-    requires part { IsPart scene.leaves.now scene.rx.now scene.bytes.now (branch_of child.now) part.now }
-    requires placed { AreBoundIn scene.bytes.now one.now }
-    ensures { IfOk result (λ y. IsTrue y ↔ Allows scene.entry.leaves.now scene.entry.rx.now scene.entry.bytes.now (branch_of child.now) one.now) }
+    requires part { IsPart scene.leaves.now scene.rx.now scene.view.now.bytes (branch_of child.now) part.now }
+    requires placed { AreBoundIn scene.view.now.bytes one.now }
+    ensures { IfOk result (λ y. IsTrue y ↔ Allows scene.entry.leaves.now scene.entry.rx.now scene.entry.view.now.bytes (branch_of child.now) one.now) }
 {
     match child {
         Child::MetaPattern(name, formula) => {

@@ -1,7 +1,8 @@
 //! The members of a formula.
 
-ghost use Rattle.std.specs.Prelude.{◌≡◌, ◌↔◌, ◌≤◌, ◌<◌, ℕ, List, [], length, map, None, Ok, OnOk, IfOk, IfErr};
+ghost use Rattle.std.specs.Prelude.{◌≡◌, ◌↔◌, ◌≤◌, ◌<◌, ℕ, All, List, [], length, map, None, Ok, OnOk, IfOk, IfErr};
 ghost use Rattle.std.specs.Option.{option_to_list};
+ghost use Rattle.tree_match.specs.Placed.{IsLeafPlaced};
 ghost use Rattle.tree_match.specs.Sets.{Among, Adds};
 ghost use Rattle.tree_match.specs.Ascending.{IsAscending};
 ghost use Rattle.tree_match.specs.Members.{Member as member_value, member_cmp};
@@ -69,9 +70,9 @@ pub fn thinned<'t>(alloc: Global, members: Vec<Member<'t>>) -> Result<Vec<Member
 
 // The matches of the regular expression with that number, unless there are more than 10,000.
 fn found<'t>(alloc: Global, scene: Scene<'t>, number: u32) -> Result<Vec<Member<'t>>, EvalFault>
-    ensures exact { IfOk result (λ v. IsSetOf scene.entry.leaves.now scene.entry.rx.now scene.entry.bytes.now (regex number) v.items) }
-    ensures few { IfOk result (λ _. Over scene.entry.leaves.now scene.entry.rx.now scene.entry.bytes.now (regex number) None) }
-    ensures crowded { IfErr result (IsFaultFrom (Over scene.entry.leaves.now scene.entry.rx.now scene.entry.bytes.now (regex number))) }
+    ensures exact { IfOk result (λ v. IsSetOf scene.entry.leaves.now scene.entry.rx.now scene.entry.view.now.bytes (regex number) v.items) }
+    ensures few { IfOk result (λ _. Over scene.entry.leaves.now scene.entry.rx.now scene.entry.view.now.bytes (regex number) None) }
+    ensures crowded { IfErr result (IsFaultFrom (Over scene.entry.leaves.now scene.entry.rx.now scene.entry.view.now.bytes (regex number))) }
 {
     limited(alloc, matches_of(alloc, scene, number)?)
 }
@@ -123,9 +124,10 @@ pub fn members_of<'t>(
     scene: Scene<'t>,
     formula: &'t Formula,
 ) -> Result<Vec<Member<'t>>, EvalFault>
-    ensures exact { IfOk result (λ v. IsSetOf scene.entry.leaves.now scene.entry.rx.now scene.entry.bytes.now (tree_of formula.now) v.items) }
-    ensures few { IfOk result (λ _. Over scene.entry.leaves.now scene.entry.rx.now scene.entry.bytes.now (tree_of formula.now) None) }
-    ensures crowded { IfErr result (IsFaultFrom (Over scene.entry.leaves.now scene.entry.rx.now scene.entry.bytes.now (tree_of formula.now))) }
+    requires placed { All (λ leaf. IsLeafPlaced scene.view.now.bytes leaf) scene.leaves.now }
+    ensures exact { IfOk result (λ v. IsSetOf scene.entry.leaves.now scene.entry.rx.now scene.entry.view.now.bytes (tree_of formula.now) v.items) }
+    ensures few { IfOk result (λ _. Over scene.entry.leaves.now scene.entry.rx.now scene.entry.view.now.bytes (tree_of formula.now) None) }
+    ensures crowded { IfErr result (IsFaultFrom (Over scene.entry.leaves.now scene.entry.rx.now scene.entry.view.now.bytes (tree_of formula.now))) }
 {
     match formula {
         Formula::Leaf(number) => leaf_members(alloc, scene, *number),
@@ -148,9 +150,10 @@ fn members_of_each<'t>(
     scene: Scene<'t>,
     formulas: &'t [Formula],
 ) -> Result<Vec<Vec<Member<'t>>>, EvalFault>
-    ensures exact { IfOk result (λ sets. AreSetsOf scene.entry.leaves.now scene.entry.rx.now scene.entry.bytes.now (trees_of (map tree_of formulas.now)) sets.items) }
-    ensures few { IfOk result (λ _. OverTrees scene.entry.leaves.now scene.entry.rx.now scene.entry.bytes.now 0 (trees_of (map tree_of formulas.now)) None) }
-    ensures crowded { IfErr result (IsFaultFrom (OverTrees scene.entry.leaves.now scene.entry.rx.now scene.entry.bytes.now 0 (trees_of (map tree_of formulas.now)))) }
+    requires placed { All (λ leaf. IsLeafPlaced scene.view.now.bytes leaf) scene.leaves.now }
+    ensures exact { IfOk result (λ sets. AreSetsOf scene.entry.leaves.now scene.entry.rx.now scene.entry.view.now.bytes (trees_of (map tree_of formulas.now)) sets.items) }
+    ensures few { IfOk result (λ _. OverTrees scene.entry.leaves.now scene.entry.rx.now scene.entry.view.now.bytes 0 (trees_of (map tree_of formulas.now)) None) }
+    ensures crowded { IfErr result (IsFaultFrom (OverTrees scene.entry.leaves.now scene.entry.rx.now scene.entry.view.now.bytes 0 (trees_of (map tree_of formulas.now)))) }
 {
     let mut sets = Vec::new(alloc);
     for (i, formula) in formulas.iter().enumerate() {
@@ -166,9 +169,10 @@ fn parts_of_each<'t>(
     scene: Scene<'t>,
     children: &'t [Child],
 ) -> Result<Vec<Part<'t>>, EvalFault>
-    ensures exact { IfOk result (λ parts. AreParts scene.entry.leaves.now scene.entry.rx.now scene.entry.bytes.now (branches_of (map branch_of children.now)) parts.items) }
-    ensures few { IfOk result (λ _. OverBranches scene.entry.leaves.now scene.entry.rx.now scene.entry.bytes.now 0 (branches_of (map branch_of children.now)) None) }
-    ensures crowded { IfErr result (IsFaultFrom (OverBranches scene.entry.leaves.now scene.entry.rx.now scene.entry.bytes.now 0 (branches_of (map branch_of children.now)))) }
+    requires placed { All (λ leaf. IsLeafPlaced scene.view.now.bytes leaf) scene.leaves.now }
+    ensures exact { IfOk result (λ parts. AreParts scene.entry.leaves.now scene.entry.rx.now scene.entry.view.now.bytes (branches_of (map branch_of children.now)) parts.items) }
+    ensures few { IfOk result (λ _. OverBranches scene.entry.leaves.now scene.entry.rx.now scene.entry.view.now.bytes 0 (branches_of (map branch_of children.now)) None) }
+    ensures crowded { IfErr result (IsFaultFrom (OverBranches scene.entry.leaves.now scene.entry.rx.now scene.entry.view.now.bytes 0 (branches_of (map branch_of children.now)))) }
 {
     let mut parts = Vec::new(alloc);
     for (i, child) in children.iter().enumerate() {
@@ -180,9 +184,10 @@ fn parts_of_each<'t>(
 // What the child needs.
 #[cycle(evaluate)]
 fn part_of<'t>(alloc: Global, scene: Scene<'t>, child: &'t Child) -> Result<Part<'t>, EvalFault>
-    ensures exact { IfOk result (IsPart scene.entry.leaves.now scene.entry.rx.now scene.entry.bytes.now (branch_of child.now)) }
-    ensures few { IfOk result (λ _. OverBranch scene.entry.leaves.now scene.entry.rx.now scene.entry.bytes.now (branch_of child.now) None) }
-    ensures crowded { IfErr result (IsFaultFrom (OverBranch scene.entry.leaves.now scene.entry.rx.now scene.entry.bytes.now (branch_of child.now))) }
+    requires placed { All (λ leaf. IsLeafPlaced scene.view.now.bytes leaf) scene.leaves.now }
+    ensures exact { IfOk result (IsPart scene.entry.leaves.now scene.entry.rx.now scene.entry.view.now.bytes (branch_of child.now)) }
+    ensures few { IfOk result (λ _. OverBranch scene.entry.leaves.now scene.entry.rx.now scene.entry.view.now.bytes (branch_of child.now) None) }
+    ensures crowded { IfErr result (IsFaultFrom (OverBranch scene.entry.leaves.now scene.entry.rx.now scene.entry.view.now.bytes (branch_of child.now))) }
 {
     match child {
         Child::Positive(formula) => Ok(Part::Members(members_of(alloc, scene, formula)?)),
@@ -198,9 +203,10 @@ fn part_of<'t>(alloc: Global, scene: Scene<'t>, child: &'t Child) -> Result<Part
 // What a condition on a metavariable needs.
 #[cycle(evaluate)]
 fn asked<'t>(alloc: Global, scene: Scene<'t>, formula: &'t Formula) -> Result<Part<'t>, EvalFault>
-    ensures exact { IfOk result (λ part. (name : List ℕ) → IsPart scene.entry.leaves.now scene.entry.rx.now scene.entry.bytes.now (meta_pattern name (tree_of formula.now)) part) }
-    ensures few { IfOk result (λ _. Over scene.entry.leaves.now scene.entry.rx.now scene.entry.bytes.now (tree_of formula.now) None) }
-    ensures crowded { IfErr result (IsFaultFrom (Over scene.entry.leaves.now scene.entry.rx.now scene.entry.bytes.now (tree_of formula.now))) }
+    requires placed { All (λ leaf. IsLeafPlaced scene.view.now.bytes leaf) scene.leaves.now }
+    ensures exact { IfOk result (λ part. (name : List ℕ) → IsPart scene.entry.leaves.now scene.entry.rx.now scene.entry.view.now.bytes (meta_pattern name (tree_of formula.now)) part) }
+    ensures few { IfOk result (λ _. Over scene.entry.leaves.now scene.entry.rx.now scene.entry.view.now.bytes (tree_of formula.now) None) }
+    ensures crowded { IfErr result (IsFaultFrom (Over scene.entry.leaves.now scene.entry.rx.now scene.entry.view.now.bytes (tree_of formula.now))) }
 {
     let Formula::All(children) = formula else {
         return Ok(Part::Members(members_of(alloc, scene, formula)?));
@@ -218,9 +224,10 @@ fn taken_away<'t>(
     scene: Scene<'t>,
     children: &'t [Child],
 ) -> Result<Vec<Vec<Member<'t>>>, EvalFault>
-    ensures exact { IfOk result (λ sets. AreTakenAway scene.entry.leaves.now scene.entry.rx.now scene.entry.bytes.now (branches_of (map branch_of children.now)) sets.items) }
-    ensures few { IfOk result (λ _. OverBranches scene.entry.leaves.now scene.entry.rx.now scene.entry.bytes.now 0 (branches_of (map branch_of children.now)) None) }
-    ensures crowded { IfErr result (IsFaultFrom (OverBranches scene.entry.leaves.now scene.entry.rx.now scene.entry.bytes.now 0 (branches_of (map branch_of children.now)))) }
+    requires placed { All (λ leaf. IsLeafPlaced scene.view.now.bytes leaf) scene.leaves.now }
+    ensures exact { IfOk result (λ sets. AreTakenAway scene.entry.leaves.now scene.entry.rx.now scene.entry.view.now.bytes (branches_of (map branch_of children.now)) sets.items) }
+    ensures few { IfOk result (λ _. OverBranches scene.entry.leaves.now scene.entry.rx.now scene.entry.view.now.bytes 0 (branches_of (map branch_of children.now)) None) }
+    ensures crowded { IfErr result (IsFaultFrom (OverBranches scene.entry.leaves.now scene.entry.rx.now scene.entry.view.now.bytes 0 (branches_of (map branch_of children.now)))) }
 {
     let mut sets = Vec::new(alloc);
     for (i, child) in children.iter().enumerate() {

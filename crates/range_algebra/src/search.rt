@@ -30,12 +30,12 @@ pub fn matches_of<'t>(
     scene: Scene<'t>,
     number: u32,
 ) -> Result<Vec<Member<'t>>, Memory>
-    ensures { IfOk result (λ v. AreMatches scene.entry.rx.now scene.entry.bytes.now number v.items) }
+    ensures { IfOk result (λ v. AreMatches scene.entry.rx.now scene.entry.view.now.bytes number v.items) }
 {
     let Some(rx) = scene.rx.get(number as usize) else {
         return Ok(Vec::new(alloc));
     };
-    let Ok(text) = str::from_utf8(scene.bytes) else {
+    let Ok(text) = str::from_utf8(scene.view.bytes.as_slice()) else {
         unreachable!()
     };
     let ranges = rx.share()?.all(text)?;
@@ -49,11 +49,12 @@ pub fn matches_bound<'t>(
     number: u32,
     trail: &Trail<'t>,
 ) -> Result<bool, Memory>
-    requires placed { All (λ (b : bound). EndsLieIn scene.bytes.now b.span) trail.now }
-    ensures { IfOk result (λ y. y ≡ matches_bound scene.entry.rx.now scene.entry.bytes.now number name.now trail.now) }
+    requires placed { All (λ (b : bound). EndsLieIn scene.view.now.bytes b.span) trail.now }
+    ensures { IfOk result (λ y. y ≡ matches_bound scene.entry.rx.now scene.entry.view.now.bytes number name.now trail.now) }
 {
     let Some(rx) = scene.rx.get(number as usize) else {
         return Ok(false);
     };
-    holds_regex(&mut rx.share()?, &trail.keep()?, name, scene.bytes)
+    let bytes = scene.view.bytes.as_slice();
+    holds_regex(&mut rx.share()?, &trail.keep()?, name, bytes)
 }

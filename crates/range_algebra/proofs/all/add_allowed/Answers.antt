@@ -10,7 +10,7 @@ is_allowed-requires c = record { parts = c.requires.parts }
 
 pub returns-then-not-branch : goal.returns-then-not-branch
 returns-then-not-branch c =
-    adds_none _ (Shows c.args.scene.leaves.now c.args.scene.rx.now c.args.scene.bytes.now (branches_of (map branch_of c.args.children.now)) c.args.one.now) (λ m s. (let e = sym (c.in_ok-is_allowed.ensures.1 s.0) ∙ c.if-not-branch.true in cc))
+    adds_none _ (Shows c.args.scene.leaves.now c.args.scene.rx.now c.args.scene.view.now.bytes (branches_of (map branch_of c.args.children.now)) c.args.one.now) (λ m s. (let e = sym (c.in_ok-is_allowed.ensures.1 s.0) ∙ c.if-not-branch.true in cc))
 
 pub returns : goal.returns
-returns c = shown_allowed c.args.scene.leaves.now c.args.scene.rx.now c.args.scene.bytes.now (branches_of (map branch_of c.args.children.now)) c.args.one.now _ _ (let f = c.in_ok-is_allowed.ensures.0 in f c.if-not-branch.false) _ c.add_shown.ensures
+returns c = shown_allowed c.args.scene.leaves.now c.args.scene.rx.now c.args.scene.view.now.bytes (branches_of (map branch_of c.args.children.now)) c.args.one.now _ _ (let f = c.in_ok-is_allowed.ensures.0 in f c.if-not-branch.false) _ c.add_shown.ensures

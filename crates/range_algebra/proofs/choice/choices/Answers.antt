@@ -15,15 +15,15 @@ use Rattle.range_algebra.proofs.Given.{if_ok_set, if_ok_as, if_fault_as}
 use Rattle.range_algebra.proofs.choice.choices.Goals as goal
 
 pub operands-requires : goal.operands-requires
-operands-requires c = parts_length c.args.scene.leaves.now c.args.scene.rx.now c.args.scene.bytes.now c.args.children.now c.args.parts.now c.requires.parts
+operands-requires c = parts_length c.args.scene.leaves.now c.args.scene.rx.now c.args.scene.view.now.bytes c.args.children.now c.args.parts.now c.requires.parts
 
 pub operands-requires-2 : goal.operands-requires-2
-operands-requires-2 c = parts_length c.args.scene.leaves.now c.args.scene.rx.now c.args.scene.bytes.now c.args.children.now c.args.parts.now c.requires.parts
+operands-requires-2 c = parts_length c.args.scene.leaves.now c.args.scene.rx.now c.args.scene.view.now.bytes c.args.children.now c.args.parts.now c.requires.parts
 
 pub met_members-requires-clause-plains_ascend : goal.met_members-requires-clause-plains_ascend
 met_members-requires-clause-plains_ascend c =
     let P : List Operand → Type 0 = OperandsAscend in
-    subst P (sym c.as_slice-all_insides.ensures.value) (operands_ascend c.args.scene.leaves.now c.args.scene.rx.now c.args.scene.bytes.now Inside c.names_ascend.ensures (branches_of (map branch_of c.args.children.now)) 0 _ (c.in_ok-insides.ensures c.args.scene.leaves.now c.args.scene.rx.now c.args.scene.bytes.now c.requires.parts))
+    subst P (sym c.as_slice-all_insides.ensures.value) (operands_ascend c.args.scene.leaves.now c.args.scene.rx.now c.args.scene.view.now.bytes Inside c.names_ascend.ensures (branches_of (map branch_of c.args.children.now)) 0 _ (c.in_ok-insides.ensures c.args.scene.leaves.now c.args.scene.rx.now c.args.scene.view.now.bytes c.requires.parts))
 
 pub met_members-requires-clause-insides_ascend : goal.met_members-requires-clause-insides_ascend
 met_members-requires-clause-insides_ascend c = λ o k. elim k [ ]
@@ -31,12 +31,12 @@ met_members-requires-clause-insides_ascend c = λ o k. elim k [ ]
 pub met_members-requires-2-clause-plains_ascend : goal.met_members-requires-2-clause-plains_ascend
 met_members-requires-2-clause-plains_ascend c =
     let P : List Operand → Type 0 = OperandsAscend in
-    subst P (sym c.as_slice-all_plains.ensures.value) (operands_ascend c.args.scene.leaves.now c.args.scene.rx.now c.args.scene.bytes.now Plain c.names_ascend.ensures (branches_of (map branch_of c.args.children.now)) 0 _ (c.in_ok-plains.ensures c.args.scene.leaves.now c.args.scene.rx.now c.args.scene.bytes.now c.requires.parts))
+    subst P (sym c.as_slice-all_plains.ensures.value) (operands_ascend c.args.scene.leaves.now c.args.scene.rx.now c.args.scene.view.now.bytes Plain c.names_ascend.ensures (branches_of (map branch_of c.args.children.now)) 0 _ (c.in_ok-plains.ensures c.args.scene.leaves.now c.args.scene.rx.now c.args.scene.view.now.bytes c.requires.parts))
 
 pub met_members-requires-2-clause-insides_ascend : goal.met_members-requires-2-clause-insides_ascend
 met_members-requires-2-clause-insides_ascend c =
     let P : List Operand → Type 0 = OperandsAscend in
-    subst P (sym c.as_slice-all_insides.ensures.value) (operands_ascend c.args.scene.leaves.now c.args.scene.rx.now c.args.scene.bytes.now Inside c.names_ascend.ensures (branches_of (map branch_of c.args.children.now)) 0 _ (c.in_ok-insides.ensures c.args.scene.leaves.now c.args.scene.rx.now c.args.scene.bytes.now c.requires.parts))
+    subst P (sym c.as_slice-all_insides.ensures.value) (operands_ascend c.args.scene.leaves.now c.args.scene.rx.now c.args.scene.view.now.bytes Inside c.names_ascend.ensures (branches_of (map branch_of c.args.children.now)) 0 _ (c.in_ok-insides.ensures c.args.scene.leaves.now c.args.scene.rx.now c.args.scene.view.now.bytes c.requires.parts))
 
 pub met_members-requires-2-clause-some : goal.met_members-requires-2-clause-some
 met_members-requires-2-clause-some c = λ none. absurd (let e = sym c.is_empty.ensures ∙ c.if-is_empty.false in let f : length c.as_slice-all_plains.result.now ≡ 0 = (let P : List Operand → Type 0 = λ xs. length xs ≡ 0 in subst P (sym none) refl) in grind (arith, nat_tests))
@@ -45,7 +45,7 @@ pub returns-then-is_empty-clause-exact : goal.returns-then-is_empty-clause-exact
 returns-then-is_empty-clause-exact c =
     let leaves = c.args.scene.leaves.now in
     let texts = c.args.scene.rx.now in
-    let bytes = c.args.scene.bytes.now in
+    let bytes = c.args.scene.view.now.bytes in
     let bs = branches_of (map branch_of c.args.children.now) in
     let plains = c.as_slice-all_plains.result.now in
     let insides = c.as_slice-all_insides.result.now in
@@ -60,7 +60,7 @@ pub returns-then-is_empty-clause-few : goal.returns-then-is_empty-clause-few
 returns-then-is_empty-clause-few c =
     let leaves = c.args.scene.leaves.now in
     let texts = c.args.scene.rx.now in
-    let bytes = c.args.scene.bytes.now in
+    let bytes = c.args.scene.view.now.bytes in
     let bs = branches_of (map branch_of c.args.children.now) in
     let plains = c.as_slice-all_plains.result.now in
     let insides = c.as_slice-all_insides.result.now in
@@ -75,7 +75,7 @@ pub returns-then-is_empty-clause-crowded : goal.returns-then-is_empty-clause-cro
 returns-then-is_empty-clause-crowded c =
     let leaves = c.args.scene.leaves.now in
     let texts = c.args.scene.rx.now in
-    let bytes = c.args.scene.bytes.now in
+    let bytes = c.args.scene.view.now.bytes in
     let bs = branches_of (map branch_of c.args.children.now) in
     let plains = c.as_slice-all_plains.result.now in
     let insides = c.as_slice-all_insides.result.now in
@@ -90,7 +90,7 @@ pub returns-clause-exact : goal.returns-clause-exact
 returns-clause-exact c =
     let leaves = c.args.scene.leaves.now in
     let texts = c.args.scene.rx.now in
-    let bytes = c.args.scene.bytes.now in
+    let bytes = c.args.scene.view.now.bytes in
     let bs = branches_of (map branch_of c.args.children.now) in
     let plains = c.as_slice-all_plains.result.now in
     let insides = c.as_slice-all_insides.result.now in
@@ -105,7 +105,7 @@ pub returns-clause-few : goal.returns-clause-few
 returns-clause-few c =
     let leaves = c.args.scene.leaves.now in
     let texts = c.args.scene.rx.now in
-    let bytes = c.args.scene.bytes.now in
+    let bytes = c.args.scene.view.now.bytes in
     let bs = branches_of (map branch_of c.args.children.now) in
     let plains = c.as_slice-all_plains.result.now in
     let insides = c.as_slice-all_insides.result.now in
@@ -120,7 +120,7 @@ pub returns-clause-crowded : goal.returns-clause-crowded
 returns-clause-crowded c =
     let leaves = c.args.scene.leaves.now in
     let texts = c.args.scene.rx.now in
-    let bytes = c.args.scene.bytes.now in
+    let bytes = c.args.scene.view.now.bytes in
     let bs = branches_of (map branch_of c.args.children.now) in
     let plains = c.as_slice-all_plains.result.now in
     let insides = c.as_slice-all_insides.result.now in
