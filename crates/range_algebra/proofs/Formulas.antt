@@ -22,7 +22,7 @@ use Rattle.range_algebra.specs.Trees.{tree_of, trees_of, branch_of, branches_of,
 use Rattle.range_algebra.specs.Meets.{Meets, MeetsSome}
 use Rattle.range_algebra.specs.Parts.{has_operands, members_in, IsInSome, IsSetOf, AreSetsOf, IsPart, IsTakenAway, AreTakenAway, IsBare, IsBarePart, HasNoFormula}
 use Rattle.range_algebra.specs.Crowds.{IsFaultFrom, OneSet, Over, OverTrees, OverBranches, OverBranch, AtAll, PlainPrefixes}
-use Rattle.range_algebra.proofs.Layers.{tree_leaf, tree_regex, tree_any, tree_all, branch_notregex, branch_metaregex, branch_metacompare, branch_focus}
+use Rattle.range_algebra.proofs.Layers.{tree_leaf, tree_regex, tree_any, tree_all, branch_metaregex, branch_metacompare, branch_focus}
 use Rattle.range_algebra.proofs.Searches.{any_cons}
 use Rattle.range_algebra.proofs.Limits.{at_most, fault_more, fault_first, fault_next}
 
@@ -115,12 +115,6 @@ module _ (leaves : List Leaf) (texts : List (List ℕ)) (bytes : List ℕ) where
   pub fault_by : (f : Formula) (t : Trees.Tree) → tree_of f ≡ t → {V : Type 0} (r : Result V EvalFault) → IfErr r (IsFaultFrom (Over leaves texts bytes t)) → IfErr r (IsFaultFrom (Over leaves texts bytes (tree_of f)))
   fault_by f t is {V} r h = let P : Trees.Tree → Type 0 = λ u. IfErr r (IsFaultFrom (Over leaves texts bytes u)) in subst P (sym is) h
 
-  pub regex_set : (f : Formula) (k : ℕ) → tree_of f ≡ Trees.regex k → (xs : List Member) → xs ≡ [] → IsSetOf leaves texts bytes (tree_of f) xs
-  regex_set f k is xs e =
-      let P : Trees.Tree → Type 0 = λ u. IsSetOf leaves texts bytes u xs in
-      let Q : List Member → Type 0 = λ ys. IsSetOf leaves texts bytes (Trees.regex k) ys in
-      subst P (sym is) (subst Q (sym e) (record { exact = λ m. (λ a. a, λ a. a); ordered = tt }))
-
   pub over_at : (f : Formula) (t : Trees.Tree) → tree_of f ≡ t → Over leaves texts bytes t None → Over leaves texts bytes (tree_of f) None
   over_at f t is h = let P : Trees.Tree → Type 0 = λ u. Over leaves texts bytes u None in subst P (sym is) h
 
@@ -170,8 +164,8 @@ module _ (leaves : List Leaf) (texts : List (List ℕ)) (bytes : List ℕ) where
   pub bare_part : (f : Formula) (bs : Trees.Branches) → tree_of f ≡ Trees.all_of bs → has_operands bs ≡ false → (sets : List (Vec Member Global)) → AreTakenAway leaves texts bytes bs sets → (name : List ℕ) → IsBarePart leaves texts bytes (Trees.meta_pattern name (tree_of f)) sets
   bare_part f bs is e sets h name = let P : Trees.Tree → Type 0 = λ u. IsBarePart leaves texts bytes (Trees.meta_pattern name u) sets in subst P (sym is) (e, h)
 
-  -- a child of another kind has no formula
-  module _ (c : Child) (a : (f : Formula) → c ≡ children.Positive f → ⊥) (b : (f : Formula) → c ≡ children.Inside f → ⊥) (d : (f : Formula) → c ≡ children.Not f → ⊥) (g : (f : Formula) → c ≡ children.NotInside f → ⊥)
+  -- a child of another kind asks for no set
+  module _ (c : Child) (a : (f : Formula) → c ≡ children.Positive f → ⊥) (b : (f : Formula) → c ≡ children.Inside f → ⊥) (d : (f : Formula) → c ≡ children.Not f → ⊥) (g : (f : Formula) → c ≡ children.NotInside f → ⊥) (r : (k : ℕ) → c ≡ children.NotRegex k → ⊥)
       (h : (name : List ℕ) (f : Formula) → c ≡ children.MetaPattern name f → ⊥) where
     none_by : (u : Trees.Branch) → branch_of c ≡ u → HasNoFormula u → OverBranch leaves texts bytes u None → HasNoFormula (branch_of c) × OverBranch leaves texts bytes (branch_of c) None
     none_by u is k m = (subst HasNoFormula (sym is) k, branch_over c u is m)
@@ -184,7 +178,7 @@ module _ (leaves : List Leaf) (texts : List (List ℕ)) (bytes : List ℕ) where
         at (layers.Inside f) e = absurd (b f (sym e ∙ rolls-Inside f))
         at (layers.Not f) e = absurd (d f (sym e ∙ rolls-Not f))
         at (layers.NotInside f) e = absurd (g f (sym e ∙ rolls-NotInside f))
-        at (layers.NotRegex k) e = none_by (Trees.without_regex k) (ap branch_of (sym e ∙ rolls-NotRegex k) ∙ branch_notregex k) tt refl
+        at (layers.NotRegex k) e = absurd (r k (sym e ∙ rolls-NotRegex k))
         at (layers.MetaRegex name k) e = none_by (Trees.meta_regex name k) (ap branch_of (sym e ∙ rolls-MetaRegex name k) ∙ branch_metaregex name k) tt refl
         at (layers.MetaCompare x) e = none_by (Trees.meta_compare x) (ap branch_of (sym e ∙ rolls-MetaCompare x) ∙ branch_metacompare x) tt refl
         at (layers.MetaPattern name f) e = absurd (h name f (sym e ∙ rolls-MetaPattern name f))
@@ -235,7 +229,9 @@ module _ (leaves : List Leaf) (texts : List (List ℕ)) (bytes : List ℕ) where
   part_taken (Trees.outside t) (parts.Bare sets) h = elim h [ ]
   part_taken (Trees.positive t) p h = tt
   part_taken (Trees.inside t) p h = tt
-  part_taken (Trees.without_regex k) p h = tt
+  part_taken (Trees.without_regex k) (parts.Members v) h = h
+  part_taken (Trees.without_regex k) parts.Nothing h = elim h [ ]
+  part_taken (Trees.without_regex k) (parts.Bare sets) h = elim h [ ]
   part_taken (Trees.meta_regex name k) p h = tt
   part_taken (Trees.meta_compare x) p h = tt
   part_taken (Trees.meta_pattern name t) p h = tt

@@ -22,3 +22,4 @@ pub mod Taking
 pub mod Given
 pub mod LeafNames
 pub mod Halving
+pub mod Placed

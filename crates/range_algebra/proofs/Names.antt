@@ -87,7 +87,7 @@ module _ (leaves : List Leaf) (texts : List (List ℕ)) (bytes : List ℕ) (up :
   mutual
     pub tree_ascends : (t : Trees.Tree) (m : Member) → Meets leaves texts bytes t None m → Ascends m
     tree_ascends (Trees.leaf k) m h = up k m h
-    tree_ascends (Trees.regex k) m h = elim h [ ]
+    tree_ascends (Trees.regex k) m h = let P : List Bound → Type 0 = NamesAscend in subst P (sym h.1) tt
     tree_ascends (Trees.some_of ts) m h = trees_ascend ts m h
     tree_ascends (Trees.all_of bs) m (c, ops, allowed, shown) =
         shown_ascends c m (Trees.focused bs) (Trees.has Trees.is_focus bs) shown

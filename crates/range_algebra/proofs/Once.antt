@@ -7,6 +7,7 @@ use Rattle.tree_match.specs.Sets.{Among}
 use Rattle.range_algebra.specs.declared.join.Role.{Role}
 use Rattle.range_algebra.specs.declared.join.Role.TheVariants.{Plain, Inside}
 use Rattle.range_algebra.specs.Sizes.{IsDistinct, HasAtMost, HasMoreThan}
+use Rattle.range_algebra.specs.Regexes.{IsMatch}
 use Rattle.range_algebra.specs.Trees
 use Rattle.range_algebra.specs.Choices.{NoneOf, IsCounted}
 use Rattle.range_algebra.specs.Meets.{Meets, MeetsSome, OneOfEach}
@@ -133,7 +134,7 @@ module _ (leaves : List Leaf) (texts : List (List ℕ)) (bytes : List ℕ) where
   mutual
     tree_one : (t : Trees.Tree) → FindsOne (Over leaves texts bytes t)
     tree_one (Trees.leaf k) = leaf_one (slice_get leaves k)
-    tree_one (Trees.regex k) = nothing_one
+    tree_one (Trees.regex k) = set_one [] (IsMatch texts bytes k)
     tree_one (Trees.some_of ts) = then_one (OverTrees leaves texts bytes 0 ts) (OneSet [] (MeetsSome leaves texts bytes ts)) (trees_one ts 0) (set_one [] (MeetsSome leaves texts bytes ts))
     tree_one (Trees.all_of bs) = then_one (OverBranches leaves texts bytes 0 bs) (AtAll leaves texts bytes bs) (branches_one bs 0) (at_all_one bs)
 

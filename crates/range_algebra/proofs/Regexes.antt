@@ -11,6 +11,7 @@ use Rattle.node_tree.specs.Span.{span_cmp}
 use Rattle.meta_bind.specs.Bounds.{binding_cmp}
 use Rattle.rx_text.specs.Searches.{all_matches, FollowFrom}
 use Rattle.rx_text.proofs.Matches.{all_follow}
+use Rattle.tree_match.specs.declared.leaf.Leaf.{Leaf}
 use Rattle.tree_match.specs.Sets.{Among}
 use Rattle.tree_match.specs.Ascending.{IsAscending}
 use Rattle.tree_match.specs.Members.{Member, member_cmp}
@@ -20,6 +21,8 @@ use Rattle.range_algebra.specs.Halves.{IsBefore, IsBetween, AreApart}
 use Rattle.range_algebra.specs.Ranges.{ShareByte}
 use Rattle.range_algebra.specs.Regexes.{unbound, matches_of, IsMatch, AreMatches}
 use Rattle.range_algebra.specs.Sizes.{Each, Any}
+use Rattle.range_algebra.specs.Trees.{regex}
+use Rattle.range_algebra.specs.Parts.{IsSetOf}
 use Rattle.range_algebra.proofs.Gathering.{any_joined}
 
 -- ---- matches with nothing bound
@@ -76,6 +79,10 @@ pub apart_ascend : (at : ℕ) (ms : List Member) → FollowFrom at (map range_of
 apart_ascend at [] f = tt
 apart_ascend at (x ∷ []) f = tt
 apart_ascend at (x ∷ y ∷ ys) f = (below x y (omega (arith, f.1, f.2.0)), apart_ascend x.0.to (y ∷ ys) f.2)
+
+-- the matches are the set of a formula that is the regular expression
+pub matches_set : (leaves : List Leaf) (texts : List (List ℕ)) (bytes : List ℕ) (k : ℕ) (members : List Member) → AreMatches texts bytes k members → IsSetOf leaves texts bytes (regex k) members
+matches_set leaves texts bytes k members are = record { exact = among_matches texts bytes k members are; ordered = apart_ascend 0 members (matches_apart texts bytes k members are) }
 
 -- ---- before and behind a range
 

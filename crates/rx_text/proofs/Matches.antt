@@ -100,3 +100,11 @@ follow at ((from, to) ∷ ps) o =
 
 pub spans_follow : (re : Re) (hay : List ℕ) → FollowFrom 0 (spans_of re hay)
 spans_follow re hay = follow 0 _ (in_order re hay (length hay + 1) 0 _ (begins re hay 0))
+
+-- the same of the regular expression of a text
+pub all_follow : (text hay : List ℕ) → FollowFrom 0 (all_matches text hay)
+all_follow text hay = at (pattern_of text)
+  where
+    at : (o : Option Re) → FollowFrom 0 (elim o [ None ↦ [] | Some re ↦ spans_of re hay ])
+    at None = tt
+    at (Some re) = spans_follow re hay

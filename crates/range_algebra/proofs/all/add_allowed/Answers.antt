@@ -6,7 +6,7 @@ use Rattle.range_algebra.proofs.Gathering.{shown_allowed}
 use Rattle.range_algebra.proofs.all.add_allowed.Goals as goal
 
 pub is_allowed-requires : goal.is_allowed-requires
-is_allowed-requires c = record { parts = c.requires.parts }
+is_allowed-requires c = record { parts = c.requires.parts; placed = c.requires.placed }
 
 pub returns-then-not-branch : goal.returns-then-not-branch
 returns-then-not-branch c =

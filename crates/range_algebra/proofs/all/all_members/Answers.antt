@@ -1,21 +1,30 @@
-use Rattle.std.proofs.Common.{◌↔◌, [], map}
+use Rattle.std.proofs.Common.{◌↔◌, List, [], map, sym, subst}
 use Rattle.std.specs.Prelude.{None}
 use Rattle.std.proofs.lemmas.Result.{err_from_is_err_and, IfErr-weaker}
+use Rattle.tree_match.specs.Members.{Member}
 use Rattle.tree_match.specs.Sets.{Among}
 use Rattle.tree_match.proofs.Sets.{chain}
 use Rattle.range_algebra.specs.Trees.{branch_of, branches_of, all_of}
 use Rattle.range_algebra.specs.Meets.{Meets}
+use Rattle.range_algebra.specs.Sizes.{Each}
+use Rattle.range_algebra.specs.Conditions.{AreBoundIn}
 use Rattle.range_algebra.specs.Shown.{IsShownOfSome}
 use Rattle.range_algebra.specs.Crowds.{Prefixes, OneSet}
 use Rattle.range_algebra.proofs.Gathering.{meets_chosen, if_ok_both}
 use Rattle.range_algebra.proofs.Limits.{fault_first, fault_next, fault_more}
+use Rattle.range_algebra.proofs.Placed.{chosen_bound}
 use Rattle.range_algebra.proofs.all.all_members.Goals as goal
 
 pub choices-requires : goal.choices-requires
 choices-requires c = record { parts = c.requires.parts }
 
 pub shown_of-requires : goal.shown_of-requires
-shown_of-requires c = record { parts = c.requires.parts }
+shown_of-requires c =
+    let P : List Member → Type 0 = Each (AreBoundIn c.args.scene.view.now.bytes) in
+    record {
+      parts = c.requires.parts;
+      placed = subst P (sym c.as_slice.ensures.value) (λ m h. chosen_bound c.args.scene.leaves.now c.args.scene.rx.now c.args.scene.view.now.bytes c.requires.placed (branches_of (map branch_of c.args.children.now)) m ((c.in_ok-chosen.ensures.exact m).0 h));
+    }
 
 pub returns-in_err-chosen-clause-crowded : goal.returns-in_err-chosen-clause-crowded
 returns-in_err-chosen-clause-crowded c =

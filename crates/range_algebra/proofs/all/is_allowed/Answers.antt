@@ -10,7 +10,7 @@ pub bounds-parts-i : goal.bounds-parts-i
 bounds-parts-i c = part_within c.args.scene.leaves.now c.args.scene.rx.now c.args.scene.view.now.bytes _ _ _ c.loop-i-test.true c.index-children-i.is _ c.loop-i.invariant.parts
 
 pub allows-requires : goal.allows-requires
-allows-requires c = record { part = (part_parted c.args.scene.leaves.now c.args.scene.rx.now c.args.scene.view.now.bytes _ _ _ c.loop-i-test.true c.index-children-i.is _ c.index-parts-i.result c.loop-i.invariant.parts c.index-parts-i.is).0 }
+allows-requires c = record { part = (part_parted c.args.scene.leaves.now c.args.scene.rx.now c.args.scene.view.now.bytes _ _ _ c.loop-i-test.true c.index-children-i.is _ c.index-parts-i.result c.loop-i.invariant.parts c.index-parts-i.is).0; placed = c.requires.placed }
 
 pub returns-then-not-branch : goal.returns-then-not-branch
 returns-then-not-branch c =

@@ -2,6 +2,7 @@ use Rattle.std.proofs.Common.{◌↔◌, ◌⊎◌, [], inl, inr, map}
 use Rattle.std.proofs.lemmas.Result.{err_from_is_err_and}
 use Rattle.tree_match.specs.Sets.{Among}
 use Rattle.tree_match.specs.Members.{Member}
+use Rattle.tree_match.proofs.Ascents.{among_at}
 use Rattle.tree_match.proofs.Sets.{gathered, gathered_all, chain}
 use Rattle.range_algebra.specs.Trees.{branch_of, branches_of}
 use Rattle.range_algebra.specs.Shown.{Shows, IsShownOfSome}
@@ -10,7 +11,7 @@ use Rattle.range_algebra.proofs.Limits.{fault_more}
 use Rattle.range_algebra.proofs.all.shown_of.Goals as goal
 
 pub add_allowed-requires : goal.add_allowed-requires
-add_allowed-requires c = record { parts = c.requires.parts }
+add_allowed-requires c = record { parts = c.requires.parts; placed = c.requires.placed c.one-item.result (among_at c.args.chosen.now c.loop-one.one-index c.one-item.result c.loop-one-test.true c.one-item.is) }
 
 pub loop-one-preserved : goal.loop-one-preserved
 loop-one-preserved c m =

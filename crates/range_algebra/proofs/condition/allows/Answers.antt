@@ -19,9 +19,9 @@ returns-in-MetaPattern c =
     subst P (sym (pattern_branch _ _ _ _ c.in-MetaPattern.is c.as_str.ensures)) c.matches.ensures
 
 pub allows_by-requires : goal.allows_by-requires
-allows_by-requires c = record { ordered = part_ordered c.args.scene.leaves.now c.args.scene.rx.now c.args.scene.view.now.bytes (branch_of c.args.child.now) c.args.part.now _ c.requires.part c.members.ensures }
+allows_by-requires c = record { ordered = part_ordered c.args.scene.leaves.now c.args.scene.rx.now c.args.scene.view.now.bytes (branch_of c.args.child.now) c.args.part.now _ c.requires.part c.members.ensures; placed = c.requires.placed }
 
 pub returns-in_default : goal.returns-in_default
 returns-in_default c =
-    let P : List Member → Type 0 = λ ms. AllowsBy c.args.scene.view.now.bytes ms c.args.one.now (branch_of c.args.child.now) ↔ Allows c.args.scene.leaves.now c.args.scene.rx.now c.args.scene.view.now.bytes (branch_of c.args.child.now) c.args.one.now in
+    let P : List Member → Type 0 = λ ms. AllowsBy c.args.scene.rx.now c.args.scene.view.now.bytes ms c.args.one.now (branch_of c.args.child.now) ↔ Allows c.args.scene.leaves.now c.args.scene.rx.now c.args.scene.view.now.bytes (branch_of c.args.child.now) c.args.one.now in
     if_ok_says _ _ c.allows_by.result (subst P (sym c.members.ensures) (allows_of c.args.scene.leaves.now c.args.scene.rx.now c.args.scene.view.now.bytes (branch_of c.args.child.now) c.args.part.now c.args.one.now c.requires.part (no_pattern c.args.child.now c.in_default.not-MetaPattern))) c.allows_by.ensures

@@ -1,5 +1,8 @@
-use Rattle.std.proofs.Common.{◌≡◌, List, [], refl, sym, ap, ◌∙◌}
+use Rattle.std.proofs.Common.{◌≡◌, List, [], refl, sym, ap, ◌∙◌, subst}
+use Rattle.std.proofs.lemmas.List.Elements.{All-nil}
 use Rattle.meta_bind.specs.declared.bound.Bound.{Bound}
+use Rattle.meta_bind.specs.Places.{EndsLieIn}
+use Rattle.range_algebra.specs.Conditions.{AreBoundIn}
 use Rattle.range_algebra.proofs.Openings.{branches_left, none_left}
 use Rattle.range_algebra.proofs.Allowing.{bare_answer, taken_within, taken_parted, taken_ordered, taken_says, refused, passed_on, all_passed}
 use Rattle.range_algebra.proofs.condition.allows_bare.Goals as goal
@@ -18,6 +21,7 @@ bounds-sets-i c = taken_within c.args.scene.leaves.now c.args.scene.rx.now c.arg
 pub allows_by-requires : goal.allows_by-requires
 allows_by-requires c = record {
   ordered = taken_ordered c.args.scene.leaves.now c.args.scene.rx.now c.args.scene.view.now.bytes _ _ _ (taken_parted c.args.scene.leaves.now c.args.scene.rx.now c.args.scene.view.now.bytes _ _ _ c.loop-i-test.true c.index-children-i.is _ c.index-sets-i.result c.loop-i.invariant.sets c.index-sets-i.is).0 c.as_slice.ensures.value;
+  placed = (let P : List Bound → Type 0 = λ b. AreBoundIn c.args.scene.view.now.bytes (c.args.range, b) in subst P (sym c.new.ensures) (All-nil (λ (b : Bound). EndsLieIn c.args.scene.view.now.bytes b.span)));
 }
 
 pub returns-then-not-branch : goal.returns-then-not-branch

@@ -6,13 +6,13 @@ use Rattle.rule_form.specs.declared.formula.Child.{Child}
 use Rattle.tree_match.specs.Members.{Member}
 use Rattle.range_algebra.specs.declared.part.Part.{Part}
 use Rattle.range_algebra.specs.declared.part.Part.TheVariants as parts
-use Rattle.range_algebra.specs.Trees.{tree_of, trees_of, branch_of, branches_of, leaf, regex, some_of, all_of, positive, inside, without, outside}
+use Rattle.range_algebra.specs.Trees.{tree_of, trees_of, branch_of, branches_of, leaf, regex, some_of, all_of, positive, inside, without, outside, without_regex}
 use Rattle.range_algebra.specs.Parts.{has_operands, AreSetsOf, IsTakenAway}
 use Rattle.range_algebra.specs.Crowds.{Over, OverTrees, OverBranch, OverBranches}
-use Rattle.range_algebra.proofs.Layers.{tree_leaf, tree_regex, branch_positive, branch_inside, branch_not, branch_notinside, branch_metapattern}
+use Rattle.range_algebra.proofs.Layers.{tree_leaf, tree_regex, branch_positive, branch_inside, branch_not, branch_notinside, branch_notregex, branch_metapattern}
 use Rattle.range_algebra.proofs.Limits.{fault_out, fault_as}
 use Rattle.range_algebra.proofs.Children.{OverEach, fault_in, walk_start, walk_step, walk_fault, walk_end, over_trees, over_branches, tree_sets, branch_parts, branch_taken, InTree, InBranch, IsTreeSet, IsBranchPart, IsBranchTaken}
-use Rattle.range_algebra.proofs.Formulas.{tree_is_any, tree_is_all, not_bare, has_one, none_there, set_by, over_by, fault_by, over_at, regex_set, some_child_fault, all_child_fault, some_set, some_over, some_fault, all_over, all_fault, branch_part, branch_over, branch_fault, asked_part, asked_over, asked_fault, bare_part, bare_over, no_formula, part_taken}
+use Rattle.range_algebra.proofs.Formulas.{tree_is_any, tree_is_all, not_bare, has_one, none_there, set_by, over_by, fault_by, over_at, some_child_fault, all_child_fault, some_set, some_over, some_fault, all_over, all_fault, branch_part, branch_over, branch_fault, asked_part, asked_over, asked_fault, bare_part, bare_over, no_formula, part_taken}
 use Rattle.range_algebra.proofs.evaluate.+evaluate.Goals as goal
 
 pub asked-returns-in_default : goal.asked-returns-in_default
@@ -99,6 +99,12 @@ part_of-returns-in_ok-members_of-in-NotInside-clause-exact t c = branch_part c.a
 pub part_of-returns-in_ok-members_of-in-NotInside-clause-few : goal.part_of-returns-in_ok-members_of-in-NotInside-clause-few
 part_of-returns-in_ok-members_of-in-NotInside-clause-few t c = branch_over c.args.scene.leaves.now c.args.scene.rx.now c.args.scene.view.now.bytes _ (outside _) (ap branch_of c.in-NotInside.is ∙ branch_notinside _) c.in_ok-members_of-in-NotInside.ensures.few
 
+pub part_of-returns-in_ok-matches_of-clause-exact : goal.part_of-returns-in_ok-matches_of-clause-exact
+part_of-returns-in_ok-matches_of-clause-exact t c = branch_part c.args.scene.leaves.now c.args.scene.rx.now c.args.scene.view.now.bytes _ (without_regex _) (ap branch_of c.in-NotRegex.is ∙ branch_notregex _) (parts.Members c.in_ok-matches_of.field-0) c.in_ok-matches_of.ensures
+
+pub part_of-returns-in_ok-matches_of-clause-few : goal.part_of-returns-in_ok-matches_of-clause-few
+part_of-returns-in_ok-matches_of-clause-few t c = branch_over c.args.scene.leaves.now c.args.scene.rx.now c.args.scene.view.now.bytes _ (without_regex _) (ap branch_of c.in-NotRegex.is ∙ branch_notregex _) refl
+
 pub part_of-returns-in-MetaPattern-clause-exact : goal.part_of-returns-in-MetaPattern-clause-exact
 part_of-returns-in-MetaPattern-clause-exact t c = asked_part c.args.scene.leaves.now c.args.scene.rx.now c.args.scene.view.now.bytes _ _ _ (ap branch_of c.in-MetaPattern.is ∙ branch_metapattern _ _) _ c.asked.ensures.exact
 
@@ -109,16 +115,19 @@ pub part_of-returns-in-MetaPattern-clause-crowded : goal.part_of-returns-in-Meta
 part_of-returns-in-MetaPattern-clause-crowded t c = asked_fault c.args.scene.leaves.now c.args.scene.rx.now c.args.scene.view.now.bytes _ _ _ (ap branch_of c.in-MetaPattern.is ∙ branch_metapattern _ _) _ c.asked.ensures.crowded
 
 pub part_of-returns-in_default-clause-exact : goal.part_of-returns-in_default-clause-exact
-part_of-returns-in_default-clause-exact t c = (no_formula c.args.scene.leaves.now c.args.scene.rx.now c.args.scene.view.now.bytes _ c.in_default.not-Positive c.in_default.not-Inside c.in_default.not-Not c.in_default.not-NotInside c.in_default.not-MetaPattern).0
+part_of-returns-in_default-clause-exact t c = (no_formula c.args.scene.leaves.now c.args.scene.rx.now c.args.scene.view.now.bytes _ c.in_default.not-Positive c.in_default.not-Inside c.in_default.not-Not c.in_default.not-NotInside c.in_default.not-NotRegex c.in_default.not-MetaPattern).0
 
 pub part_of-returns-in_default-clause-few : goal.part_of-returns-in_default-clause-few
-part_of-returns-in_default-clause-few t c = (no_formula c.args.scene.leaves.now c.args.scene.rx.now c.args.scene.view.now.bytes _ c.in_default.not-Positive c.in_default.not-Inside c.in_default.not-Not c.in_default.not-NotInside c.in_default.not-MetaPattern).1
+part_of-returns-in_default-clause-few t c = (no_formula c.args.scene.leaves.now c.args.scene.rx.now c.args.scene.view.now.bytes _ c.in_default.not-Positive c.in_default.not-Inside c.in_default.not-Not c.in_default.not-NotInside c.in_default.not-NotRegex c.in_default.not-MetaPattern).1
 
 pub members_of-returns-in-Regex-clause-exact : goal.members_of-returns-in-Regex-clause-exact
-members_of-returns-in-Regex-clause-exact t c = regex_set c.args.scene.leaves.now c.args.scene.rx.now c.args.scene.view.now.bytes _ c.in-Regex.field-0 (ap tree_of c.in-Regex.is ∙ tree_regex _) _ c.new.ensures.items
+members_of-returns-in-Regex-clause-exact t c = set_by c.args.scene.leaves.now c.args.scene.rx.now c.args.scene.view.now.bytes _ (regex _) (ap tree_of c.in-Regex.is ∙ tree_regex _) _ c.found.ensures.exact
 
 pub members_of-returns-in-Regex-clause-few : goal.members_of-returns-in-Regex-clause-few
-members_of-returns-in-Regex-clause-few t c = over_at c.args.scene.leaves.now c.args.scene.rx.now c.args.scene.view.now.bytes _ (regex c.in-Regex.field-0) (ap tree_of c.in-Regex.is ∙ tree_regex _) refl
+members_of-returns-in-Regex-clause-few t c = over_by c.args.scene.leaves.now c.args.scene.rx.now c.args.scene.view.now.bytes _ (regex _) (ap tree_of c.in-Regex.is ∙ tree_regex _) _ c.found.ensures.few
+
+pub members_of-returns-in-Regex-clause-crowded : goal.members_of-returns-in-Regex-clause-crowded
+members_of-returns-in-Regex-clause-crowded t c = fault_by c.args.scene.leaves.now c.args.scene.rx.now c.args.scene.view.now.bytes _ (regex _) (ap tree_of c.in-Regex.is ∙ tree_regex _) _ c.found.ensures.crowded
 
 pub members_of-returns-in_ok-sets-in-Any-clause-exact : goal.members_of-returns-in_ok-sets-in-Any-clause-exact
 members_of-returns-in_ok-sets-in-Any-clause-exact t c =
