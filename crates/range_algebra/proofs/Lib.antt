@@ -20,6 +20,7 @@ pub mod Reaching
 pub mod Prefixes
 pub mod Taking
 pub mod Given
+pub mod Firsts
 pub mod LeafNames
 pub mod Halving
 pub mod Placed

@@ -1,14 +1,16 @@
 -- The matches of a regular expression as members, and where they share a byte with a range.
 use Rattle.std.proofs.Common.{◌≡◌, ◌⊎◌, ◌↔◌, inl, inr, ℕ, zero, suc, ◌-◌, ◌<◌, ◌≤◌, List, [], ◌∷◌, length, take, drop, map, get_or, refl, sym, ap, ◌∙◌, subst, arith, take-append-drop}
-use Rattle.std.specs.Prelude.{Bool, true, false, IsTrue, MatchOption, Option, None, Some, slice_get}
+use Rattle.std.specs.Prelude.{All, Bool, true, false, IsTrue, MatchOption, Option, None, Some, slice_get}
 use Rattle.std.specs.declared.cmp.Ordering.{Ordering}
 use Rattle.std.specs.declared.cmp.Ordering.TheVariants.{Less}
 use Rattle.std.specs.Ordering.{nat_cmp, ordering_then}
 use Rattle.std.proofs.lemmas.Option.{slice_get_read, slice_get_past}
 use Rattle.std.proofs.lemmas.Cmp.{ranked, by_ranked}
 use Rattle.node_tree.specs.declared.span.Span.{Span}
-use Rattle.node_tree.specs.Span.{span_cmp}
+use Rattle.node_tree.specs.Span.{span_cmp, LiesIn}
+use Rattle.meta_bind.specs.declared.bound.Bound.{Bound}
 use Rattle.meta_bind.specs.Bounds.{binding_cmp}
+use Rattle.meta_filter.specs.BoundTexts.{holds_regex}
 use Rattle.rx_text.specs.Searches.{all_matches, FollowFrom}
 use Rattle.rx_text.proofs.Matches.{all_follow}
 use Rattle.tree_match.specs.declared.leaf.Leaf.{Leaf}
@@ -19,7 +21,7 @@ use Rattle.range_algebra.specs.Choices.{range_of}
 use Rattle.range_algebra.specs.Conditions.{IsSharedWith, IsSharedAt}
 use Rattle.range_algebra.specs.Halves.{IsBefore, IsBetween, AreApart}
 use Rattle.range_algebra.specs.Ranges.{ShareByte}
-use Rattle.range_algebra.specs.Regexes.{unbound, matches_of, IsMatch, AreMatches}
+use Rattle.range_algebra.specs.Regexes.{unbound, matches_of, matches_bound, IsMatch, AreMatches}
 use Rattle.range_algebra.specs.Sizes.{Each, Any}
 use Rattle.range_algebra.specs.Trees.{regex}
 use Rattle.range_algebra.specs.Parts.{IsSetOf}
@@ -51,6 +53,26 @@ module _ (texts : List (List ℕ)) (bytes : List ℕ) (k : ℕ) where
       at None = tt
       at (Some text) = all_follow text bytes
 
+  abbrev Read : List Member → Option (List ℕ) → Type 0
+  Read members o = members ≡ map unbound (elim o [ None ↦ [] | Some text ↦ all_matches text bytes ])
+
+  -- what a search gives where there is no such regular expression, and where there is
+  pub none_found : (members : List Member) → slice_get texts k ≡ None → members ≡ [] → AreMatches texts bytes k members
+  none_found members none is = let P : Option (List ℕ) → Type 0 = Read members in subst P (sym none) is
+
+  pub some_found : (members : List Member) (text : List ℕ) → slice_get texts k ≡ Some text → members ≡ map unbound (all_matches text bytes) → AreMatches texts bytes k members
+  some_found members text some is = let P : Option (List ℕ) → Type 0 = Read members in subst P (sym some) is
+
+  module _ (name : List ℕ) (binding : List Bound) where
+    abbrev Held : Bool → Option (List ℕ) → Type 0
+    Held y o = y ≡ elim o [ None ↦ false | Some text ↦ holds_regex text binding name bytes ]
+
+    pub none_held : slice_get texts k ≡ None → false ≡ matches_bound texts bytes k name binding
+    none_held none = let P : Option (List ℕ) → Type 0 = Held false in subst P (sym none) refl
+
+    pub some_held : (text : List ℕ) (y : Bool) → slice_get texts k ≡ Some text → y ≡ holds_regex text binding name bytes → y ≡ matches_bound texts bytes k name binding
+    some_held text y some is = let P : Option (List ℕ) → Type 0 = Held y in subst P (sym some) is
+
   module _ (members : List Member) (are : AreMatches texts bytes k members) where
     pub among_matches : (m : Member) → Among members m ↔ IsMatch texts bytes k m
     among_matches m = let P : List Member → Type 0 = λ xs. Among xs m ↔ IsMatch texts bytes k m in subst P (sym are) (among_unbound (matches_of texts bytes k) m)
@@ -60,6 +82,10 @@ module _ (texts : List (List ℕ)) (bytes : List ℕ) (k : ℕ) where
         let P : List Member → Type 0 = AreApart in
         let Q : List Span → Type 0 = FollowFrom 0 in
         subst P (sym are) (subst Q (sym (ranges_unbound (matches_of texts bytes k))) follow)
+
+-- the matches of a regular expression, if there is one, cut no character of the text
+abbrev pub LieAll : List ℕ → Option (List ℕ) → Type 0
+LieAll bytes o = All (LiesIn bytes) (elim o [ None ↦ [] | Some text ↦ all_matches text bytes ])
 
 -- ---- members that follow one another
 
