@@ -6,7 +6,7 @@ ghost use Rattle.tree_match.specs.Placed.{IsLeafPlaced};
 ghost use Rattle.tree_match.specs.Sets.{Among, Adds};
 ghost use Rattle.tree_match.specs.Ascending.{IsAscending};
 ghost use Rattle.tree_match.specs.Members.{Member as member_value, member_cmp};
-ghost use Rattle.range_algebra.specs.Trees.{tree_of, trees_of, branch_of, branches_of, meta_pattern, regex};
+ghost use Rattle.range_algebra.specs.Trees.{tree_of, trees_of, branch_of, branches_of, meta_pattern};
 ghost use Rattle.range_algebra.specs.Parts.{IsSetOf, AreSetsOf, IsInSome, IsPart, AreParts, AreTakenAway};
 ghost use Rattle.range_algebra.specs.Crowds.{NamesSet, IsFaultFrom, OneSet, Over, OverTrees, OverBranches, OverBranch};
 ghost use Rattle.range_algebra.specs.Faults.{IsFaultOf};
@@ -18,7 +18,7 @@ use crate::operand::is_bare;
 use crate::order::settled;
 use crate::part::Part;
 use crate::scene::{MOST, Member, ROOM, Scene};
-use crate::search::matches_of;
+use crate::search::{matches_of, regex_members};
 use node_tree::{List, Memory};
 use rule_form::{Child, Formula};
 use std::alloc::Global;
@@ -66,15 +66,6 @@ pub fn thinned<'t>(alloc: Global, members: Vec<Member<'t>>) -> Result<Vec<Member
         return Ok(members);
     }
     gathered(alloc, members)
-}
-
-// The matches of the regular expression with that number, unless there are more than 10,000.
-fn found<'t>(alloc: Global, scene: Scene<'t>, number: u32) -> Result<Vec<Member<'t>>, EvalFault>
-    ensures exact { IfOk result (λ v. IsSetOf scene.entry.leaves.now scene.entry.rx.now scene.entry.view.now.bytes (regex number) v.items) }
-    ensures few { IfOk result (λ _. Over scene.entry.leaves.now scene.entry.rx.now scene.entry.view.now.bytes (regex number) None) }
-    ensures crowded { IfErr result (IsFaultFrom (Over scene.entry.leaves.now scene.entry.rx.now scene.entry.view.now.bytes (regex number))) }
-{
-    limited(alloc, matches_of(alloc, scene, number)?)
 }
 
 // Adds the members of the set.
@@ -131,7 +122,7 @@ pub fn members_of<'t>(
 {
     match formula {
         Formula::Leaf(number) => leaf_members(alloc, scene, *number),
-        Formula::Regex(number) => found(alloc, scene, *number),
+        Formula::Regex(number) => regex_members(alloc, scene, *number),
         Formula::Any(formulas) => {
             let sets = members_of_each(alloc, scene, formulas.as_slice())?;
             union(alloc, sets.as_slice())

@@ -1,10 +1,15 @@
 //! What the regular expressions of a rule find.
 
-ghost use Rattle.std.specs.Prelude.{◌≡◌, All, map, IfOk};
+ghost use Rattle.std.specs.Prelude.{◌≡◌, All, map, None, IfOk, IfErr};
 ghost use Rattle.meta_bind.specs.declared.bound.Bound.{Bound as bound};
 ghost use Rattle.meta_bind.specs.Places.{EndsLieIn};
+ghost use Rattle.range_algebra.specs.Trees.{regex};
 ghost use Rattle.range_algebra.specs.Regexes.{unbound as with_nothing, AreMatches, matches_bound};
+ghost use Rattle.range_algebra.specs.Parts.{IsSetOf};
+ghost use Rattle.range_algebra.specs.Crowds.{IsFaultFrom, Over};
 
+use crate::evaluate::limited;
+use crate::fault::EvalFault;
 use crate::scene::{Member, Scene};
 use meta_bind::Trail;
 use meta_filter::holds_regex;
@@ -40,6 +45,19 @@ pub fn matches_of<'t>(
     };
     let ranges = rx.share()?.all(text)?;
     unbound(alloc, ranges.as_slice())
+}
+
+/// The members of the regular expression with that number: its matches, unless there are more than 10,000.
+pub fn regex_members<'t>(
+    alloc: Global,
+    scene: Scene<'t>,
+    number: u32,
+) -> Result<Vec<Member<'t>>, EvalFault>
+    ensures exact { IfOk result (λ v. IsSetOf scene.entry.leaves.now scene.entry.rx.now scene.entry.view.now.bytes (regex number) v.items) }
+    ensures few { IfOk result (λ _. Over scene.entry.leaves.now scene.entry.rx.now scene.entry.view.now.bytes (regex number) None) }
+    ensures crowded { IfErr result (IsFaultFrom (Over scene.entry.leaves.now scene.entry.rx.now scene.entry.view.now.bytes (regex number))) }
+{
+    limited(alloc, matches_of(alloc, scene, number)?)
 }
 
 /// Whether the first match of the regular expression with that number in what the name is bound to begins where that begins.

@@ -121,13 +121,13 @@ pub part_of-returns-in_default-clause-few : goal.part_of-returns-in_default-clau
 part_of-returns-in_default-clause-few t c = (no_formula c.args.scene.leaves.now c.args.scene.rx.now c.args.scene.view.now.bytes _ c.in_default.not-Positive c.in_default.not-Inside c.in_default.not-Not c.in_default.not-NotInside c.in_default.not-NotRegex c.in_default.not-MetaPattern).1
 
 pub members_of-returns-in-Regex-clause-exact : goal.members_of-returns-in-Regex-clause-exact
-members_of-returns-in-Regex-clause-exact t c = set_by c.args.scene.leaves.now c.args.scene.rx.now c.args.scene.view.now.bytes _ (regex _) (ap tree_of c.in-Regex.is ∙ tree_regex _) _ c.found.ensures.exact
+members_of-returns-in-Regex-clause-exact t c = set_by c.args.scene.leaves.now c.args.scene.rx.now c.args.scene.view.now.bytes _ (regex _) (ap tree_of c.in-Regex.is ∙ tree_regex _) _ c.regex_members.ensures.exact
 
 pub members_of-returns-in-Regex-clause-few : goal.members_of-returns-in-Regex-clause-few
-members_of-returns-in-Regex-clause-few t c = over_by c.args.scene.leaves.now c.args.scene.rx.now c.args.scene.view.now.bytes _ (regex _) (ap tree_of c.in-Regex.is ∙ tree_regex _) _ c.found.ensures.few
+members_of-returns-in-Regex-clause-few t c = over_by c.args.scene.leaves.now c.args.scene.rx.now c.args.scene.view.now.bytes _ (regex _) (ap tree_of c.in-Regex.is ∙ tree_regex _) _ c.regex_members.ensures.few
 
 pub members_of-returns-in-Regex-clause-crowded : goal.members_of-returns-in-Regex-clause-crowded
-members_of-returns-in-Regex-clause-crowded t c = fault_by c.args.scene.leaves.now c.args.scene.rx.now c.args.scene.view.now.bytes _ (regex _) (ap tree_of c.in-Regex.is ∙ tree_regex _) _ c.found.ensures.crowded
+members_of-returns-in-Regex-clause-crowded t c = fault_by c.args.scene.leaves.now c.args.scene.rx.now c.args.scene.view.now.bytes _ (regex _) (ap tree_of c.in-Regex.is ∙ tree_regex _) _ c.regex_members.ensures.crowded
 
 pub members_of-returns-in_ok-sets-in-Any-clause-exact : goal.members_of-returns-in_ok-sets-in-Any-clause-exact
 members_of-returns-in_ok-sets-in-Any-clause-exact t c =

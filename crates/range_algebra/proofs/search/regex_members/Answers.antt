@@ -6,7 +6,7 @@ use Rattle.range_algebra.specs.Regexes.{IsMatch}
 use Rattle.range_algebra.specs.Parts.{IsSetOf}
 use Rattle.range_algebra.proofs.Limits.{at_most, too_many}
 use Rattle.range_algebra.proofs.Regexes.{matches_set}
-use Rattle.range_algebra.proofs.evaluate.found.Goals as goal
+use Rattle.range_algebra.proofs.search.regex_members.Goals as goal
 
 pub returns-clause-exact : goal.returns-clause-exact
 returns-clause-exact c =
