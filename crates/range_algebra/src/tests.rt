@@ -29,7 +29,7 @@ fn file(alloc: Global, text: &str) -> Result<Option<FileView>, Memory> {
     }
 }
 
-// The pattern that the text is, if it is one.
+// The pattern that the text is, if it is one: the one value of a JSON text.
 fn pattern(alloc: Global, text: &str) -> Result<Option<Pattern>, Memory> {
     if text.len() > 1_000_000 {
         return Ok(None);
@@ -37,13 +37,29 @@ fn pattern(alloc: Global, text: &str) -> Result<Option<Pattern>, Memory> {
     match read_json(alloc, text, Mode::Pattern) {
         Err(ReadFault::NoTree) => Ok(None),
         Err(ReadFault::Memory) => Err(Memory),
-        Ok(tree) => Ok(Some(Pattern {
-            lang: Lang::Json,
-            shape: Shape::Expr,
-            tree,
-            constants: true,
-        })),
+        Ok(mut root) => {
+            let Some(tree) = root.kids.pop() else {
+                return Ok(None);
+            };
+            Ok(Some(Pattern {
+                lang: Lang::Json,
+                shape: Shape::Expr,
+                tree,
+                constants: true,
+            }))
+        }
     }
+}
+
+// The patterns that these texts are, but for those that are none.
+fn read_all(alloc: Global, texts: &[&str]) -> Result<List<Pattern>, Memory> {
+    let mut patterns = List::new(alloc);
+    for text in texts {
+        if let Some(pattern) = pattern(alloc, text)? {
+            patterns.push(pattern)?;
+        }
+    }
+    Ok(patterns)
 }
 
 // The sets of these patterns.
@@ -51,7 +67,7 @@ fn leaves<L: Ledger>(
     alloc: Global,
     blank: Blank,
     view: &FileView,
-    patterns: &[&str],
+    patterns: &[Pattern],
 ) -> Result<List<Leaf>, Memory>
     requires name { blank.name ≡ L.name }
     requires parts { blank.parts ≡ L.parts }
@@ -59,16 +75,14 @@ fn leaves<L: Ledger>(
 {
     let mut steps = Steps::<L>::new(blank);
     let mut leaves = List::new(alloc);
-    for text in patterns {
-        if let Some(pattern) = pattern(alloc, text)? {
-            leaves.push(match_leaf(alloc, view, &pattern, &mut steps)?)?;
-        }
+    for pattern in patterns {
+        leaves.push(match_leaf(alloc, view, pattern, &mut steps)?)?;
     }
     Ok(leaves)
 }
 
 // The same, counted by steps of their own.
-fn sets(alloc: Global, view: &FileView, patterns: &[&str]) -> Result<List<Leaf>, Memory> {
+fn sets(alloc: Global, view: &FileView, patterns: &[Pattern]) -> Result<List<Leaf>, Memory> {
     leaves::<Brand>(alloc, Blank::new(1), view, patterns)
 }
 
@@ -98,7 +112,8 @@ fn answer(
     let Some(view) = file(alloc, text)? else {
         return Ok(String::new(alloc));
     };
-    let leaves = sets(alloc, &view, patterns)?;
+    let patterns = read_all(alloc, patterns)?;
+    let leaves = sets(alloc, &view, patterns.as_slice())?;
     match eval(alloc, &view, &Formula::All(children), &leaves) {
         Err(EvalFault::Memory) => Err(Memory),
         Err(EvalFault::Crowded(numbers)) => {
