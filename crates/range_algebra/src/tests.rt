@@ -31,7 +31,7 @@ fn file(alloc: Global, text: &str) -> Result<Option<FileView>, Memory> {
     }
 }
 
-// The pattern that the text is, if it is one.
+// The pattern that the text is, if it is one: the one value of a JSON text.
 fn pattern(alloc: Global, text: &str) -> Result<Option<Pattern>, Memory> {
     if text.len() > 1_000_000 {
         return Ok(None);
@@ -39,12 +39,17 @@ fn pattern(alloc: Global, text: &str) -> Result<Option<Pattern>, Memory> {
     match read_json(alloc, text, Mode::Pattern) {
         Err(ReadFault::NoTree) => Ok(None),
         Err(ReadFault::Memory) => Err(Memory),
-        Ok(tree) => Ok(Some(Pattern {
-            lang: Lang::Json,
-            shape: Shape::Expr,
-            tree,
-            constants: true,
-        })),
+        Ok(mut root) => {
+            let Some(tree) = root.kids.pop() else {
+                return Ok(None);
+            };
+            Ok(Some(Pattern {
+                lang: Lang::Json,
+                shape: Shape::Expr,
+                tree,
+                constants: true,
+            }))
+        }
     }
 }
 
