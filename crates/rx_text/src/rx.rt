@@ -73,7 +73,8 @@ impl Rx {
         requires { ∥ IsUtf8 text.now ∥₁ }
         ensures { All (LiesIn text.now) (all_matches self.now text.now) }
     {
-        let _read = (self.compiled.as_ref(), text);
+        let _compiled = self.compiled.as_ref();
+        let _len = text.len();
     }
 
     /// A further regular expression of the same text. It is not compiled again.

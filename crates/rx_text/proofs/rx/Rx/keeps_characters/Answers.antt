@@ -1,4 +1,7 @@
-use Rattle.std.proofs.Common.{List, All, subst}
+use Rattle.std.proofs.Common.{◌<◌, List, All, subst}
+use Rattle.std.proofs.lemmas.List.Elements.{All-from_get_or}
+use Rattle.std.proofs.lemmas.Str.{IsUtf8-had}
+use Rattle.regex.specs.Strings.{regex_pattern}
 use Rattle.node_tree.specs.declared.span.Span.{Span}
 use Rattle.node_tree.specs.Span.{LiesIn}
 use Rattle.rx_text.proofs.Matches.{all_of}
@@ -7,6 +10,9 @@ use Rattle.rx_text.proofs.rx.Rx.keeps_characters.Goals as goal
 
 pub returns : goal.returns
 returns c =
-    let P : List Span → Type 0 = All (LiesIn c.args.text.now) in
-    let all = all_of _ _ _ _ c.as_ref.ensures c.self.view_is c.self.invariant (λ k. (c.type_inv.text k).fits) in
-    let h = c in ?
+    let text = c.args.text.now in
+    let r = c.as_ref.result.now in
+    let P : List Span → Type 0 = All (LiesIn text) in
+    let bytes = All-from_get_or (λ b. b < 256) text 0 (λ k _. (c.type_inv.text k).fits) in
+    subst P (all_of _ _ _ text c.as_ref.ensures c.self.view_is c.self.invariant (λ k. (c.type_inv.text k).fits))
+    (spans_lie (regex_pattern r) text bytes r.whole_characters (IsUtf8-had text c.requires))
