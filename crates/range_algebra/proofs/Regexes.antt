@@ -31,15 +31,15 @@ use Rattle.range_algebra.proofs.Gathering.{any_joined}
 
 among_unbound : (ss : List Span) (m : Member) → Among (map unbound ss) m ↔ (Among ss m.0 × (m.1 ≡ []))
 among_unbound [] m = (λ h. elim h [ ], λ h. elim h.0 [ ])
-among_unbound (s ∷ ss) m = (to, from)
+among_unbound (s ∷ ss) m = (to (among_unbound ss m), from (among_unbound ss m))
   where
-    to : (unbound s ≡ m) ⊎ Among (map unbound ss) m → ((s ≡ m.0) ⊎ Among ss m.0) × (m.1 ≡ [])
-    to (inl e) = (inl (ap (λ (x : Member). x.0) e), sym (ap (λ (x : Member). x.1) e))
-    to (inr h) = let r = (among_unbound ss m).0 h in (inr r.0, r.1)
+    to : Among (map unbound ss) m ↔ (Among ss m.0 × (m.1 ≡ [])) → (unbound s ≡ m) ⊎ Among (map unbound ss) m → ((s ≡ m.0) ⊎ Among ss m.0) × (m.1 ≡ [])
+    to rest (inl e) = (inl (ap (λ (x : Member). x.0) e), sym (ap (λ (x : Member). x.1) e))
+    to rest (inr h) = let r = rest.0 h in (inr r.0, r.1)
 
-    from : ((s ≡ m.0) ⊎ Among ss m.0) × (m.1 ≡ []) → (unbound s ≡ m) ⊎ Among (map unbound ss) m
-    from (inl e, none) = inl (ap unbound e ∙ ap (λ b. (m.0, b)) (sym none))
-    from (inr h, none) = inr ((among_unbound ss m).1 (h, none))
+    from : Among (map unbound ss) m ↔ (Among ss m.0 × (m.1 ≡ [])) → ((s ≡ m.0) ⊎ Among ss m.0) × (m.1 ≡ []) → (unbound s ≡ m) ⊎ Among (map unbound ss) m
+    from rest (inl e, none) = inl (ap unbound e ∙ ap (λ (b : List Bound). (m.0, b)) (sym none))
+    from rest (inr h, none) = inr (rest.1 (h, none))
 
 ranges_unbound : (ss : List Span) → map range_of (map unbound ss) ≡ ss
 ranges_unbound [] = refl

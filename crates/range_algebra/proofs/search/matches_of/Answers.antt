@@ -9,6 +9,11 @@ use Rattle.range_algebra.proofs.search.matches_of.Goals as goal
 pub returns-in_default : goal.returns-in_default
 returns-in_default c = none_found c.args.scene.rx.now c.args.scene.view.now.bytes c.args.number _ (sym c.in_default.ensures) c.new.ensures.items
 
+pub unreachable-requires : goal.unreachable-requires
+unreachable-requires c =
+    let P : List ℕ → Type 0 = IsUtf8 in
+    c.in_default-from_utf8.ensures.cases.0 (subst P (sym c.as_slice.ensures) (IsUtf8-had _ c.args.scene.view.now.utf8))
+
 pub returns : goal.returns
 returns c =
     let text = c.in-Ok.ensures.cases.0 ∙ c.as_slice.ensures in
