@@ -1,4 +1,4 @@
-use Rattle.std.proofs.Common.{ℕ, List, All, sym, subst, IsUtf8}
+use Rattle.std.proofs.Common.{ℕ, List, All, sym, subst, ◌∙◌, IsUtf8}
 use Rattle.std.specs.Prelude.{None}
 use Rattle.std.proofs.lemmas.List.Elements.{All-weaker}
 use Rattle.node_tree.specs.Span.{LiesIn}
@@ -22,4 +22,5 @@ returns-in_ok-keep_all-in-Ok-clause-placed c =
     let matches : (k : ℕ) → All (EndsLieIn bytes) (matches_of c.args.rx.now bytes k) = λ k. All-weaker (LiesIn bytes) (EndsLieIn bytes) (λ s l. (l.begins, l.ends)) _ (lie k) in
     let Q : List Member → Type 0 = All (IsPlaced bytes) in
     let set = c.in-Ok.ensures.exact in
-    ?
+    let each = among_all (IsPlaced bytes) c.in-Ok.members.items (λ m h. meets_placed c.args.leaves.now c.args.rx.now bytes c.requires.placed matches (tree_of c.args.formula.now) None m tt ((set.exact m).0 h)) in
+    subst Q (sym (c.in_ok-keep_all-in-Ok.ensures ∙ c.as_slice-in-Ok.ensures.value)) each
