@@ -1,10 +1,16 @@
-use Rattle.std.proofs.Common.{◌≡◌, ◌++◌, List, refl, sym, ap, ◌∙◌, subst}
+use Rattle.std.proofs.Common.{◌≡◌, ◌++◌, ℕ, ◌≤◌, List, length, refl, sym, ap, ◌∙◌, subst}
+use Rattle.std.specs.Prelude.{Err}
+use Rattle.std.proofs.lemmas.Result.{err_from_is_err_and}
 use Rattle.rule_form.specs.declared.rule.Rule.{Rule}
 use Rattle.tree_match.specs.Ascending.{IsAscending}
+use Rattle.tree_match.specs.Sets.{Adds}
+use Rattle.fix_apply.specs.declared.notice.Notice.{Notice}
+use Rattle.scan_session.specs.Sets.{IsExactly, HasMore}
+use Rattle.scan_session.specs.Reports.{reported_cmp}
 use Rattle.scan_session.specs.Running.{stated, running, rule_notices}
 use Rattle.scan_session.specs.Taking.{lent}
 use Rattle.scan_session.specs.Judging.{AreApart}
-use Rattle.scan_session.specs.Fresh.{File, file_cmp}
+use Rattle.scan_session.specs.Fresh.{File, file_cmp, IsResult, IsFileNotice}
 use Rattle.scan_session.proofs.Ids.{are_apart}
 use Rattle.scan_session.proofs.Laws.{fresh_once}
 use Rattle.scan_session.proofs.Scans.{is_fresh}
@@ -17,3 +23,36 @@ scan_all-results-requires-clause-apart g c =
 
 pub scan_all-results-requires-clause-ordered : goal.scan_all-results-requires-clause-ordered
 scan_all-results-requires-clause-ordered g c = let P : List File → Type 0 = IsAscending file_cmp in subst P (sym c.as_slice-results.ensures) c.requires
+
+pub returns-clause-fresh : goal.returns-clause-fresh
+returns-clause-fresh g c =
+    let rules = lent c.as_slice-results-2.result.now in
+    let before = c.take_files-running.new.notices.items in
+    let after = c.scan_all-results.new.notices.items in
+    let results = c.in_ok-results.results in
+    let e = ap lent c.as_slice-results-2.ensures.value ∙ c.in_ok-running.ensures.rules in
+    let f : before ≡ rule_notices c.args.rules.now = c.in_ok-running.ensures.notices ∙ ap (λ (ns : List Notice). ns ++ rule_notices c.args.rules.now) c.new-notices.ensures.items in
+    let P : List File → Type 0 = λ fs. IsExactly reported_cmp (IsResult rules fs) results in
+    let Q : List File → Type 0 = λ fs. Adds before after (IsFileNotice rules fs) in
+    is_fresh c.args.files.now c.args.rules.now rules results before after c.in_ok-notices.notices e f (subst P c.as_slice-results.ensures c.in_ok-results.ensures.results) (subst Q c.as_slice-results.ensures c.in_ok-results.ensures.notices)
+    c.in_ok-notices.ensures.ordered c.in_ok-notices.ensures.same
+
+pub returns-clause-few : goal.returns-clause-few
+returns-clause-few g c = c.in_ok-results.ensures.few
+
+pub returns-clause-only : goal.returns-clause-only
+returns-clause-only g c r h =
+    let rules = lent c.as_slice-results-2.result.now in
+    let before = c.take_files-running.new.notices.items in
+    let after = c.scan_all-results.new.notices.items in
+    let results = c.in_ok-results.results in
+    let e = ap lent c.as_slice-results-2.ensures.value ∙ c.in_ok-running.ensures.rules in
+    let f : before ≡ rule_notices c.args.rules.now = c.in_ok-running.ensures.notices ∙ ap (λ (ns : List Notice). ns ++ rule_notices c.args.rules.now) c.new-notices.ensures.items in
+    let P : List File → Type 0 = λ fs. IsExactly reported_cmp (IsResult rules fs) results in
+    let Q : List File → Type 0 = λ fs. Adds before after (IsFileNotice rules fs) in
+    let fresh = is_fresh c.args.files.now c.args.rules.now rules results before after c.in_ok-notices.notices e f (subst P c.as_slice-results.ensures c.in_ok-results.ensures.results) (subst Q c.as_slice-results.ensures c.in_ok-results.ensures.notices)
+        c.in_ok-notices.ensures.ordered c.in_ok-notices.ensures.same in
+    fresh_once c.args.files.now c.args.rules.now r _ h fresh
+
+pub returns-in_err-results-clause-too_many : goal.returns-in_err-results-clause-too_many
+returns-in_err-results-clause-too_many g c n e = ?
