@@ -98,6 +98,13 @@ place_within f xs i y e = let lt = slice_get_within (map f xs) i y e in omega (a
 pub place_read : {X Y : Type 0} (f : X → Y) (xs : List X) (i : ℕ) (x : X) → i < length xs → x ≡ get_or xs i x → slice_get (map f xs) i ≡ Some (f x)
 place_read {X} {Y} f xs i x lt is = slice_get-map f xs i ∙ ap (λ (o : Option X). option_map f o) (slice_get_read xs (length xs) i x refl lt is)
 
+-- what is read at a place of a list is what the same list has there
+pub read_there : {X : Type 0} (xs ys : List X) (i : ℕ) (x y : X) → xs ≡ ys → x ≡ get_or xs i x → slice_get ys i ≡ Some y → x ≡ y
+read_there {X} xs ys i x y e is at =
+    let P : List X → Type 0 = λ zs. x ≡ get_or zs i x in
+    let f = sym (slice_get_read ys (length ys) i x refl (slice_get_within ys i y at) (subst P e is)) ∙ at in
+    cc
+
 -- the item at a place that is there
 pub there_is : {X : Type 0} (xs : List X) (i : ℕ) → i < length xs → (x : X) × (slice_get xs i ≡ Some x) × (drop i xs ≡ x ∷ drop (i + 1) xs)
 there_is xs i lt = elim ((slice_get_cases xs i).1) [ inl h ↦ (h.0, h.2, opened xs i h.0 lt (sym h.3)) | inr k ↦ (let le = k.0 in absurd (omega (arith, lt, le))) ]

@@ -11,14 +11,14 @@ loop-part-init g c =
     (gathers_start v.lang v.bytes v.tree c.args.number c.args.judged.now.items ps (drop 0 ps) refl, λ h. h)
 
 pub add_part-requires : goal.add_part-requires
-add_part-requires g c = let lt = c.loop-part-test.true in let e = c.len.ensures in omega (arith, lt, e)
+add_part-requires g c = let lt = c.loop-part-test.true in let e = c.len-part-end.ensures in omega (arith, lt, e)
 
 pub loop-part-preserved : goal.loop-part-preserved
 loop-part-preserved g c =
     let v = c.args.view.now in
     let ps = c.args.rule.now.parts in
     let i = c.loop-part.part in
-    let lt : i < length ps = let a = c.loop-part-test.true in let e = c.len.ensures in omega (arith, a, e) in
+    let lt : i < length ps = let a = c.loop-part-test.true in let e = c.len-part-end.ensures in omega (arith, a, e) in
     let one = there_is ps i lt in
     let far = c.loop-part.invariant in (
       gathers_on v.lang v.bytes v.tree c.args.number _ c.loop-part.judged.items c.add_part.new.judged.items ps (drop i ps) (drop (i + 1) ps) one.0 far.0 one.2 (c.in_ok-add_part.ensures.judged one.0 one.1),
@@ -31,7 +31,7 @@ returns-clause-judged g c =
     let ps = c.args.rule.now.parts in
     let i = c.loop-part.part in
     let a = c.loop-part-test.false in
-    let e = c.len.ensures in
+    let e = c.len-part-end.ensures in
     gathers_end v.lang v.bytes v.tree c.args.number _ c.loop-part.judged.items ps (drop i ps) c.loop-part.invariant.0 (drop_all i ps (omega (arith, a, e)))
 
 pub returns-clause-placed : goal.returns-clause-placed

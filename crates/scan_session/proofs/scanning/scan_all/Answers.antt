@@ -22,10 +22,10 @@ loop-path-preserved g c =
     let g2 : List ℕ → File = λ b. (f.0, b) in
     let here = ap g1 c.as_str.ensures ∙ ap g2 c.as_slice.ensures in
     let P : File → Type 0 = λ x. IsExactly reported_cmp (IsResultIn rules x) c.in_ok-found.found in
-    let Q : File → Type 0 = λ x. Adds c.loop-path.notices.items c.scan_file-found.new.notices.items (IsNoticeIn rules x) in
+    let Q : File → Type 0 = λ x. Adds c.loop-path.notices.items c.scan_file.new.notices.items (IsNoticeIn rules x) in
     let few = c.if-most-count.false in
-    let n = c.len.ensures in
-    goes_on rules c.args.most fs c.args.notices.now.items c.requires.ordered (drop i fs) (drop (i + 1) fs) f c.loop-path.notices.items c.scan_file-found.new.notices.items c.loop-path.results c.in_ok-found.found c.append.new.results c.loop-path.invariant
+    let n = c.len-count.ensures in
+    goes_on rules c.args.most fs c.args.notices.now.items c.requires.ordered (drop i fs) (drop (i + 1) fs) f c.loop-path.notices.items c.scan_file.new.notices.items c.loop-path.results c.in_ok-found.found c.append.new.results c.loop-path.invariant
     (opened fs i f c.loop-path-test.true c.loop-path-item.is) (subst P here c.in_ok-found.ensures.results) (subst Q here c.in_ok-found.ensures.notices) c.in_ok-append.ensures (omega (arith, few, n))
 
 pub returns-then-most-count-clause-too_many : goal.returns-then-most-count-clause-too_many
@@ -38,11 +38,11 @@ returns-then-most-count-clause-too_many g c n e =
     let g2 : List ℕ → File = λ b. (f.0, b) in
     let here = ap g1 c.as_str.ensures ∙ ap g2 c.as_slice.ensures in
     let P : File → Type 0 = λ x. IsExactly reported_cmp (IsResultIn rules x) c.in_ok-found.found in
-    let Q : File → Type 0 = λ x. Adds c.loop-path.notices.items c.scan_file-found.new.notices.items (IsNoticeIn rules x) in
+    let Q : File → Type 0 = λ x. Adds c.loop-path.notices.items c.scan_file.new.notices.items (IsNoticeIn rules x) in
     let many = c.if-most-count.true in
-    let m = c.len.ensures in (
+    let m = c.len-count.ensures in (
       cc,
-      has_more rules c.args.most fs c.args.notices.now.items c.requires.ordered (drop i fs) (drop (i + 1) fs) f c.loop-path.notices.items c.scan_file-found.new.notices.items c.loop-path.results c.in_ok-found.found c.append.new.results c.loop-path.invariant
+      has_more rules c.args.most fs c.args.notices.now.items c.requires.ordered (drop i fs) (drop (i + 1) fs) f c.loop-path.notices.items c.scan_file.new.notices.items c.loop-path.results c.in_ok-found.found c.append.new.results c.loop-path.invariant
           (opened fs i f c.loop-path-test.true c.loop-path-item.is) (subst P here c.in_ok-found.ensures.results) (subst Q here c.in_ok-found.ensures.notices) c.in_ok-append.ensures (omega (arith, many, m)),
     )
 

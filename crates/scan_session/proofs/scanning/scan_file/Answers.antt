@@ -14,8 +14,8 @@ use Rattle.scan_session.proofs.Hits.{if_reported}
 use Rattle.scan_session.proofs.Scans.{opened_as, only_as, no_results, own_notices, seen_results, seen_notices}
 use Rattle.scan_session.proofs.scanning.scan_file.Goals as goal
 
-pub returns-in-TooLarge-clause-results : goal.returns-in-TooLarge-clause-results
-returns-in-TooLarge-clause-results g c =
+pub returns-in_ok-add_notice-in-TooLarge-clause-results : goal.returns-in_ok-add_notice-in-TooLarge-clause-results
+returns-in_ok-add_notice-in-TooLarge-clause-results g c =
     let path = c.args.path.now in
     let bytes = c.args.bytes.now in
     let e : c.unwrap_or-lang.result ≡ lang_at path = c.unwrap_or-lang.ensures ∙ ap (λ (o : Option Lang). unwrap_or o Regex) c.lang_of.ensures in
@@ -23,35 +23,35 @@ returns-in-TooLarge-clause-results g c =
     let only = only_as path bytes _ _ opened.TooLarge e c.in-TooLarge.is c.in_ok-opened.ensures.only in
     no_results (lent c.args.running.now) path bytes opened.TooLarge is only (λ l t s. s) c.new.result c.new.ensures
 
-pub returns-in-TooLarge-clause-notices : goal.returns-in-TooLarge-clause-notices
-returns-in-TooLarge-clause-notices g c =
+pub returns-in_ok-add_notice-in-TooLarge-clause-notices : goal.returns-in_ok-add_notice-in-TooLarge-clause-notices
+returns-in_ok-add_notice-in-TooLarge-clause-notices g c =
     let path = c.args.path.now in
     let bytes = c.args.bytes.now in
     let e : c.unwrap_or-lang.result ≡ lang_at path = c.unwrap_or-lang.ensures ∙ ap (λ (o : Option Lang). unwrap_or o Regex) c.lang_of.ensures in
     let is = opened_as path bytes _ _ opened.TooLarge e c.in-TooLarge.is c.in_ok-opened.ensures.opened in
     let only = only_as path bytes _ _ opened.TooLarge e c.in-TooLarge.is c.in_ok-opened.ensures.only in
-    own_notices (lent c.args.running.now) path bytes opened.TooLarge is only (λ l t s. s) c.args.notices.now.items c.add_notice.new.notices.items c.in_ok-add_notice.ensures
+    own_notices (lent c.args.running.now) path bytes opened.TooLarge is only (λ l t s. s) c.args.notices.now.items c.add_notice.new.notices.items c.in_ok-add_notice-in-TooLarge.ensures
 
-pub returns-in-NotUtf8-clause-results : goal.returns-in-NotUtf8-clause-results
-returns-in-NotUtf8-clause-results g c =
+pub returns-in_ok-add_notice-in-NotUtf8-clause-results : goal.returns-in_ok-add_notice-in-NotUtf8-clause-results
+returns-in_ok-add_notice-in-NotUtf8-clause-results g c =
     let path = c.args.path.now in
     let bytes = c.args.bytes.now in
     let e : c.unwrap_or-lang.result ≡ lang_at path = c.unwrap_or-lang.ensures ∙ ap (λ (o : Option Lang). unwrap_or o Regex) c.lang_of.ensures in
     let is = opened_as path bytes _ _ opened.NotUtf8 e c.in-NotUtf8.is c.in_ok-opened.ensures.opened in
     let only = only_as path bytes _ _ opened.NotUtf8 e c.in-NotUtf8.is c.in_ok-opened.ensures.only in
-    no_results (lent c.args.running.now) path bytes opened.NotUtf8 is only (λ l t s. s) c.new.result c.new.ensures
+    no_results (lent c.args.running.now) path bytes opened.NotUtf8 is only (λ l t s. s) c.new-in-NotUtf8.result c.new-in-NotUtf8.ensures
 
-pub returns-in-NotUtf8-clause-notices : goal.returns-in-NotUtf8-clause-notices
-returns-in-NotUtf8-clause-notices g c =
+pub returns-in_ok-add_notice-in-NotUtf8-clause-notices : goal.returns-in_ok-add_notice-in-NotUtf8-clause-notices
+returns-in_ok-add_notice-in-NotUtf8-clause-notices g c =
     let path = c.args.path.now in
     let bytes = c.args.bytes.now in
     let e : c.unwrap_or-lang.result ≡ lang_at path = c.unwrap_or-lang.ensures ∙ ap (λ (o : Option Lang). unwrap_or o Regex) c.lang_of.ensures in
     let is = opened_as path bytes _ _ opened.NotUtf8 e c.in-NotUtf8.is c.in_ok-opened.ensures.opened in
     let only = only_as path bytes _ _ opened.NotUtf8 e c.in-NotUtf8.is c.in_ok-opened.ensures.only in
-    own_notices (lent c.args.running.now) path bytes opened.NotUtf8 is only (λ l t s. s) c.args.notices.now.items c.add_notice.new.notices.items c.in_ok-add_notice.ensures
+    own_notices (lent c.args.running.now) path bytes opened.NotUtf8 is only (λ l t s. s) c.args.notices.now.items c.add_notice-in-NotUtf8.new.notices.items c.in_ok-add_notice-in-NotUtf8.ensures
 
-pub returns-in-NoTree-clause-results : goal.returns-in-NoTree-clause-results
-returns-in-NoTree-clause-results g c =
+pub returns-in_ok-add_notice-in-NoTree-clause-results : goal.returns-in_ok-add_notice-in-NoTree-clause-results
+returns-in_ok-add_notice-in-NoTree-clause-results g c =
     let path = c.args.path.now in
     let bytes = c.args.bytes.now in
     let rules = lent c.args.running.now in
@@ -62,8 +62,8 @@ returns-in-NoTree-clause-results g c =
     if_reported (IsExactly reported_cmp (IsFoundIn rules path v.lang v.bytes v.tree)) (IsExactly reported_cmp (IsResultIn rules (path, bytes))) c.scan_view.result
     (λ rs h. seen_results rules path bytes (opened.NoTree v) is only v.lang v.bytes v.tree (refl, refl) (λ l t s. s) is.2.bytes_are rs h) c.scan_view.ensures.results
 
-pub returns-in-NoTree-clause-notices : goal.returns-in-NoTree-clause-notices
-returns-in-NoTree-clause-notices g c =
+pub returns-in_ok-add_notice-in-NoTree-clause-notices : goal.returns-in_ok-add_notice-in-NoTree-clause-notices
+returns-in_ok-add_notice-in-NoTree-clause-notices g c =
     let path = c.args.path.now in
     let bytes = c.args.bytes.now in
     let rules = lent c.args.running.now in
@@ -72,9 +72,9 @@ returns-in-NoTree-clause-notices g c =
     let is = opened_as path bytes _ _ (opened.NoTree v) e c.in-NoTree.is c.in_ok-opened.ensures.opened in
     let only = only_as path bytes _ _ (opened.NoTree v) e c.in-NoTree.is c.in_ok-opened.ensures.only in
     let old = c.args.notices.now.items in
-    let mid = c.add_notice.new.notices.items in
+    let mid = c.add_notice-in-NoTree.new.notices.items in
     let new = c.scan_view.new.notices.items in
-    on_ok_map c.scan_view.result (λ h. seen_notices rules path bytes (opened.NoTree v) is only v.lang v.bytes v.tree (refl, refl) (λ l t s. s) is.2.bytes_are old mid new c.in_ok-add_notice.ensures h) c.scan_view.ensures.notices
+    on_ok_map c.scan_view.result (λ h. seen_notices rules path bytes (opened.NoTree v) is only v.lang v.bytes v.tree (refl, refl) (λ l t s. s) is.2.bytes_are old mid new c.in_ok-add_notice-in-NoTree.ensures h) c.scan_view.ensures.notices
 
 pub returns-in-Read-clause-results : goal.returns-in-Read-clause-results
 returns-in-Read-clause-results g c =
@@ -85,8 +85,8 @@ returns-in-Read-clause-results g c =
     let e : c.unwrap_or-lang.result ≡ lang_at path = c.unwrap_or-lang.ensures ∙ ap (λ (o : Option Lang). unwrap_or o Regex) c.lang_of.ensures in
     let is = opened_as path bytes _ _ (opened.Read v) e c.in-Read.is c.in_ok-opened.ensures.opened in
     let only = only_as path bytes _ _ (opened.Read v) e c.in-Read.is c.in_ok-opened.ensures.only in
-    if_reported (IsExactly reported_cmp (IsFoundIn rules path v.lang v.bytes v.tree)) (IsExactly reported_cmp (IsResultIn rules (path, bytes))) c.scan_view.result
-    (λ rs h. seen_results rules path bytes (opened.Read v) is only v.lang v.bytes v.tree (refl, refl) (λ l t s. s) is.2.bytes_are rs h) c.scan_view.ensures.results
+    if_reported (IsExactly reported_cmp (IsFoundIn rules path v.lang v.bytes v.tree)) (IsExactly reported_cmp (IsResultIn rules (path, bytes))) c.scan_view-in-Read.result
+    (λ rs h. seen_results rules path bytes (opened.Read v) is only v.lang v.bytes v.tree (refl, refl) (λ l t s. s) is.2.bytes_are rs h) c.scan_view-in-Read.ensures.results
 
 pub returns-in-Read-clause-notices : goal.returns-in-Read-clause-notices
 returns-in-Read-clause-notices g c =
@@ -99,5 +99,5 @@ returns-in-Read-clause-notices g c =
     let only = only_as path bytes _ _ (opened.Read v) e c.in-Read.is c.in_ok-opened.ensures.only in
     let old = c.args.notices.now.items in
     let mid = c.args.notices.now.items in
-    let new = c.scan_view.new.notices.items in
-    on_ok_map c.scan_view.result (λ h. seen_notices rules path bytes (opened.Read v) is only v.lang v.bytes v.tree (refl, refl) (λ l t s. s) is.2.bytes_are old mid new (sym (append-nil c.args.notices.now.items)) h) c.scan_view.ensures.notices
+    let new = c.scan_view-in-Read.new.notices.items in
+    on_ok_map c.scan_view-in-Read.result (λ h. seen_notices rules path bytes (opened.Read v) is only v.lang v.bytes v.tree (refl, refl) (λ l t s. s) is.2.bytes_are old mid new (sym (append-nil c.args.notices.now.items)) h) c.scan_view-in-Read.ensures.notices

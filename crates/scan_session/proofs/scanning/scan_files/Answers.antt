@@ -1,10 +1,13 @@
 use Rattle.std.proofs.Common.{◌≡◌, ◌++◌, ℕ, ◌≤◌, List, length, refl, sym, ap, ◌∙◌, subst}
-use Rattle.std.specs.Prelude.{Err}
+use Rattle.std.specs.Prelude.{Result, Err}
 use Rattle.std.proofs.lemmas.Result.{err_from_is_err_and}
 use Rattle.rule_form.specs.declared.rule.Rule.{Rule}
 use Rattle.tree_match.specs.Ascending.{IsAscending}
 use Rattle.tree_match.specs.Sets.{Adds}
 use Rattle.fix_apply.specs.declared.notice.Notice.{Notice}
+use Rattle.fix_apply.specs.declared.report.Reported.{Reported}
+use Rattle.scan_session.specs.declared.fault.ScanFault.{ScanFault}
+use Rattle.scan_session.specs.declared.fault.ScanFault.TheVariants.{TooMany}
 use Rattle.scan_session.specs.Sets.{IsExactly, HasMore}
 use Rattle.scan_session.specs.Reports.{reported_cmp}
 use Rattle.scan_session.specs.Running.{stated, running, rule_notices}
@@ -16,25 +19,25 @@ use Rattle.scan_session.proofs.Laws.{fresh_once}
 use Rattle.scan_session.proofs.Scans.{is_fresh}
 use Rattle.scan_session.proofs.scanning.scan_files.Goals as goal
 
-pub scan_all-results-requires-clause-apart : goal.scan_all-results-requires-clause-apart
-scan_all-results-requires-clause-apart g c =
+pub scan_all-requires-clause-apart : goal.scan_all-requires-clause-apart
+scan_all-requires-clause-apart g c =
     let P : List Rule → Type 0 = AreApart in
-    subst P (sym (ap lent c.as_slice-results-2.ensures.value ∙ c.in_ok-running.ensures.rules)) (are_apart (stated c.args.rules.now))
+    subst P (sym (ap lent c.as_slice-2.ensures.value ∙ c.in_ok-running.ensures.rules)) (are_apart (stated c.args.rules.now))
 
-pub scan_all-results-requires-clause-ordered : goal.scan_all-results-requires-clause-ordered
-scan_all-results-requires-clause-ordered g c = let P : List File → Type 0 = IsAscending file_cmp in subst P (sym c.as_slice-results.ensures) c.requires
+pub scan_all-requires-clause-ordered : goal.scan_all-requires-clause-ordered
+scan_all-requires-clause-ordered g c = let P : List File → Type 0 = IsAscending file_cmp in subst P (sym c.as_slice.ensures) c.requires
 
 pub returns-clause-fresh : goal.returns-clause-fresh
 returns-clause-fresh g c =
-    let rules = lent c.as_slice-results-2.result.now in
-    let before = c.take_files-running.new.notices.items in
-    let after = c.scan_all-results.new.notices.items in
+    let rules = lent c.as_slice-2.result.now in
+    let before = c.take_files.new.notices.items in
+    let after = c.scan_all.new.notices.items in
     let results = c.in_ok-results.results in
-    let e = ap lent c.as_slice-results-2.ensures.value ∙ c.in_ok-running.ensures.rules in
+    let e = ap lent c.as_slice-2.ensures.value ∙ c.in_ok-running.ensures.rules in
     let f : before ≡ rule_notices c.args.rules.now = c.in_ok-running.ensures.notices ∙ ap (λ (ns : List Notice). ns ++ rule_notices c.args.rules.now) c.new-notices.ensures.items in
     let P : List File → Type 0 = λ fs. IsExactly reported_cmp (IsResult rules fs) results in
     let Q : List File → Type 0 = λ fs. Adds before after (IsFileNotice rules fs) in
-    is_fresh c.args.files.now c.args.rules.now rules results before after c.in_ok-notices.notices e f (subst P c.as_slice-results.ensures c.in_ok-results.ensures.results) (subst Q c.as_slice-results.ensures c.in_ok-results.ensures.notices)
+    is_fresh c.args.files.now c.args.rules.now rules results before after c.in_ok-notices.notices e f (subst P c.as_slice.ensures c.in_ok-results.ensures.results) (subst Q c.as_slice.ensures c.in_ok-results.ensures.notices)
     c.in_ok-notices.ensures.ordered c.in_ok-notices.ensures.same
 
 pub returns-clause-few : goal.returns-clause-few
@@ -42,17 +45,24 @@ returns-clause-few g c = c.in_ok-results.ensures.few
 
 pub returns-clause-only : goal.returns-clause-only
 returns-clause-only g c r h =
-    let rules = lent c.as_slice-results-2.result.now in
-    let before = c.take_files-running.new.notices.items in
-    let after = c.scan_all-results.new.notices.items in
+    let rules = lent c.as_slice-2.result.now in
+    let before = c.take_files.new.notices.items in
+    let after = c.scan_all.new.notices.items in
     let results = c.in_ok-results.results in
-    let e = ap lent c.as_slice-results-2.ensures.value ∙ c.in_ok-running.ensures.rules in
+    let e = ap lent c.as_slice-2.ensures.value ∙ c.in_ok-running.ensures.rules in
     let f : before ≡ rule_notices c.args.rules.now = c.in_ok-running.ensures.notices ∙ ap (λ (ns : List Notice). ns ++ rule_notices c.args.rules.now) c.new-notices.ensures.items in
     let P : List File → Type 0 = λ fs. IsExactly reported_cmp (IsResult rules fs) results in
     let Q : List File → Type 0 = λ fs. Adds before after (IsFileNotice rules fs) in
-    let fresh = is_fresh c.args.files.now c.args.rules.now rules results before after c.in_ok-notices.notices e f (subst P c.as_slice-results.ensures c.in_ok-results.ensures.results) (subst Q c.as_slice-results.ensures c.in_ok-results.ensures.notices)
+    let fresh = is_fresh c.args.files.now c.args.rules.now rules results before after c.in_ok-notices.notices e f (subst P c.as_slice.ensures c.in_ok-results.ensures.results) (subst Q c.as_slice.ensures c.in_ok-results.ensures.notices)
         c.in_ok-notices.ensures.ordered c.in_ok-notices.ensures.same in
     fresh_once c.args.files.now c.args.rules.now r _ h fresh
 
 pub returns-in_err-results-clause-too_many : goal.returns-in_err-results-clause-too_many
-returns-in_err-results-clause-too_many g c n e = ?
+returns-in_err-results-clause-too_many g c n e =
+    let p = err_from_is_err_and c.from_residual-in_err-results.result c.from_residual-in_err-results.ensures.1 in
+    let is : c.in_err-results.field-0.0 ≡ TooMany n = cc in
+    let f : ScanFault → Result (List Reported) ScanFault = λ x. Err x in
+    let more = c.in_err-results.ensures.too_many n (ap f is) in
+    let P : List Rule → Type 0 = λ rs. HasMore reported_cmp (IsResult rs c.args.files.now) c.args.most in
+    let Q : List File → Type 0 = λ fs. HasMore reported_cmp (IsResult (lent c.as_slice-2.result.now) fs) c.args.most in
+    (more.0, subst P (ap lent c.as_slice-2.ensures.value ∙ c.in_ok-running.ensures.rules) (subst Q c.as_slice.ensures more.1))

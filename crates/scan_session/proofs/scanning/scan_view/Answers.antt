@@ -22,14 +22,6 @@ note_judged-requires g c =
     let found = c.as_slice-found.result.now in
     numbered path v.lang v.bytes v.tree rules found (found_all path v.lang v.bytes v.tree rules c.in_ok-judged.judged.items found c.as_slice-found.ensures.value c.in_ok-judged.ensures.judged)
 
-pub rows_of-unsorted-requires : goal.rows_of-unsorted-requires
-rows_of-unsorted-requires g c =
-    let v = c.args.view.now in
-    let path = c.args.path.now in
-    let rules = lent c.args.running.now in
-    let found = c.as_slice-found.result.now in
-    numbered path v.lang v.bytes v.tree rules found (found_all path v.lang v.bytes v.tree rules c.in_ok-judged.judged.items found c.as_slice-found.ensures.value c.in_ok-judged.ensures.judged)
-
 pub report_rows-requires-clause-numbered : goal.report_rows-requires-clause-numbered
 report_rows-requires-clause-numbered g c =
     let v = c.args.view.now in

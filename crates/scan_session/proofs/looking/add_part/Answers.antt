@@ -1,0 +1,20 @@
+use Rattle.std.proofs.Common.{◌≡◌, refl, sym, subst}
+use Rattle.std.specs.Prelude.{IsTrue}
+use Rattle.node_tree.specs.declared.view.Lang.{Lang}
+use Rattle.rule_form.specs.declared.rule.Part.{Part}
+use Rattle.scan_session.specs.Looking.{LooksAt}
+use Rattle.scan_session.proofs.Members.{read_there}
+use Rattle.scan_session.proofs.Judged.{part_adds, all_placed_more}
+use Rattle.scan_session.proofs.looking.add_part.Goals as goal
+
+pub returns-clause-judged : goal.returns-clause-judged
+returns-clause-judged g c p at =
+    let v = c.args.view.now in
+    let same = read_there c.as_slice.result.now c.args.rule.now.parts c.args.part c.index-as_slice-part.result p c.as_slice.ensures c.index-as_slice-part.is at in
+    let P : Part → Type 0 = λ q. LooksAt q v.lang in
+    let looks = subst P same (c.looks_at.ensures.0 c.if-not-looks_at.false) in
+    part_adds v.lang v.bytes v.tree c.args.number p (record { number = c.args.number; found = c.in_ok-found.found }) c.args.judged.now.items c.push.new.self.items c.in_ok-push.ensures.items refl looks (c.in_ok-found.ensures.finds p at)
+
+pub returns-clause-placed : goal.returns-clause-placed
+returns-clause-placed g c all =
+    all_placed_more c.args.view.now.bytes c.args.judged.now.items c.push.new.self.items (record { number = c.args.number; found = c.in_ok-found.found }) all c.in_ok-push.ensures.items c.in_ok-found.ensures.placed

@@ -1,0 +1,19 @@
+use Rattle.std.proofs.Common.{◌≡◌, ℕ, List, refl, sym, ap, ◌∙◌, subst, Some, arith}
+use Rattle.std.specs.Prelude.{slice_get}
+use Rattle.std.proofs.lemmas.Option.{slice_get_within}
+use Rattle.node_tree.specs.declared.view.Pattern.{Pattern}
+use Rattle.rule_form.specs.declared.rule.Part.{Part}
+use Rattle.scan_session.specs.Looking.{AreLeaves}
+use Rattle.scan_session.proofs.Members.{read_there}
+use Rattle.scan_session.proofs.Judged.{part_judges}
+use Rattle.scan_session.proofs.looking.judge_part.Goals as goal
+
+pub returns-clause-finds : goal.returns-clause-finds
+returns-clause-finds g c p at =
+    let v = c.args.view.now in
+    let parts = c.args.rule.now.parts in
+    let same = read_there c.as_slice.result.now parts c.args.part c.index-as_slice-part.result p c.as_slice.ensures c.index-as_slice-part.is at in
+    let number : c.in-Ok.number ≡ c.args.part = grind arith in
+    let P : List Pattern → Type 0 = λ ps. AreLeaves v.tree ps c.in_ok-leaves.leaves in
+    let are = subst P (c.as_slice-2.ensures ∙ ap (λ (q : Part). q.patterns) (sym c.index-as_slice-part.is ∙ same)) c.in_ok-leaves.ensures.leaves in
+    part_judges v.bytes v.tree parts c.args.part c.in-Ok.number p c.in_ok-leaves.leaves at number are c.judge.result c.judge.ensures.finds c.judge.ensures.only
