@@ -11,7 +11,7 @@ pub returns : goal.returns
 returns c = (
   λ e. record { somewhere = λ no. (c.matches.ensures.somewhere no).0 e; from_the_root = λ slash. (c.matches.ensures.from_the_root slash).0 e },
   λ m. not_false c.matches.result (λ e.
-    let no : Contains c.args.glob.now 47 → ⊥ = λ slash. let t = (c.matches.ensures.from_the_root slash).1 (m.from_the_root slash) in absurd cc in
-    let t = (c.matches.ensures.somewhere no).1 (m.somewhere no) in
-    absurd cc),
+      let no : Contains c.args.glob.now 47 → ⊥ = λ slash. let t = (c.matches.ensures.from_the_root slash).1 (m.from_the_root slash) in absurd cc in
+      let t = (c.matches.ensures.somewhere no).1 (m.somewhere no) in
+      absurd cc),
 )

@@ -44,18 +44,7 @@ pub returns-clause-few : goal.returns-clause-few
 returns-clause-few g c = c.in_ok-results.ensures.few
 
 pub returns-clause-only : goal.returns-clause-only
-returns-clause-only g c r h =
-    let rules = lent c.as_slice-2.result.now in
-    let before = c.take_files.new.notices.items in
-    let after = c.scan_all.new.notices.items in
-    let results = c.in_ok-results.results in
-    let e = ap lent c.as_slice-2.ensures.value ∙ c.in_ok-running.ensures.rules in
-    let f : before ≡ rule_notices c.args.rules.now = c.in_ok-running.ensures.notices ∙ ap (λ (ns : List Notice). ns ++ rule_notices c.args.rules.now) c.new-notices.ensures.items in
-    let P : List File → Type 0 = λ fs. IsExactly reported_cmp (IsResult rules fs) results in
-    let Q : List File → Type 0 = λ fs. Adds before after (IsFileNotice rules fs) in
-    let fresh = is_fresh c.args.files.now c.args.rules.now rules results before after c.in_ok-notices.notices e f (subst P c.as_slice.ensures c.in_ok-results.ensures.results) (subst Q c.as_slice.ensures c.in_ok-results.ensures.notices)
-        c.in_ok-notices.ensures.ordered c.in_ok-notices.ensures.same in
-    fresh_once c.args.files.now c.args.rules.now r _ h fresh
+returns-clause-only g c r h = fresh_once c.args.files.now c.args.rules.now r _ h (returns-clause-fresh g c)
 
 pub returns-in_err-results-clause-too_many : goal.returns-in_err-results-clause-too_many
 returns-in_err-results-clause-too_many g c n e =
