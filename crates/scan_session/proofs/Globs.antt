@@ -1,7 +1,5 @@
 -- Globs that match a path.
-use Rattle.std.proofs.Common.{◌≡◌, ◌⊎◌, inl, inr, ◌↔◌, ℕ, List, [], ◌∷◌, refl, sym, subst}
-use Rattle.std.specs.Prelude.{Bool, true, false, IsTrue}
-use Rattle.rule_form.specs.declared.rule.Rule.{Rule}
+use Rattle.std.proofs.Common.{◌≡◌, inl, inr, ◌↔◌, ℕ, List, [], ◌∷◌, refl, sym, subst}
 use Rattle.tree_match.specs.Sets.{Among}
 use Rattle.scan_session.specs.Looking.{GlobMatches, SomeMatches}
 

@@ -1,9 +1,9 @@
 -- Findings of one file, and their results.
-use Rattle.std.proofs.Common.{◌≡◌, ◌⊎◌, inl, inr, ◌↔◌, ℕ, zero, suc, List, [], ◌∷◌, ◌++◌, refl, sym, ap, ◌∙◌, subst, Some, Ok, append_assoc, append-nil}
-use Rattle.std.specs.Prelude.{Option, None, Result, Err, IfOk, slice_get}
+use Rattle.std.proofs.Common.{◌≡◌, ◌⊎◌, inl, inr, ◌↔◌, ℕ, List, [], ◌∷◌, ◌++◌, refl, sym, ap, ◌∙◌, subst, Some, Ok, append_assoc, append-nil}
+use Rattle.std.specs.Prelude.{Option, Result, Err, IfOk, slice_get}
 use Rattle.std.specs.List.{flat_map}
 use Rattle.std.specs.declared.cmp.Ordering.{Ordering}
-use Rattle.std.specs.declared.cmp.Ordering.TheVariants.{Less, Equal, Greater}
+use Rattle.std.specs.declared.cmp.Ordering.TheVariants.{Less, Equal}
 use Rattle.std.specs.Ordering.{ordering_then, nat_cmp}
 use Rattle.std.proofs.lemmas.Cmp.{nat_cmp_total, tied_itself}
 use Rattle.node_tree.specs.declared.memory.Memory.{Memory}
@@ -17,13 +17,12 @@ use Rattle.tree_match.specs.Sets.{Among, Adds}
 use Rattle.tree_match.specs.Ascending.{IsAscending}
 use Rattle.tree_match.proofs.Sets.{gathered, pushed}
 use Rattle.tree_match.proofs.Placed.{all_among}
-use Rattle.judge_file.specs.declared.outcome.Outcome.{Outcome}
 use Rattle.judge_file.specs.Findings.{findings_of, IsFindingPlaced}
 use Rattle.fix_apply.specs.declared.notice.Notice.{Notice}
 use Rattle.fix_apply.specs.declared.report.Reported.{Reported}
 use Rattle.scan_session.specs.declared.looking.Judged.{Judged}
 use Rattle.scan_session.specs.Sets.{IsExactly}
-use Rattle.scan_session.specs.Reports.{reported, reported_cmp, bound_cmp, outcome_notices}
+use Rattle.scan_session.specs.Reports.{reported, reported_cmp, bound_cmp}
 use Rattle.scan_session.specs.Hits.{Hit, hit_cmp}
 use Rattle.scan_session.specs.NoteOrder.{name_total, name_same}
 use Rattle.scan_session.specs.Judging.{IsJudged, IsHit, IsHitOf, AreAllPlaced, AreNumbered, AreNumberedHits, ArePlacedHits, AreReported, AreApart, judged_notices, notices_by}

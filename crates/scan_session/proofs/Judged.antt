@@ -1,6 +1,6 @@
 -- What rules find in a file.
-use Rattle.std.proofs.Common.{◌≡◌, ◌⊎◌, inl, inr, ◌↔◌, ℕ, suc, ◌+◌, ◌<◌, ◌≤◌, List, [], ◌∷◌, ◌++◌, length, drop, refl, sym, ap, ◌∙◌, subst, Some, Ok, append_assoc, append-nil, arith}
-use Rattle.std.specs.Prelude.{Option, None, Result, Err, IfOk, slice_get, All}
+use Rattle.std.proofs.Common.{◌≡◌, ◌⊎◌, inl, inr, ◌↔◌, ℕ, ◌+◌, ◌<◌, ◌≤◌, List, [], ◌∷◌, ◌++◌, length, refl, sym, ap, ◌∙◌, subst, Some, Ok, append_assoc, append-nil, arith}
+use Rattle.std.specs.Prelude.{Option, Result, Err, IfOk, slice_get, All}
 use Rattle.node_tree.specs.declared.memory.Memory.{Memory}
 use Rattle.node_tree.specs.declared.node.Node.{Node}
 use Rattle.node_tree.specs.declared.view.Lang.{Lang}
@@ -17,7 +17,7 @@ use Rattle.tree_match.proofs.Exclusion.{whole_once, few_or_more}
 use Rattle.judge_file.specs.declared.outcome.Outcome.{Outcome}
 use Rattle.judge_file.specs.Findings.{PartFinds, findings_of, IsFindingPlaced}
 use Rattle.scan_session.specs.declared.looking.Judged.{Judged}
-use Rattle.scan_session.specs.Looking.{Allows, AreLeaves, LooksAt, PartFindsIn, RuleFinds}
+use Rattle.scan_session.specs.Looking.{Allows, AreLeaves, LooksAt, PartFindsIn}
 use Rattle.scan_session.specs.Judging.{PartJudges, PartAdds, RuleJudges, RuleAdds, IsJudged, AreAllPlaced}
 use Rattle.scan_session.proofs.Members.{one_there}
 

@@ -11,23 +11,19 @@ use Rattle.meta_bind.specs.Bounds.{name_cmp}
 use Rattle.rule_form.specs.declared.rule.Rule.{Rule}
 use Rattle.tree_match.specs.Sets.{Among, Adds}
 use Rattle.tree_match.specs.Ascending.{IsAscending}
-use Rattle.tree_match.proofs.Sets.{adds_as}
 use Rattle.judge_file.specs.declared.opened.Opened.{Opened}
-use Rattle.judge_file.specs.declared.opened.Opened.TheVariants as opened
 use Rattle.judge_file.specs.Opening.{IsOpened, HasOnlyTree}
 use Rattle.fix_apply.specs.declared.notice.Notice.{Notice}
 use Rattle.fix_apply.specs.declared.report.Reported.{Reported}
-use Rattle.fix_apply.specs.declared.report.Report.{Report}
 use Rattle.scan_session.specs.declared.rule_file.RuleFile.{RuleFile}
 use Rattle.scan_session.specs.Sets.{IsExactly, HasMore}
 use Rattle.scan_session.specs.Notes.{notice_cmp}
-use Rattle.scan_session.specs.NoteOrder.{name_total, notice_total}
-use Rattle.scan_session.specs.HitOrder.{reported_total}
+use Rattle.scan_session.specs.NoteOrder.{name_total}
 use Rattle.scan_session.specs.Running.{running, rule_notices}
 use Rattle.scan_session.specs.Reports.{reported_cmp, bound_cmp}
 use Rattle.scan_session.specs.Fresh.{File, file_cmp, lang_at, Shows, InView, opened_notices, IsFoundIn, IsNotedIn, IsResultIn, IsNoticeIn, IsResult, IsFileNotice, IsFresh}
 use Rattle.scan_session.proofs.Members.{among_left, among_right, among_either, appended, adds_both}
-use Rattle.scan_session.proofs.Orders.{exactly_once, before_below, ascends_on, first_decides}
+use Rattle.scan_session.proofs.Orders.{before_below, ascends_on, first_decides}
 use Rattle.scan_session.proofs.Views.{shows_one, notes_one}
 
 -- ---- one file

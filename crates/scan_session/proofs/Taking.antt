@@ -1,8 +1,8 @@
 -- Rules that are taken up one after the other.
-use Rattle.std.proofs.Common.{◌≡◌, ◌↔◌, ℕ, suc, ◌+◌, ◌<◌, Bool, true, false, cond, not, List, [], ◌∷◌, ◌++◌, length, map, get_or, drop, nat_cmp, refl, sym, ap, ◌∙◌, subst, append_assoc, append-nil, add-one, arith}
+use Rattle.std.proofs.Common.{◌≡◌, ◌↔◌, ℕ, suc, ◌+◌, Bool, true, false, cond, not, List, [], ◌∷◌, ◌++◌, map, nat_cmp, refl, sym, ap, ◌∙◌, subst, append_assoc, append-nil, add-one}
 use Rattle.std.specs.Prelude.{if◌then◌else◌, ◌||◌, IsTrue}
 use Rattle.std.specs.Borrow.{Bor}
-use Rattle.std.specs.List.{list_any, flat_map}
+use Rattle.std.specs.List.{list_any}
 use Rattle.std.specs.Ordering.{is_eq}
 use Rattle.std.specs.Str.{bytes_eq}
 use Rattle.std.specs.BTreeSet.{BTreeSet, contains}
@@ -10,13 +10,11 @@ use Rattle.std.specs.Cmp.Lexicographic.{slice_cmp}
 use Rattle.std.proofs.lemmas.Map.Text.{is_eq-slice_cmp}
 use Rattle.rule_form.specs.declared.rule.Rule.{Rule}
 use Rattle.rule_read.specs.declared.fault.RuleOutcome.{RuleOutcome}
-use Rattle.rule_read.specs.declared.fault.RuleOutcome.TheVariants as outcomes
 use Rattle.fix_apply.specs.declared.notice.Notice.{Notice}
-use Rattle.scan_session.specs.declared.running.Entry.{Entry}
 use Rattle.scan_session.specs.declared.rule_file.RuleFile.{RuleFile}
 use Rattle.scan_session.specs.RuleFiles.{outcomes_of}
 use Rattle.scan_session.specs.Running.{Stated, stated_at, stated_from, stated, is_taken, is_unbuilt, has_texts, built, firsts, stated_notices, first_notices, repeat_notice, option_notice, unbuilt_notice}
-use Rattle.scan_session.specs.Taking.{said, HasJust, ids_after, rules_at, notices_at}
+use Rattle.scan_session.specs.Taking.{HasJust, ids_after, rules_at, notices_at}
 
 -- ---- entries
 

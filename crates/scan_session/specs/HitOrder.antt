@@ -1,16 +1,15 @@
 -- The orders of findings and of results, and that the first tells findings apart.
-use Rattle.std.proofs.Common.{◌≡◌, ℕ, List, refl, sym, ap, ◌∙◌}
+use Rattle.std.proofs.Common.{◌≡◌, ℕ, List, refl, ap, ◌∙◌}
 use Rattle.std.specs.Prelude.{Option, None, Some}
 use Rattle.std.specs.Option.{option_cmp}
 use Rattle.std.specs.Cmp.Lexicographic.{options_total}
-use Rattle.std.specs.declared.cmp.Ordering.{Ordering}
 use Rattle.std.specs.declared.cmp.Ordering.TheVariants.{Equal}
 use Rattle.std.specs.Ordering.{ordering_then, nat_cmp}
 use Rattle.std.specs.Cmp.{IsTotalOrder}
 use Rattle.std.proofs.lemmas.Cmp.{nat_cmp_total, on_total, then_total}
 use Rattle.node_tree.specs.declared.span.Span.{Span}
 use Rattle.node_tree.specs.Span.{span_cmp}
-use Rattle.node_tree.proofs.Orders.{IsOrder, nat_order, span_order, then_first, then_second}
+use Rattle.node_tree.proofs.Orders.{nat_order, span_order, then_first, then_second}
 use Rattle.meta_bind.specs.declared.bound.Bound.{Bound}
 use Rattle.meta_bind.specs.declared.finding.Finding.{Finding}
 use Rattle.meta_bind.specs.Bounds.{name_cmp, binding_cmp}

@@ -1,10 +1,9 @@
 -- Findings as they are reported.
-use Rattle.std.specs.Prelude.{ℕ, List, [], ◌∷◌, Option, None, Some}
+use Rattle.std.specs.Prelude.{ℕ, List, [], ◌∷◌}
 use Rattle.std.specs.Option.{option_map, option_cmp}
 use Rattle.std.specs.Fmt.{decimal}
 use Rattle.std.specs.declared.cmp.Ordering.{Ordering}
 use Rattle.std.specs.Ordering.{ordering_then}
-use Rattle.node_tree.specs.declared.span.Span.{Span}
 use Rattle.node_tree.specs.Span.{span_cmp}
 use Rattle.node_tree.specs.Places.{place_of}
 use Rattle.meta_bind.specs.declared.finding.Finding.{Finding}

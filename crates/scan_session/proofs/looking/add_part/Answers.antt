@@ -1,6 +1,4 @@
-use Rattle.std.proofs.Common.{◌≡◌, refl, sym, subst}
-use Rattle.std.specs.Prelude.{IsTrue}
-use Rattle.node_tree.specs.declared.view.Lang.{Lang}
+use Rattle.std.proofs.Common.{refl, subst}
 use Rattle.rule_form.specs.declared.rule.Part.{Part}
 use Rattle.scan_session.specs.Looking.{LooksAt}
 use Rattle.scan_session.proofs.Members.{read_there}

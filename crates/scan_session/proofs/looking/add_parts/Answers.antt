@@ -1,4 +1,4 @@
-use Rattle.std.proofs.Common.{◌≡◌, ◌+◌, ◌<◌, length, refl, sym, ap, ◌∙◌, drop, arith}
+use Rattle.std.proofs.Common.{◌+◌, ◌<◌, length, refl, drop, arith}
 use Rattle.std.proofs.lemmas.List.{drop_all}
 use Rattle.scan_session.proofs.Members.{there_is}
 use Rattle.scan_session.proofs.Judged.{gathers_start, gathers_on, gathers_end}

@@ -1,4 +1,3 @@
-use Rattle.std.proofs.Common.{◌≡◌}
 use Rattle.scan_session.proofs.Members.{on_ok_map}
 use Rattle.scan_session.proofs.Judged.{rule_adds}
 use Rattle.scan_session.proofs.looking.add_rule.Goals as goal

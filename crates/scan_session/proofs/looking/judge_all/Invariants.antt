@@ -1,4 +1,3 @@
-use Rattle.std.proofs.Common.{drop}
 use Rattle.scan_session.specs.Taking.{lent}
 use Rattle.scan_session.specs.Judging.{AreAllPlaced}
 use Rattle.scan_session.proofs.Judged.{UpTo}

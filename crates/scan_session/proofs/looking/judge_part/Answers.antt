@@ -1,6 +1,4 @@
-use Rattle.std.proofs.Common.{◌≡◌, ℕ, List, refl, sym, ap, ◌∙◌, subst, Some, arith}
-use Rattle.std.specs.Prelude.{slice_get}
-use Rattle.std.proofs.lemmas.Option.{slice_get_within}
+use Rattle.std.proofs.Common.{◌≡◌, List, sym, ap, ◌∙◌, subst, arith}
 use Rattle.node_tree.specs.declared.view.Pattern.{Pattern}
 use Rattle.rule_form.specs.declared.rule.Part.{Part}
 use Rattle.scan_session.specs.Looking.{AreLeaves}

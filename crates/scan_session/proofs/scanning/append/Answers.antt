@@ -1,4 +1,4 @@
-use Rattle.std.proofs.Common.{◌≡◌, ◌++◌, List, sym, ap, ◌∙◌, reverse}
+use Rattle.std.proofs.Common.{◌++◌, List, ap, ◌∙◌, reverse}
 use Rattle.fix_apply.specs.declared.report.Reported.{Reported}
 use Rattle.std.proofs.lemmas.List.{reverse-reverse}
 use Rattle.scan_session.proofs.scanning.append.Goals as goal

@@ -1,14 +1,13 @@
-use Rattle.std.proofs.Common.{◌≡◌, ◌++◌, List, refl, sym, ap, ◌∙◌, subst, append-nil}
+use Rattle.std.proofs.Common.{◌≡◌, refl, sym, ap, ◌∙◌, append-nil}
 use Rattle.std.specs.Prelude.{Option}
 use Rattle.std.specs.Option.{unwrap_or}
 use Rattle.node_tree.specs.declared.view.Lang.{Lang}
 use Rattle.node_tree.specs.declared.view.Lang.TheVariants.{Regex}
-use Rattle.judge_file.specs.declared.opened.Opened.{Opened}
 use Rattle.judge_file.specs.declared.opened.Opened.TheVariants as opened
 use Rattle.scan_session.specs.Reports.{reported_cmp}
 use Rattle.scan_session.specs.Sets.{IsExactly}
 use Rattle.scan_session.specs.Taking.{lent}
-use Rattle.scan_session.specs.Fresh.{lang_at, IsFoundIn, IsNotedIn, IsResultIn, IsNoticeIn}
+use Rattle.scan_session.specs.Fresh.{lang_at, IsFoundIn, IsResultIn}
 use Rattle.scan_session.proofs.Members.{on_ok_map}
 use Rattle.scan_session.proofs.Hits.{if_reported}
 use Rattle.scan_session.proofs.Scans.{opened_as, only_as, no_results, own_notices, seen_results, seen_notices}

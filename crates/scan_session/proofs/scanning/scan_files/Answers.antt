@@ -1,4 +1,4 @@
-use Rattle.std.proofs.Common.{◌≡◌, ◌++◌, ℕ, ◌≤◌, List, length, refl, sym, ap, ◌∙◌, subst}
+use Rattle.std.proofs.Common.{◌≡◌, ◌++◌, List, sym, ap, ◌∙◌, subst}
 use Rattle.std.specs.Prelude.{Result, Err}
 use Rattle.std.proofs.lemmas.Result.{err_from_is_err_and}
 use Rattle.rule_form.specs.declared.rule.Rule.{Rule}
@@ -10,7 +10,7 @@ use Rattle.scan_session.specs.declared.fault.ScanFault.{ScanFault}
 use Rattle.scan_session.specs.declared.fault.ScanFault.TheVariants.{TooMany}
 use Rattle.scan_session.specs.Sets.{IsExactly, HasMore}
 use Rattle.scan_session.specs.Reports.{reported_cmp}
-use Rattle.scan_session.specs.Running.{stated, running, rule_notices}
+use Rattle.scan_session.specs.Running.{stated, rule_notices}
 use Rattle.scan_session.specs.Taking.{lent}
 use Rattle.scan_session.specs.Judging.{AreApart}
 use Rattle.scan_session.specs.Fresh.{File, file_cmp, IsResult, IsFileNotice}

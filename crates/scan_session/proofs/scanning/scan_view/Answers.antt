@@ -1,8 +1,7 @@
-use Rattle.std.proofs.Common.{◌≡◌, List, sym, ◌∙◌, subst}
+use Rattle.std.proofs.Common.{List, sym, subst}
 use Rattle.std.specs.List.{flat_map}
 use Rattle.tree_match.specs.Ascending.{IsAscending}
 use Rattle.tree_match.specs.Sets.{Adds}
-use Rattle.fix_apply.specs.declared.report.Reported.{Reported}
 use Rattle.scan_session.specs.declared.looking.Judged.{Judged}
 use Rattle.scan_session.specs.Hits.{Hit, hit_cmp}
 use Rattle.scan_session.specs.Reports.{reported_cmp}
