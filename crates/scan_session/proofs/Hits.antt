@@ -15,10 +15,10 @@ use Rattle.meta_bind.specs.Bounds.{name_cmp}
 use Rattle.rule_form.specs.declared.rule.Rule.{Rule}
 use Rattle.tree_match.specs.Sets.{Among, Adds}
 use Rattle.tree_match.specs.Ascending.{IsAscending}
-use Rattle.tree_match.specs.Placed.{IsPlaced}
 use Rattle.tree_match.proofs.Sets.{gathered, pushed}
+use Rattle.tree_match.proofs.Placed.{all_among}
 use Rattle.judge_file.specs.declared.outcome.Outcome.{Outcome}
-use Rattle.judge_file.specs.Findings.{findings_of}
+use Rattle.judge_file.specs.Findings.{findings_of, IsFindingPlaced}
 use Rattle.fix_apply.specs.declared.notice.Notice.{Notice}
 use Rattle.fix_apply.specs.declared.report.Reported.{Reported}
 use Rattle.scan_session.specs.declared.looking.Judged.{Judged}
@@ -129,7 +129,7 @@ module _ (path : List ℕ) (lang : Lang) (text : List ℕ) (tree : Node) (rules 
     hits_numbered h k = let is = (whole h).0 k in (is.rule, ap (slice_get rules) is.number_is ∙ is.at)
 
     pub hits_placed : AreAllPlaced text judged → ArePlacedHits text hits
-    hits_placed placed h k = let is = (whole h).0 k in placed is.from is.is_judged h.finding is.found
+    hits_placed placed h k = let is = (whole h).0 k in all_among (λ finding. IsFindingPlaced text finding) (findings_of is.from.found) h.finding (placed is.from is.is_judged) is.found
 
     -- the id of a finding is that of its rule
     hit_id : (h : Hit) (rule : Rule) → Among hits h → slice_get rules h.number ≡ Some rule → h.id ≡ rule.id

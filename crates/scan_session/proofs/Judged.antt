@@ -1,6 +1,6 @@
 -- What rules find in a file.
 use Rattle.std.proofs.Common.{◌≡◌, ◌⊎◌, inl, inr, ◌↔◌, ℕ, suc, ◌+◌, ◌<◌, ◌≤◌, List, [], ◌∷◌, ◌++◌, length, drop, refl, sym, ap, ◌∙◌, subst, Some, Ok, append_assoc, append-nil, arith}
-use Rattle.std.specs.Prelude.{Option, None, Result, Err, IfOk, slice_get}
+use Rattle.std.specs.Prelude.{Option, None, Result, Err, IfOk, slice_get, All}
 use Rattle.node_tree.specs.declared.memory.Memory.{Memory}
 use Rattle.node_tree.specs.declared.node.Node.{Node}
 use Rattle.node_tree.specs.declared.view.Lang.{Lang}
@@ -12,11 +12,10 @@ use Rattle.tree_match.specs.declared.leaf.Leaf.TheVariants.{Full, Crowded}
 use Rattle.tree_match.specs.Sets.{Among, Adds}
 use Rattle.tree_match.specs.Members.{Member, IsMember}
 use Rattle.tree_match.specs.Leaf.{IsLeaf}
-use Rattle.tree_match.specs.Placed.{IsPlacedLeaf, ArePlacedLeaves}
 use Rattle.tree_match.proofs.Sets.{gathered, pushed, among_more, adds_as, adds_none}
 use Rattle.tree_match.proofs.Exclusion.{whole_once, few_or_more}
 use Rattle.judge_file.specs.declared.outcome.Outcome.{Outcome}
-use Rattle.judge_file.specs.Findings.{PartFinds, findings_of, ArePlacedFindings}
+use Rattle.judge_file.specs.Findings.{PartFinds, findings_of, IsFindingPlaced}
 use Rattle.scan_session.specs.declared.looking.Judged.{Judged}
 use Rattle.scan_session.specs.Looking.{Allows, AreLeaves, LooksAt, PartFindsIn, RuleFinds}
 use Rattle.scan_session.specs.Judging.{PartJudges, PartAdds, RuleJudges, RuleAdds, IsJudged, AreAllPlaced}
@@ -58,15 +57,6 @@ leads_end tree all leaves left far left-is =
     let P : List Pattern → Type 0 = λ xs. AreLeaves tree xs [] in
     let Q : List Leaf → Type 0 = λ xs. AreLeaves tree all xs in
     subst Q (append-nil leaves) (far [] (subst P (sym left-is) refl))
-
-pub placed_start : (text : List ℕ) (leaves : List Leaf) → leaves ≡ [] → ArePlacedLeaves text leaves
-placed_start text leaves e x h = let P : List Leaf → Type 0 = λ ls. Among ls x in absurd (subst P e h)
-
-pub placed_more : (text : List ℕ) (old new : List Leaf) (leaf : Leaf) → ArePlacedLeaves text old → new ≡ old ++ leaf ∷ [] → IsPlacedLeaf text leaf → ArePlacedLeaves text new
-placed_more text old new leaf all new-is one x h =
-    let P : List Leaf → Type 0 = λ xs. Among xs x in
-    let Q : Leaf → Type 0 = IsPlacedLeaf text in
-    elim ((among_more old leaf x).0 (subst P new-is h)) [ inl a ↦ all x a | inr e ↦ subst Q e one ]
 
 -- ---- one part
 
@@ -138,10 +128,10 @@ module _ (lang : Lang) (text : List ℕ) (tree : Node) (number : ℕ) where
 pub all_placed_start : (text : List ℕ) (judged : List Judged) → judged ≡ [] → AreAllPlaced text judged
 all_placed_start text judged e x h = let P : List Judged → Type 0 = λ js. Among js x in absurd (subst P e h)
 
-pub all_placed_more : (text : List ℕ) (old new : List Judged) (y : Judged) → AreAllPlaced text old → new ≡ old ++ y ∷ [] → ArePlacedFindings text (findings_of y.found) → AreAllPlaced text new
+pub all_placed_more : (text : List ℕ) (old new : List Judged) (y : Judged) → AreAllPlaced text old → new ≡ old ++ y ∷ [] → All (λ finding. IsFindingPlaced text finding) (findings_of y.found) → AreAllPlaced text new
 all_placed_more text old new y all new-is one x h =
     let P : List Judged → Type 0 = λ xs. Among xs x in
-    let Q : Judged → Type 0 = λ z. ArePlacedFindings text (findings_of z.found) in
+    let Q : Judged → Type 0 = λ z. All (λ finding. IsFindingPlaced text finding) (findings_of z.found) in
     elim ((among_more old y x).0 (subst P new-is h)) [ inl a ↦ all x a | inr e ↦ subst Q e one ]
 
 -- ---- all rules

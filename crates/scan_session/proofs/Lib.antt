@@ -8,3 +8,4 @@ pub mod Views
 pub mod Judged
 pub mod Hits
 pub mod Scans
+pub mod Laws

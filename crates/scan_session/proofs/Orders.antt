@@ -1,5 +1,5 @@
 -- Lists in order.
-use Rattle.std.proofs.Common.{◌≡◌, ◌⊎◌, inl, inr, ◌↔◌, ℕ, List, [], ◌∷◌, ◌++◌, refl, sym, ap, ◌∙◌, subst}
+use Rattle.std.proofs.Common.{◌≡◌, ◌⊎◌, inl, inr, ◌↔◌, ℕ, ◌≤◌, List, [], ◌∷◌, ◌++◌, length, refl, sym, ap, ◌∙◌, subst, arith}
 use Rattle.std.specs.declared.cmp.Ordering.{Ordering}
 use Rattle.std.specs.declared.cmp.Ordering.TheVariants.{Less, Equal, Greater}
 use Rattle.std.specs.Ordering.{ordering_reverse, ordering_then}
@@ -7,7 +7,7 @@ use Rattle.std.specs.Cmp.{IsTotalOrder}
 use Rattle.std.proofs.lemmas.Cmp.{tied_itself}
 use Rattle.tree_match.specs.Sets.{Among}
 use Rattle.tree_match.specs.Ascending.{IsAscending}
-use Rattle.scan_session.specs.Sets.{IsExactly}
+use Rattle.scan_session.specs.Sets.{IsExactly, HasMore}
 
 -- each item of the one is an item of the other
 abbrev Within : {X : Type 0} → List X → List X → Type 0
@@ -47,6 +47,30 @@ module _ {X : Type 0} (R : X → X → Ordering) (o : IsTotalOrder R) where
 
   pub exactly_once : (Set : X → Type 0) (xs ys : List X) → IsExactly R Set xs → IsExactly R Set ys → xs ≡ ys
   exactly_once Set xs ys a b = one_list xs ys a.ordered b.ordered (λ x h. (b.exact x).1 ((a.exact x).0 h)) (λ x h. (a.exact x).1 ((b.exact x).0 h))
+
+  -- what is below all items is none of them
+  later_among : (x : X) (xs : List X) (y : X) (ys : List X) → IsAscending R (x ∷ xs) → R y x ≡ Less → Within (x ∷ xs) (y ∷ ys) → Within (x ∷ xs) ys
+  later_among x xs y ys up less all z h = elim (all z h) [ inl e ↦ absurd (not_itself y z e (after z h)) | inr a ↦ a ]
+    where
+      after : (w : X) → Among (x ∷ xs) w → R y w ≡ Less
+      after w (inl e) = let P : X → Type 0 = λ v. R y v ≡ Less in subst P e less
+      after w (inr k) = o.trans y x w less (first_below x xs w up k)
+
+  -- a list in order with items of another has no more
+  no_longer : (xs ys : List X) → IsAscending R xs → IsAscending R ys → Within xs ys → length xs ≤ length ys
+  no_longer [] ys up up' all = omega arith
+  no_longer (x ∷ xs) [] up up' all = absurd (all x (inl refl))
+  no_longer (x ∷ xs) (y ∷ ys) up up' all =
+      let longer : Among ys x → length (x ∷ xs) ≤ length ys = λ a. no_longer (x ∷ xs) ys up (tail_ascends y ys up') (later_among x xs y ys up (first_below y ys x up' a) all) in
+      let shorter : y ≡ x → length xs ≤ length ys = λ e. no_longer xs ys (tail_ascends x xs up) (tail_ascends y ys up') (rest_among x xs y ys up e all) in
+      elim (all x (inl refl)) [ inl e ↦ (let f = shorter e in omega arith) | inr a ↦ (let f = longer a in omega arith) ]
+
+  -- a set of so few items doesn't have more
+  pub few_or_more : (Set : X → Type 0) (many : ℕ) (items : List X) → IsExactly R Set items → length items ≤ many → HasMore R Set many → ⊥
+  few_or_more Set many items whole few more =
+      let part = no_longer more.some items more.ordered whole.ordered (λ x h. (whole.exact x).1 (more.members x h)) in
+      let lt = more.more in
+      absurd (omega (arith, part, lt, few))
 
   -- what stands before an item is below it
   pub before_below : (xs : List X) (y : X) (ys : List X) (x : X) → IsAscending R (xs ++ y ∷ ys) → Among xs x → R x y ≡ Less

@@ -205,9 +205,3 @@ is_fresh files rule_files rules results before notices listed e f whole adds up 
       let added = subst Q f (subst P e adds) in
       record { exact = λ n. (λ h. (added n).0 ((same n).0 h), λ h. (same n).1 ((added n).1 h)); ordered = up };
 }
-
-pub fresh_once : (files : List File) (rule_files : List RuleFile) (r s : Report) → IsFresh files rule_files r → IsFresh files rule_files s → r ≡ s
-fresh_once files rule_files r s h k =
-    let f : List Reported → Report = λ rs. record { results = rs; notices = r.notices } in
-    let g : List Notice → Report = λ ns. record { results = s.results; notices = ns } in
-    ap f (exactly_once reported_cmp reported_total _ r.results s.results h.results k.results) ∙ ap g (exactly_once notice_cmp notice_total _ r.notices s.notices h.notices k.notices)

@@ -1,14 +1,13 @@
 -- What the code knows of what rules find in a file.
-use Rattle.std.specs.Prelude.{◌≡◌, ℕ, List, [], ◌∷◌, Option, None, Some, slice_get}
+use Rattle.std.specs.Prelude.{◌≡◌, ℕ, List, [], ◌∷◌, Option, None, Some, slice_get, All}
 use Rattle.node_tree.specs.declared.node.Node.{Node}
 use Rattle.node_tree.specs.declared.view.Lang.{Lang}
 use Rattle.rule_form.specs.declared.rule.Rule.{Rule}
 use Rattle.rule_form.specs.declared.rule.Part.{Part}
 use Rattle.tree_match.specs.Sets.{Among}
-use Rattle.tree_match.specs.Placed.{IsPlaced}
 use Rattle.meta_bind.specs.declared.finding.Finding.{Finding}
 use Rattle.judge_file.specs.declared.outcome.Outcome.{Outcome}
-use Rattle.judge_file.specs.Findings.{findings_of, ArePlacedFindings}
+use Rattle.judge_file.specs.Findings.{findings_of, IsFindingPlaced}
 use Rattle.fix_apply.specs.declared.notice.Notice.{Notice}
 use Rattle.fix_apply.specs.declared.report.Reported.{Reported}
 use Rattle.scan_session.specs.declared.looking.Judged.{Judged}
@@ -43,9 +42,9 @@ pub record IsJudged (path : List ℕ) (lang : Lang) (text : List ℕ) (tree : No
   pub at : slice_get rules x.number ≡ Some rule
   pub finds : RuleFinds path lang text tree rule x.found
 
--- all that was found lies in the text
+-- all that was found stands at places of the text
 abbrev pub AreAllPlaced : List ℕ → List Judged → Type 0
-AreAllPlaced text judged = (x : Judged) → Among judged x → ArePlacedFindings text (findings_of x.found)
+AreAllPlaced text judged = (x : Judged) → Among judged x → All (λ finding. IsFindingPlaced text finding) (findings_of x.found)
 
 -- each was found by a rule that is there
 abbrev pub AreNumbered : List Rule → List Judged → Type 0
@@ -85,9 +84,9 @@ pub record IsHitOf (number : ℕ) (id : List ℕ) (findings : List Finding) (h :
 abbrev pub AreNumberedHits : List Rule → List Hit → Type 0
 AreNumberedHits rules hits = (h : Hit) → Among hits h → (rule : Rule) × (slice_get rules h.number ≡ Some rule)
 
--- each lies in the text
+-- each stands at places of the text
 abbrev pub ArePlacedHits : List ℕ → List Hit → Type 0
-ArePlacedHits text hits = (h : Hit) → Among hits h → IsPlaced text (h.finding.span, h.finding.binding)
+ArePlacedHits text hits = (h : Hit) → Among hits h → IsFindingPlaced text h.finding
 
 -- no two rules have one id
 abbrev pub AreApart : List Rule → Type 0

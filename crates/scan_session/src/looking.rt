@@ -1,9 +1,9 @@
 //! Where rules look, and what they find there.
 
-ghost use Rattle.std.specs.Prelude.{◌≡◌, ◌<◌, ◌↔◌, length, slice_get, IsTrue, IfOk, OnOk, Some};
+ghost use Rattle.std.specs.Prelude.{◌≡◌, ◌<◌, ◌↔◌, length, slice_get, All, IsTrue, IfOk, OnOk, Some};
 ghost use Rattle.tree_match.specs.Sets.{Among, Adds};
-ghost use Rattle.tree_match.specs.Placed.{ArePlacedLeaves};
-ghost use Rattle.judge_file.specs.Findings.{findings_of, ArePlacedFindings};
+ghost use Rattle.tree_match.specs.Placed.{IsLeafPlaced};
+ghost use Rattle.judge_file.specs.Findings.{findings_of, IsFindingPlaced};
 ghost use Rattle.rule_form.specs.declared.rule.Part.{Part as a_part};
 ghost use Rattle.scan_session.specs.Looking.{GlobMatches, SomeMatches, Allows, AreLeaves, LooksAt};
 ghost use Rattle.scan_session.specs.Taking.{lent};
@@ -69,7 +69,7 @@ fn leaves_of<L: Ledger>(
     steps: &mut Steps<L>,
 ) -> Result<List<Leaf>, Memory>
     ensures leaves { IfOk result (AreLeaves view.now.tree patterns.now) }
-    ensures placed { IfOk result (ArePlacedLeaves view.now.bytes) }
+    ensures placed { IfOk result (λ leaves. All (λ leaf. IsLeafPlaced view.now.bytes leaf) leaves) }
 {
     let mut leaves = List::new(alloc);
     for pattern in patterns {
@@ -88,7 +88,7 @@ fn judge_part<L: Ledger>(
 ) -> Result<Found, Memory>
     requires { part < length rule.now.parts }
     ensures finds { (p : a_part) → slice_get rule.now.parts part ≡ Some p → IfOk result (PartJudges view.now.bytes view.now.tree p) }
-    ensures placed { IfOk result (λ found. ArePlacedFindings view.now.bytes (findings_of found)) }
+    ensures placed { IfOk result (λ found. All (λ finding. IsFindingPlaced view.now.bytes finding) (findings_of found)) }
 {
     let Ok(number) = u32::try_from(part) else {
         return Err(Memory);

@@ -4,10 +4,10 @@ ghost use Rattle.std.specs.Prelude.{◌≡◌, ◌++◌, All, IfOk, OnOk};
 ghost use Rattle.std.specs.List.{flat_map};
 ghost use Rattle.std.specs.Option.{option_map};
 ghost use Rattle.std.specs.Str.{IsUtf8};
-ghost use Rattle.node_tree.specs.Span.{LiesIn};
 ghost use Rattle.meta_bind.specs.declared.bound.Bound.{Bound as a_bound};
 ghost use Rattle.meta_bind.specs.Fills.{filled};
-ghost use Rattle.tree_match.specs.Placed.{IsPlaced};
+ghost use Rattle.meta_bind.specs.Places.{EndsLieIn};
+ghost use Rattle.judge_file.specs.Findings.{IsFindingPlaced};
 ghost use Rattle.scan_session.specs.Taking.{lent};
 ghost use Rattle.scan_session.specs.Reports.{reported as reported_as, outcome_notices};
 ghost use Rattle.scan_session.specs.Judging.{AreNumbered, AreReported, ArePlacedHits, AreNumberedHits, judged_notices};
@@ -31,7 +31,7 @@ fn filled_fix(
     bytes: &[u8],
 ) -> Result<Option<Text>, Memory>
     requires utf8 { ∥ IsUtf8 bytes.now ∥₁ }
-    requires placed { All (λ (b : a_bound). LiesIn bytes.now b.span) binding.now }
+    requires placed { All (λ (b : a_bound). EndsLieIn bytes.now b.span) binding.now }
     ensures { IfOk result (λ text. text ≡ option_map (filled binding.now bytes.now) fix.now) }
 {
     match fix {
@@ -50,7 +50,7 @@ fn reported(
     finding: &Finding,
 ) -> Result<Reported, Memory>
     requires places { places.now ≡ view.now.bytes }
-    requires placed { IsPlaced view.now.bytes (finding.now.span, finding.now.binding) }
+    requires placed { IsFindingPlaced view.now.bytes finding.now }
     ensures { IfOk result (λ r. r ≡ reported_as path.now view.now.bytes rule.now finding.now) }
 {
     let bytes = view.bytes.as_slice();

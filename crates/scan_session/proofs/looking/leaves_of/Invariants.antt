@@ -1,7 +1,8 @@
 use Rattle.std.proofs.Common.{drop}
-use Rattle.tree_match.specs.Placed.{ArePlacedLeaves}
+use Rattle.std.specs.Prelude.{All}
+use Rattle.tree_match.specs.Placed.{IsLeafPlaced}
 use Rattle.scan_session.proofs.Judged.{Leads}
 use Rattle.scan_session.proofs.looking.leaves_of.Given as goal
 
 abbrev pub invariant-loop-pattern : goal.invariant-loop-pattern
-invariant-loop-pattern g l = Leads l.view.tree l.patterns l.leaves (drop l.pattern-index l.patterns) × ArePlacedLeaves l.view.bytes l.leaves
+invariant-loop-pattern g l = Leads l.view.tree l.patterns l.leaves (drop l.pattern-index l.patterns) × All (IsLeafPlaced l.view.bytes) l.leaves

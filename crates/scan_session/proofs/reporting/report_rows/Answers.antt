@@ -3,7 +3,7 @@ use Rattle.std.specs.Prelude.{slice_get}
 use Rattle.std.proofs.lemmas.List.{drop_all}
 use Rattle.meta_bind.specs.declared.finding.Finding.{Finding}
 use Rattle.meta_bind.proofs.Lookups.{opened}
-use Rattle.tree_match.specs.Placed.{IsPlaced}
+use Rattle.judge_file.specs.Findings.{IsFindingPlaced}
 use Rattle.tree_match.proofs.Ascents.{among_at}
 use Rattle.fix_apply.specs.declared.report.Reported.{Reported}
 use Rattle.scan_session.specs.Taking.{lent}
@@ -27,7 +27,7 @@ reported-requires-clause-places c = c.in_ok-places.ensures ∙ c.as_slice-places
 
 pub reported-requires-clause-placed : goal.reported-requires-clause-placed
 reported-requires-clause-placed c =
-    let P : Finding → Type 0 = λ f. IsPlaced c.args.view.now.bytes (f.span, f.binding) in
+    let P : Finding → Type 0 = λ f. IsFindingPlaced c.args.view.now.bytes f in
     subst P (sym c.finding.ensures) (c.requires.placed c.row-item.result (among_at c.args.rows.now c.loop-row.row-index c.row-item.result c.loop-row-test.true c.row-item.is))
 
 pub loop-row-preserved : goal.loop-row-preserved

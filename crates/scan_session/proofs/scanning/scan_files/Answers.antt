@@ -6,7 +6,8 @@ use Rattle.scan_session.specs.Taking.{lent}
 use Rattle.scan_session.specs.Judging.{AreApart}
 use Rattle.scan_session.specs.Fresh.{File, file_cmp}
 use Rattle.scan_session.proofs.Ids.{are_apart}
-use Rattle.scan_session.proofs.Scans.{is_fresh, fresh_once}
+use Rattle.scan_session.proofs.Laws.{fresh_once}
+use Rattle.scan_session.proofs.Scans.{is_fresh}
 use Rattle.scan_session.proofs.scanning.scan_files.Goals as goal
 
 pub scan_all-results-requires-clause-apart : goal.scan_all-results-requires-clause-apart
