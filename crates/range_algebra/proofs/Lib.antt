@@ -12,6 +12,7 @@ pub mod LeafSets
 pub mod Children
 pub mod Formulas
 pub mod Once
+pub mod Placed
 pub mod Names
 pub mod Choosing
 pub mod Counts
