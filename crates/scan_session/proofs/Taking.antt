@@ -158,3 +158,10 @@ module _ (ids : List (List ℕ)) (s : Stated) where
   pub notices_new : (u : Bool) → is_taken ids s.rule.id ≡ false → is_unbuilt s.rule ≡ u → notices_at ids s ≡ map (option_notice s.file s.rule.id) s.rule.unread ++ (if u then unbuilt_notice s ∷ [] else [])
   notices_new u e f =
       ap (λ (b : Bool). if b then repeat_notice s ∷ [] else first_notices s) e ∙ ap (λ (b : Bool). map (option_notice s.file s.rule.id) s.rule.unread ++ (if b then unbuilt_notice s ∷ [] else [])) f
+
+-- the ids that are taken once that of the rule is put among them
+pub ids_grown : (ids : List (List ℕ)) (s : Stated) (id : Bor (List ℕ)) → id.now ≡ s.rule.id → (old new : Ids) → HasJust old ids → ((key : Bor (List ℕ)) → has new key ≡ cond (is_eq (slice_cmp nat_cmp id.now key.now)) true (has old key)) → not (has old id) ≡ true → HasJust new (ids_after ids s)
+ids_grown ids s id id-is old new just updates added =
+    let fresh : is_taken ids s.rule.id ≡ false = ap (is_taken ids) (sym id-is) ∙ is_fresh ids id old new just updates added in
+    let P : List (List ℕ) → Type 0 = HasJust new in
+    subst P (ap (λ (i : List ℕ). i ∷ ids) id-is ∙ sym (ids_new ids s fresh)) (with_id ids id old new just updates)
