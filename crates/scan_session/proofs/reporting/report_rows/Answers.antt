@@ -1,4 +1,4 @@
-use Rattle.std.proofs.Common.{◌≡◌, ◌≤◌, ◌+◌, ◌++◌, ◌∷◌, [], ℕ, List, length, refl, sym, ap, ◌∙◌, subst, drop, Some}
+use Rattle.std.proofs.Common.{◌≡◌, ◌+◌, ◌++◌, ◌∷◌, [], refl, sym, ap, ◌∙◌, subst, drop, Some}
 use Rattle.std.specs.Prelude.{slice_get}
 use Rattle.std.proofs.lemmas.List.{drop_all}
 use Rattle.meta_bind.specs.declared.finding.Finding.{Finding}
@@ -11,19 +11,16 @@ use Rattle.scan_session.specs.Reports.{reported}
 use Rattle.scan_session.proofs.Hits.{reports_start, reports_on, reports_end}
 use Rattle.scan_session.proofs.reporting.report_rows.Goals as goal
 
-pub of-places-requires : goal.of-places-requires
-of-places-requires c = let P : List ℕ → Type 0 = λ text. length text ≤ 1000000 in subst P (sym c.as_slice-places.ensures) c.args.view.now.small
-
 pub loop-row-init : goal.loop-row-init
 loop-row-init c = let hs = c.args.rows.now in reports_start c.args.path.now c.args.view.now.bytes (lent c.args.running.now) hs (drop 0 hs) c.new-results.result c.new-results.ensures refl
 
-pub rule_at-requires : goal.rule_at-requires
-rule_at-requires c =
+pub rule_at-rule-requires : goal.rule_at-rule-requires
+rule_at-rule-requires c =
     let r = c.requires.numbered c.row-item.result (among_at c.args.rows.now c.loop-row.row-index c.row-item.result c.loop-row-test.true c.row-item.is) in
     (r.0, ap (slice_get (lent c.args.running.now)) c.number.ensures ∙ r.1)
 
 pub reported-requires-clause-places : goal.reported-requires-clause-places
-reported-requires-clause-places c = c.in_ok-places.ensures ∙ c.as_slice-places.ensures
+reported-requires-clause-places c = c.in_ok-places.ensures ∙ c.as_slice.ensures
 
 pub reported-requires-clause-placed : goal.reported-requires-clause-placed
 reported-requires-clause-placed c =

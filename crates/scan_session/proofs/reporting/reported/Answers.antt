@@ -1,5 +1,4 @@
 use Rattle.std.proofs.Common.{ℕ, List, sym, subst}
-use Rattle.std.specs.Prelude.{∥◌∥₁}
 use Rattle.std.specs.Str.{IsUtf8}
 use Rattle.scan_session.proofs.reporting.reported.Goals as goal
 
