@@ -72,6 +72,19 @@ fn run_over<T: Tree>(
     Ok((status, out))
 }
 
+// Whether a run of these words over a tree of these files ends so and prints this.
+fn gives_over(
+    alloc: Global,
+    words: &[&str],
+    given: List<(Text, Bytes)>,
+    status: Status,
+    printed: &[u8],
+) -> Result<bool, Fail> {
+    let mut tree = MemoryTree::new(given, List::new(alloc));
+    let (found, out) = run_over(alloc, words, &mut tree, &[])?;
+    Ok(found == status && out.as_slice() == printed)
+}
+
 // Whether a run of these words over these files ends so and prints this.
 fn gives(
     alloc: Global,
@@ -80,9 +93,7 @@ fn gives(
     status: Status,
     printed: &[u8],
 ) -> Result<bool, Fail> {
-    let mut tree = MemoryTree::new(files(alloc, given)?, List::new(alloc));
-    let (found, out) = run_over(alloc, words, &mut tree, &[])?;
-    Ok(found == status && out.as_slice() == printed)
+    gives_over(alloc, words, files(alloc, given)?, status, printed)
 }
 
 // A rule of Python with this formula.
@@ -96,8 +107,10 @@ fn rule(alloc: Global, formula: &str) -> Result<String, Fail> {
 // Whether a rule of this formula over this file of Python gives this report.
 fn finds(alloc: Global, formula: &str, bytes: &[u8], printed: &[u8]) -> Result<bool, Fail> {
     let rule = rule(alloc, formula)?;
-    let given = [("r.yaml", rule.as_bytes()), ("a.py", bytes)];
-    gives(alloc, &ALL, &given, Status::Done, printed)
+    let mut given = List::new(alloc);
+    given.push(file(alloc, "r.yaml", rule.as_bytes())?)?;
+    given.push(file(alloc, "a.py", bytes)?)?;
+    gives_over(alloc, &ALL, given, Status::Done, printed)
 }
 
 #[test]
