@@ -10,3 +10,4 @@ pub mod Sets
 pub mod Reading
 pub mod Comparisons
 pub mod Values
+pub mod BoundTexts

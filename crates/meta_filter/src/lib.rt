@@ -2,6 +2,7 @@
 #![tactic(auto)]
 
 mod arithmetic;
+mod bound_text;
 mod fault;
 mod holds;
 mod layer;
@@ -13,6 +14,7 @@ mod reader;
 mod table;
 mod token;
 
+pub use bound_text::holds_regex;
 pub use fault::CompareFault;
 pub use holds::holds_comparison;
 pub use read::read_comparison;

@@ -66,7 +66,7 @@ module _ (r held : Regex) (text hay : List ℕ) (same : r ≡ held) (is_text : r
 abbrev Begins : ℕ → Option Match → Type 0
 Begins at o = (m : Match) → o ≡ Some m → (at ≤ m.start) × (m.start ≤ m.trace.end)
 
-abbrev Ordered : ℕ → List (ℕ × ℕ) → Type 0
+abbrev pub Ordered : ℕ → List (ℕ × ℕ) → Type 0
 Ordered at [] = Unit {0}
 Ordered at (p ∷ ps) = (at ≤ p.0) × (p.0 ≤ p.1) × Ordered p.1 ps
 
@@ -87,6 +87,9 @@ module _ (re : Re) (hay : List ℕ) where
       let p = b m refl in
       (p.0, p.1, in_order n m.trace.end _ (begins_after m.trace.end))
 
+  pub all_ordered : Ordered 0 (map span (find_all_str re hay))
+  all_ordered = in_order (length hay + 1) 0 _ (begins 0)
+
 earlier : (from at : ℕ) → from ≤ at → (ps : List (ℕ × ℕ)) → Ordered at ps → Ordered from ps
 earlier from at le [] o = tt
 earlier from at le (p ∷ ps) o = (omega (arith, le, o.0), o.1, o.2)
@@ -99,4 +102,12 @@ follow at ((from, to) ∷ ps) o =
     (λ e. (o.0, grind (arith, nat_tests, e, o.1), follow to ps o.2))
 
 pub spans_follow : (re : Re) (hay : List ℕ) → FollowFrom 0 (spans_of re hay)
-spans_follow re hay = follow 0 _ (in_order re hay (length hay + 1) 0 _ (begins re hay 0))
+spans_follow re hay = follow 0 _ (all_ordered re hay)
+
+-- the same of the regular expression of a text
+pub all_follow : (text hay : List ℕ) → FollowFrom 0 (all_matches text hay)
+all_follow text hay = at (pattern_of text)
+  where
+    at : (o : Option Re) → FollowFrom 0 (elim o [ None ↦ [] | Some re ↦ spans_of re hay ])
+    at None = tt
+    at (Some re) = spans_follow re hay

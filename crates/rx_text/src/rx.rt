@@ -1,6 +1,7 @@
 //! Regular expressions.
 
 ghost use Rattle.std.specs.Prelude.{◌≡◌, ◌<◌, ◌^◌, All, length, IfOk};
+ghost use Rattle.std.specs.Str.{IsUtf8};
 ghost use Rattle.node_tree.specs.Span.{LiesIn};
 ghost use Rattle.rx_text.specs.Searches.{all_matches, matches_at_start, FollowFrom};
 
@@ -65,6 +66,15 @@ impl Rx {
         ensures same { self.new ≡ self.old }
     {
         search::starts(self.alloc, self.compiled.as_ref(), text)
+    }
+
+    /// Tells proofs that the matches in a text cut no character of it. It searches nothing.
+    pub fn keeps_characters(&self, text: &[u8])
+        requires { ∥ IsUtf8 text.now ∥₁ }
+        ensures { All (LiesIn text.now) (all_matches self.now text.now) }
+    {
+        let _compiled = self.compiled.as_ref();
+        let _len = text.len();
     }
 
     /// A further regular expression of the same text. It is not compiled again.

@@ -9,3 +9,4 @@ pub mod Judged
 pub mod Hits
 pub mod Scans
 pub mod Laws
+pub mod Others

@@ -10,3 +10,4 @@ pub mod Hits
 pub mod HitOrder
 pub mod Judging
 pub mod Fresh
+pub mod Others

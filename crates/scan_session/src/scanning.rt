@@ -11,6 +11,7 @@ ghost use Rattle.scan_session.specs.Judging.{AreApart};
 ghost use Rattle.scan_session.specs.Reports.{reported_cmp};
 ghost use Rattle.scan_session.specs.Running.{running as rules_of};
 ghost use Rattle.scan_session.specs.Fresh.{IsFresh, IsResult, IsResultIn, IsFoundIn, IsNotedIn, IsNoticeIn, IsFileNotice, file_cmp};
+ghost use Rattle.scan_session.specs.Others.{KeepsOtherFiles, KeepsOtherRules};
 
 use crate::fault::ScanFault;
 use crate::looking::judge_all;
@@ -132,7 +133,8 @@ fn scan_all<L: Ledger>(
 ///
 /// A file is opened in the language that its path's ending names, or else in `Regex`. A rule whose id an earlier one has does
 /// not run; nor, so far, does one with regular expressions or one that follows data. Files are to be in ascending order of
-/// path. TooMany comes exactly where there are more than `most` findings.
+/// path. TooMany comes exactly where there are more than `most` findings. A file, whatever it holds, and an entry that is no
+/// rule change no finding of another.
 pub fn scan_files<L: Ledger>(
     alloc: Global,
     files: &List<(Text, Bytes)>,
@@ -145,6 +147,8 @@ pub fn scan_files<L: Ledger>(
     ensures few { IfOk result (λ report. length report.results ≤ most) }
     ensures too_many { (n : ℕ) → result ≡ Err (TooMany n) → (n ≡ most) × HasMore reported_cmp (IsResult (rules_of rules.now) files.now) most }
     ensures only { IfOk result (λ report. (r : a_report) → IsFresh files.now rules.now r → r ≡ report) }
+    ensures other_files { IfOk result (KeepsOtherFiles files.now rules.now) }
+    ensures other_rules { IfOk result (KeepsOtherRules files.now rules.now) }
 {
     let mut notices = Vec::new(alloc);
     let running = take_files(alloc, rules, &mut notices)?;

@@ -7,4 +7,3 @@ pub mod Causes
 pub mod Scans
 pub mod Matches
 pub mod Requests
-pub mod Others

@@ -16,6 +16,7 @@ use Rattle.scan_session.specs.Judging.{AreApart}
 use Rattle.scan_session.specs.Fresh.{File, file_cmp, IsResult, IsFileNotice}
 use Rattle.scan_session.proofs.Ids.{are_apart}
 use Rattle.scan_session.proofs.Laws.{fresh_once}
+use Rattle.scan_session.proofs.Others.{other_files, other_rules}
 use Rattle.scan_session.proofs.Scans.{is_fresh}
 use Rattle.scan_session.proofs.scanning.scan_files.Goals as goal
 
@@ -45,6 +46,12 @@ returns-clause-few g c = c.in_ok-results.ensures.few
 
 pub returns-clause-only : goal.returns-clause-only
 returns-clause-only g c r h = fresh_once c.args.files.now c.args.rules.now r _ h (returns-clause-fresh g c)
+
+pub returns-clause-other_files : goal.returns-clause-other_files
+returns-clause-other_files g c = other_files c.args.files.now c.args.rules.now _ (returns-clause-fresh g c)
+
+pub returns-clause-other_rules : goal.returns-clause-other_rules
+returns-clause-other_rules g c = other_rules c.args.files.now c.args.rules.now _ (returns-clause-fresh g c)
 
 pub returns-in_err-results-clause-too_many : goal.returns-in_err-results-clause-too_many
 returns-in_err-results-clause-too_many g c n e =

@@ -1,7 +1,7 @@
 -- A file, or an entry that is no rule, changes no finding of another.
 use Rattle.std.proofs.Common.{◌≡◌, ◌⊎◌, ◌↔◌, inl, inr, ℕ, suc, Bool, true, false, List, [], ◌∷◌, ◌++◌, map, refl, sym, ap, ◌∙◌, subst}
 use Rattle.std.specs.Prelude.{if◌then◌else◌}
-use Rattle.std.proofs.lemmas.List.{append-nil, map-append}
+use Rattle.std.proofs.lemmas.List.{map-append}
 use Rattle.rule_form.specs.declared.rule.Rule.{Rule}
 use Rattle.rule_read.specs.declared.fault.RuleFault.{RuleFault}
 use Rattle.rule_read.specs.declared.fault.RuleOutcome.{RuleOutcome}
@@ -9,13 +9,14 @@ use Rattle.rule_read.specs.declared.fault.RuleOutcome.TheVariants.{Good, Bad}
 use Rattle.tree_match.specs.Sets.{Among}
 use Rattle.fix_apply.specs.declared.report.Report.{Report}
 use Rattle.fix_apply.specs.declared.report.Reported.{Reported}
-use Rattle.scan_session.specs.declared.rule_file.RuleContent.TheVariants.{Rules}
 use Rattle.scan_session.specs.declared.rule_file.RuleFile.{RuleFile}
+use Rattle.scan_session.specs.RuleFiles.{outcomes_of}
 use Rattle.scan_session.specs.Sets.{IsExactly}
 use Rattle.scan_session.specs.Reports.{reported_cmp}
 use Rattle.scan_session.specs.Running.{Stated, stated_at, stated_from, stated, is_taken, is_unbuilt, firsts, built, running}
 use Rattle.scan_session.specs.Fresh.{File, IsResultIn, IsResult, IsFresh}
 use Rattle.scan_session.specs.HitOrder.{reported_total}
+use Rattle.scan_session.specs.Others.{file_of, KeepsOtherFiles, KeepsOtherRules}
 use Rattle.scan_session.proofs.Orders.{exactly_once}
 
 -- ---- one file more
@@ -34,21 +35,27 @@ still_there (b ∷ bs) after file other (inl e) = inl e
 still_there (b ∷ bs) after file other (inr h) = inr (still_there bs after file other h)
 
 -- whatever a file holds, the findings of other paths are those of a scan without it
-pub other_files : (rule_files : List RuleFile) (before after : List File) (file : File) (more less : Report) → IsFresh (before ++ file ∷ after) rule_files more → IsFresh (before ++ after) rule_files less
-    → (r : Reported) → (r.path ≡ file.0 → ⊥) → Among more.results r ↔ Among less.results r
-other_files rule_files before after file more less a b r apart = (
-  λ h. let f = (a.results.exact r).0 h in
+pub other_files : (files : List File) (rule_files : List RuleFile) (more : Report) → IsFresh files rule_files more → KeepsOtherFiles files rule_files more
+other_files files rule_files more a before after file less e b r apart = (
+  λ h. let f = (whole.exact r).0 h in
       elim (one_of before after file f.0 f.1) [
         | inl e ↦ absurd (apart (path_is (running rule_files) f.0 r f.2 ∙ ap (λ (x : File). x.0) (sym e)))
         | inr k ↦ (b.results.exact r).1 (f.0, k, f.2)
       ],
-  λ h. let f = (b.results.exact r).0 h in (a.results.exact r).1 (f.0, still_there before after file f.0 f.1, f.2),
+  λ h. let f = (b.results.exact r).0 h in (whole.exact r).1 (f.0, still_there before after file f.0 f.1, f.2),
 )
+  where
+    whole : IsExactly reported_cmp (IsResult (running rule_files) (before ++ file ∷ after)) more.results
+    whole = let P : List File → Type 0 = λ fs. IsExactly reported_cmp (IsResult (running rule_files) fs) more.results in subst P e a.results
 
 -- ---- one entry more that is no rule
 
 abbrev rule_of : Stated → Rule
 rule_of s = s.rule
+
+-- the good rules of one file
+abbrev stated_in : RuleFile → List Stated
+stated_in f = stated_from f.name 0 (outcomes_of f.content)
 
 -- the rules of good entries
 abbrev good_rules : List RuleOutcome → List Rule
@@ -89,19 +96,23 @@ past_bad [] ps fault = refl
 past_bad (Good rule ∷ os) ps fault = ap (λ (l : List Rule). rule ∷ l) (past_bad os ps fault)
 past_bad (Bad other ∷ os) ps fault = past_bad os ps fault
 
--- a rule file with these entries
-abbrev pub file_of : List ℕ → List RuleOutcome → RuleFile
-file_of name outcomes = record { name = name; content = Rules outcomes }
+-- the good rules of a list of rule files are those of another, where one file is replaced by one with the same
+same_rules : (before after : List RuleFile) (f g : RuleFile) → map rule_of (stated_in f) ≡ map rule_of (stated_in g) → map rule_of (stated (before ++ f ∷ after)) ≡ map rule_of (stated (before ++ g ∷ after))
+same_rules [] after f g e =
+    map-append rule_of (stated_in f) (stated after) ∙ ap (λ (l : List Rule). l ++ map rule_of (stated after)) e ∙ sym (map-append rule_of (stated_in g) (stated after))
+same_rules (b ∷ bs) after f g e =
+    map-append rule_of (stated_in b) (stated (bs ++ f ∷ after)) ∙ ap (λ (l : List Rule). map rule_of (stated_in b) ++ l) (same_rules bs after f g e) ∙ sym (map-append rule_of (stated_in b) (stated (bs ++ g ∷ after)))
 
-one_runs : (name : List ℕ) (os : List RuleOutcome) → running (file_of name os ∷ []) ≡ run_from [] (good_rules os)
-one_runs name os =
-    runs [] (stated (file_of name os ∷ [])) ∙ ap (λ (l : List Stated). run_from [] (map rule_of l)) (append-nil (stated_from name 0 os)) ∙ ap (λ (l : List Rule). run_from [] l) (rules_from name 0 os)
+same_running : (before after : List RuleFile) (f g : RuleFile) → map rule_of (stated_in f) ≡ map rule_of (stated_in g) → running (before ++ f ∷ after) ≡ running (before ++ g ∷ after)
+same_running before after f g e =
+    runs [] (stated (before ++ f ∷ after)) ∙ ap (λ (l : List Rule). run_from [] l) (same_rules before after f g e) ∙ sym (runs [] (stated (before ++ g ∷ after)))
 
--- the findings are those of the rule file without the entry
-pub other_rules : (files : List File) (name : List ℕ) (os ps : List RuleOutcome) (fault : RuleFault) (more less : Report) → IsFresh files (file_of name (os ++ Bad fault ∷ ps) ∷ []) more
-    → IsFresh files (file_of name (os ++ ps) ∷ []) less → more.results ≡ less.results
-other_rules files name os ps fault more less a b =
-    let same : running (file_of name (os ++ Bad fault ∷ ps) ∷ []) ≡ running (file_of name (os ++ ps) ∷ []) =
-    one_runs name (os ++ Bad fault ∷ ps) ∙ ap (λ (l : List Rule). run_from [] l) (past_bad os ps fault) ∙ sym (one_runs name (os ++ ps)) in
+same_entries : (name : List ℕ) (os ps : List RuleOutcome) (fault : RuleFault) → map rule_of (stated_from name 0 (os ++ Bad fault ∷ ps)) ≡ map rule_of (stated_from name 0 (os ++ ps))
+same_entries name os ps fault = rules_from name 0 (os ++ Bad fault ∷ ps) ∙ past_bad os ps fault ∙ sym (rules_from name 0 (os ++ ps))
+
+-- the findings are those of the rule files without the entry
+pub other_rules : (files : List File) (rule_files : List RuleFile) (more : Report) → IsFresh files rule_files more → KeepsOtherRules files rule_files more
+other_rules files rule_files more a before after name os ps fault less e b =
+    let same = ap (λ (rs : List RuleFile). running rs) e ∙ same_running before after (file_of name (os ++ Bad fault ∷ ps)) (file_of name (os ++ ps)) (same_entries name os ps fault) in
     let P : List Rule → Type 0 = λ l. IsExactly reported_cmp (IsResult l files) more.results in
-    exactly_once reported_cmp reported_total (IsResult (running (file_of name (os ++ ps) ∷ [])) files) more.results less.results (subst P same a.results) b.results
+    exactly_once reported_cmp reported_total (IsResult (running (before ++ file_of name (os ++ ps) ∷ after)) files) more.results less.results (subst P same a.results) b.results

@@ -1,0 +1,27 @@
+-- What files, and entries that are no rules, leave alone.
+use Rattle.std.specs.Prelude.{◌≡◌, ◌↔◌, ℕ, List, ◌∷◌, ◌++◌}
+use Rattle.tree_match.specs.Sets.{Among}
+use Rattle.rule_read.specs.declared.fault.RuleFault.{RuleFault}
+use Rattle.rule_read.specs.declared.fault.RuleOutcome.{RuleOutcome}
+use Rattle.rule_read.specs.declared.fault.RuleOutcome.TheVariants.{Bad}
+use Rattle.fix_apply.specs.declared.report.Report.{Report}
+use Rattle.fix_apply.specs.declared.report.Reported.{Reported}
+use Rattle.scan_session.specs.declared.rule_file.RuleContent.TheVariants.{Rules}
+use Rattle.scan_session.specs.declared.rule_file.RuleFile.{RuleFile}
+use Rattle.scan_session.specs.Fresh.{File, IsFresh}
+
+-- Whatever a file holds, the findings in the others are those of a scan without it.
+abbrev pub KeepsOtherFiles : List File → List RuleFile → Report → Type 0
+KeepsOtherFiles files rule_files report =
+    (before after : List File) (file : File) (less : Report) → files ≡ before ++ file ∷ after → IsFresh (before ++ after) rule_files less → (r : Reported) → (r.path ≡ file.0 → ⊥)
+    → Among report.results r ↔ Among less.results r
+
+-- a rule file with these entries
+abbrev pub file_of : List ℕ → List RuleOutcome → RuleFile
+file_of name outcomes = record { name = name; content = Rules outcomes }
+
+-- Where an entry is no rule, the findings are those of a scan without it.
+abbrev pub KeepsOtherRules : List File → List RuleFile → Report → Type 0
+KeepsOtherRules files rule_files report =
+    (before after : List RuleFile) (name : List ℕ) (os ps : List RuleOutcome) (fault : RuleFault) (less : Report) → rule_files ≡ before ++ file_of name (os ++ Bad fault ∷ ps) ∷ after
+    → IsFresh files (before ++ file_of name (os ++ ps) ∷ after) less → report.results ≡ less.results
