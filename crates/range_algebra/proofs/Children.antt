@@ -123,43 +123,43 @@ module _ {X : Type 0} where
 
 -- ---- the same said of trees
 
-module _ (leaves : List Leaf) (bytes : List ℕ) where
+module _ (leaves : List Leaf) (texts : List (List ℕ)) (bytes : List ℕ) where
   abbrev pub InTree : Formula → Search
-  InTree f = Over leaves bytes (tree_of f)
+  InTree f = Over leaves texts bytes (tree_of f)
 
   abbrev pub InBranch : Child → Search
-  InBranch c = OverBranch leaves bytes (branch_of c)
+  InBranch c = OverBranch leaves texts bytes (branch_of c)
 
   abbrev pub IsTreeSet : Formula → Vec Member Global → Type 0
-  IsTreeSet f v = IsSetOf leaves bytes (tree_of f) v.items
+  IsTreeSet f v = IsSetOf leaves texts bytes (tree_of f) v.items
 
   abbrev pub IsBranchPart : Child → Part → Type 0
-  IsBranchPart c p = IsPart leaves bytes (branch_of c) p
+  IsBranchPart c p = IsPart leaves texts bytes (branch_of c) p
 
   abbrev pub IsBranchTaken : Child → Vec Member Global → Type 0
-  IsBranchTaken c v = IsTakenAway leaves bytes (branch_of c) v.items
+  IsBranchTaken c v = IsTakenAway leaves texts bytes (branch_of c) v.items
 
-  pub over_trees : (i : ℕ) (fs : List Formula) (o : Option (List ℕ)) → OverEach InTree i fs o → OverTrees leaves bytes i (trees_of (map tree_of fs)) o
+  pub over_trees : (i : ℕ) (fs : List Formula) (o : Option (List ℕ)) → OverEach InTree i fs o → OverTrees leaves texts bytes i (trees_of (map tree_of fs)) o
   over_trees i [] o h = h
   over_trees i (f ∷ fs) o h =
-      next_as (InChild i (InTree f)) (OverEach InTree (suc i) fs) (OverTrees leaves bytes (suc i) (trees_of (map tree_of fs))) (over_trees (suc i) fs) o h
+      next_as (InChild i (InTree f)) (OverEach InTree (suc i) fs) (OverTrees leaves texts bytes (suc i) (trees_of (map tree_of fs))) (over_trees (suc i) fs) o h
 
-  pub over_branches : (i : ℕ) (cs : List Child) (o : Option (List ℕ)) → OverEach InBranch i cs o → OverBranches leaves bytes i (branches_of (map branch_of cs)) o
+  pub over_branches : (i : ℕ) (cs : List Child) (o : Option (List ℕ)) → OverEach InBranch i cs o → OverBranches leaves texts bytes i (branches_of (map branch_of cs)) o
   over_branches i [] o h = h
   over_branches i (c ∷ cs) o h =
-      next_as (InChild i (InBranch c)) (OverEach InBranch (suc i) cs) (OverBranches leaves bytes (suc i) (branches_of (map branch_of cs))) (over_branches (suc i) cs) o h
+      next_as (InChild i (InBranch c)) (OverEach InBranch (suc i) cs) (OverBranches leaves texts bytes (suc i) (branches_of (map branch_of cs))) (over_branches (suc i) cs) o h
 
-  pub tree_sets : (fs : List Formula) (sets : List (Vec Member Global)) → OneForEach IsTreeSet fs sets → AreSetsOf leaves bytes (trees_of (map tree_of fs)) sets
+  pub tree_sets : (fs : List Formula) (sets : List (Vec Member Global)) → OneForEach IsTreeSet fs sets → AreSetsOf leaves texts bytes (trees_of (map tree_of fs)) sets
   tree_sets [] sets h = h
   tree_sets (f ∷ fs) [] h = h
   tree_sets (f ∷ fs) (v ∷ sets) h = (h.0, tree_sets fs sets h.1)
 
-  pub branch_parts : (cs : List Child) (parts : List Part) → OneForEach IsBranchPart cs parts → AreParts leaves bytes (branches_of (map branch_of cs)) parts
+  pub branch_parts : (cs : List Child) (parts : List Part) → OneForEach IsBranchPart cs parts → AreParts leaves texts bytes (branches_of (map branch_of cs)) parts
   branch_parts [] parts h = h
   branch_parts (c ∷ cs) [] h = h
   branch_parts (c ∷ cs) (p ∷ parts) h = (h.0, branch_parts cs parts h.1)
 
-  pub branch_taken : (cs : List Child) (sets : List (Vec Member Global)) → OneForEach IsBranchTaken cs sets → AreTakenAway leaves bytes (branches_of (map branch_of cs)) sets
+  pub branch_taken : (cs : List Child) (sets : List (Vec Member Global)) → OneForEach IsBranchTaken cs sets → AreTakenAway leaves texts bytes (branches_of (map branch_of cs)) sets
   branch_taken [] sets h = h
   branch_taken (c ∷ cs) [] h = h
   branch_taken (c ∷ cs) (v ∷ sets) h = (h.0, branch_taken cs sets h.1)

@@ -22,7 +22,7 @@ use Rattle.range_algebra.specs.Trees.{tree_of, trees_of, branch_of, branches_of,
 use Rattle.range_algebra.specs.Meets.{Meets, MeetsSome}
 use Rattle.range_algebra.specs.Parts.{has_operands, members_in, IsInSome, IsSetOf, AreSetsOf, IsPart, IsTakenAway, AreTakenAway, IsBare, IsBarePart, HasNoFormula}
 use Rattle.range_algebra.specs.Crowds.{IsFaultFrom, OneSet, Over, OverTrees, OverBranches, OverBranch, AtAll, PlainPrefixes}
-use Rattle.range_algebra.proofs.Layers.{tree_leaf, tree_regex, tree_any, tree_all, branch_notregex, branch_metaregex, branch_metacompare, branch_focus}
+use Rattle.range_algebra.proofs.Layers.{tree_leaf, tree_regex, tree_any, tree_all, branch_metaregex, branch_metacompare, branch_focus}
 use Rattle.range_algebra.proofs.Searches.{any_cons}
 use Rattle.range_algebra.proofs.Limits.{at_most, fault_more, fault_first, fault_next}
 
@@ -71,26 +71,26 @@ has_one f bs y is e g h = at (has_operands bs) (sym e ∙ g) (subst IsBare is h)
     at true k m = cc
     at false k m = cc
 
-module _ (leaves : List Leaf) (bytes : List ℕ) where
-  no_prefixes : (all : Trees.Branches) (i : ℕ) (bs : Trees.Branches) → has is_inside bs ≡ false → PlainPrefixes leaves bytes Inside all i bs None
+module _ (leaves : List Leaf) (texts : List (List ℕ)) (bytes : List ℕ) where
+  no_prefixes : (all : Trees.Branches) (i : ℕ) (bs : Trees.Branches) → has is_inside bs ≡ false → PlainPrefixes leaves texts bytes Inside all i bs None
   no_prefixes all i Trees.no_branches e = refl
   no_prefixes all i (Trees.branch_then b bs) e =
       let two = neither (is_inside b) (has is_inside bs) e in
       other_way _ _ _ two.0 (no_prefixes all (suc i) bs two.1)
 
   -- a formula without operands has no members
-  bare_empty : (bs : Trees.Branches) (m : Member) → has_operands bs ≡ false → Meets leaves bytes (Trees.all_of bs) None m → ⊥
+  bare_empty : (bs : Trees.Branches) (m : Member) → has_operands bs ≡ false → Meets leaves texts bytes (Trees.all_of bs) None m → ⊥
   bare_empty bs m e h =
       let two = neither (has is_positive bs) (has is_inside bs) e in
       no_way _ _ _ _ two.0 two.1 h.1
 
-  pub bare_over : (bs : Trees.Branches) → has_operands bs ≡ false → OverBranches leaves bytes 0 bs None → Over leaves bytes (Trees.all_of bs) None
+  pub bare_over : (bs : Trees.Branches) → has_operands bs ≡ false → OverBranches leaves texts bytes 0 bs None → Over leaves texts bytes (Trees.all_of bs) None
   bare_over bs e none =
       let two = neither (has is_positive bs) (has is_inside bs) e in
       (none, (other_way _ _ _ two.0 (no_prefixes bs 0 bs two.1), record { items = []; whole = λ m h. bare_empty bs m e h; few = omega arith }))
 
   -- the sets of the formulas are those of which some must have a member
-  pub in_some : (ts : Trees.Trees) (sets : List (Vec Member Global)) → AreSetsOf leaves bytes ts sets → (m : Member) → IsInSome sets m ↔ MeetsSome leaves bytes ts m
+  pub in_some : (ts : Trees.Trees) (sets : List (Vec Member Global)) → AreSetsOf leaves texts bytes ts sets → (m : Member) → IsInSome sets m ↔ MeetsSome leaves texts bytes ts m
   in_some Trees.no_trees sets h m = let P : List (Vec Member Global) → Type 0 = λ s. IsInSome s m in (λ k. none (subst P h k), λ k. elim k [ ])
     where
       none : IsInSome [] m → ⊥
@@ -106,127 +106,121 @@ module _ (leaves : List Leaf) (bytes : List ℕ) where
   -- ---- what is known by the tree
 
   -- the set of a formula that is of this form
-  pub set_by : (f : Formula) (t : Trees.Tree) → tree_of f ≡ t → {E : Type 0} (r : Result (Vec Member Global) E) → IfOk r (λ v. IsSetOf leaves bytes t v.items) → IfOk r (λ v. IsSetOf leaves bytes (tree_of f) v.items)
-  set_by f t is {E} r h = let P : Trees.Tree → Type 0 = λ u. IfOk r (λ v. IsSetOf leaves bytes u v.items) in subst P (sym is) h
+  pub set_by : (f : Formula) (t : Trees.Tree) → tree_of f ≡ t → {E : Type 0} (r : Result (Vec Member Global) E) → IfOk r (λ v. IsSetOf leaves texts bytes t v.items) → IfOk r (λ v. IsSetOf leaves texts bytes (tree_of f) v.items)
+  set_by f t is {E} r h = let P : Trees.Tree → Type 0 = λ u. IfOk r (λ v. IsSetOf leaves texts bytes u v.items) in subst P (sym is) h
 
-  pub over_by : (f : Formula) (t : Trees.Tree) → tree_of f ≡ t → {V E : Type 0} (r : Result V E) → IfOk r (λ _. Over leaves bytes t None) → IfOk r (λ _. Over leaves bytes (tree_of f) None)
-  over_by f t is {V} {E} r h = let P : Trees.Tree → Type 0 = λ u. IfOk r (λ _. Over leaves bytes u None) in subst P (sym is) h
+  pub over_by : (f : Formula) (t : Trees.Tree) → tree_of f ≡ t → {V E : Type 0} (r : Result V E) → IfOk r (λ _. Over leaves texts bytes t None) → IfOk r (λ _. Over leaves texts bytes (tree_of f) None)
+  over_by f t is {V} {E} r h = let P : Trees.Tree → Type 0 = λ u. IfOk r (λ _. Over leaves texts bytes u None) in subst P (sym is) h
 
-  pub fault_by : (f : Formula) (t : Trees.Tree) → tree_of f ≡ t → {V : Type 0} (r : Result V EvalFault) → IfErr r (IsFaultFrom (Over leaves bytes t)) → IfErr r (IsFaultFrom (Over leaves bytes (tree_of f)))
-  fault_by f t is {V} r h = let P : Trees.Tree → Type 0 = λ u. IfErr r (IsFaultFrom (Over leaves bytes u)) in subst P (sym is) h
+  pub fault_by : (f : Formula) (t : Trees.Tree) → tree_of f ≡ t → {V : Type 0} (r : Result V EvalFault) → IfErr r (IsFaultFrom (Over leaves texts bytes t)) → IfErr r (IsFaultFrom (Over leaves texts bytes (tree_of f)))
+  fault_by f t is {V} r h = let P : Trees.Tree → Type 0 = λ u. IfErr r (IsFaultFrom (Over leaves texts bytes u)) in subst P (sym is) h
 
-  pub regex_set : (f : Formula) (k : ℕ) → tree_of f ≡ Trees.regex k → (xs : List Member) → xs ≡ [] → IsSetOf leaves bytes (tree_of f) xs
-  regex_set f k is xs e =
-      let P : Trees.Tree → Type 0 = λ u. IsSetOf leaves bytes u xs in
-      let Q : List Member → Type 0 = λ ys. IsSetOf leaves bytes (Trees.regex k) ys in
-      subst P (sym is) (subst Q (sym e) (record { exact = λ m. (λ a. a, λ a. a); ordered = tt }))
+  pub over_at : (f : Formula) (t : Trees.Tree) → tree_of f ≡ t → Over leaves texts bytes t None → Over leaves texts bytes (tree_of f) None
+  over_at f t is h = let P : Trees.Tree → Type 0 = λ u. Over leaves texts bytes u None in subst P (sym is) h
 
-  pub over_at : (f : Formula) (t : Trees.Tree) → tree_of f ≡ t → Over leaves bytes t None → Over leaves bytes (tree_of f) None
-  over_at f t is h = let P : Trees.Tree → Type 0 = λ u. Over leaves bytes u None in subst P (sym is) h
-
-  pub some_child_fault : (f : Formula) (ts : Trees.Trees) → tree_of f ≡ Trees.some_of ts → (e : EvalFault) → IsFaultFrom (OverTrees leaves bytes 0 ts) e → IsFaultFrom (Over leaves bytes (tree_of f)) e
+  pub some_child_fault : (f : Formula) (ts : Trees.Trees) → tree_of f ≡ Trees.some_of ts → (e : EvalFault) → IsFaultFrom (OverTrees leaves texts bytes 0 ts) e → IsFaultFrom (Over leaves texts bytes (tree_of f)) e
   some_child_fault f ts is e h =
-      let P : Trees.Tree → Type 0 = λ u. IsFaultFrom (Over leaves bytes u) e in
-      subst P (sym is) (fault_first (OverTrees leaves bytes 0 ts) (OneSet [] (MeetsSome leaves bytes ts)) e h)
+      let P : Trees.Tree → Type 0 = λ u. IsFaultFrom (Over leaves texts bytes u) e in
+      subst P (sym is) (fault_first (OverTrees leaves texts bytes 0 ts) (OneSet [] (MeetsSome leaves texts bytes ts)) e h)
 
-  pub all_child_fault : (f : Formula) (bs : Trees.Branches) → tree_of f ≡ Trees.all_of bs → (e : EvalFault) → IsFaultFrom (OverBranches leaves bytes 0 bs) e → IsFaultFrom (Over leaves bytes (tree_of f)) e
+  pub all_child_fault : (f : Formula) (bs : Trees.Branches) → tree_of f ≡ Trees.all_of bs → (e : EvalFault) → IsFaultFrom (OverBranches leaves texts bytes 0 bs) e → IsFaultFrom (Over leaves texts bytes (tree_of f)) e
   all_child_fault f bs is e h =
-      let P : Trees.Tree → Type 0 = λ u. IsFaultFrom (Over leaves bytes u) e in
-      subst P (sym is) (fault_first (OverBranches leaves bytes 0 bs) (AtAll leaves bytes bs) e h)
+      let P : Trees.Tree → Type 0 = λ u. IsFaultFrom (Over leaves texts bytes u) e in
+      subst P (sym is) (fault_first (OverBranches leaves texts bytes 0 bs) (AtAll leaves texts bytes bs) e h)
 
   -- the same of a child
-  pub branch_part : (c : Child) (b : Trees.Branch) → branch_of c ≡ b → (p : Part) → IsPart leaves bytes b p → IsPart leaves bytes (branch_of c) p
-  branch_part c b is p h = let P : Trees.Branch → Type 0 = λ u. IsPart leaves bytes u p in subst P (sym is) h
+  pub branch_part : (c : Child) (b : Trees.Branch) → branch_of c ≡ b → (p : Part) → IsPart leaves texts bytes b p → IsPart leaves texts bytes (branch_of c) p
+  branch_part c b is p h = let P : Trees.Branch → Type 0 = λ u. IsPart leaves texts bytes u p in subst P (sym is) h
 
-  pub branch_over : (c : Child) (b : Trees.Branch) → branch_of c ≡ b → OverBranch leaves bytes b None → OverBranch leaves bytes (branch_of c) None
-  branch_over c b is h = let P : Trees.Branch → Type 0 = λ u. OverBranch leaves bytes u None in subst P (sym is) h
+  pub branch_over : (c : Child) (b : Trees.Branch) → branch_of c ≡ b → OverBranch leaves texts bytes b None → OverBranch leaves texts bytes (branch_of c) None
+  branch_over c b is h = let P : Trees.Branch → Type 0 = λ u. OverBranch leaves texts bytes u None in subst P (sym is) h
 
-  pub branch_fault : (c : Child) (b : Trees.Branch) → branch_of c ≡ b → (e : EvalFault) → IsFaultFrom (OverBranch leaves bytes b) e → IsFaultFrom (OverBranch leaves bytes (branch_of c)) e
-  branch_fault c b is e h = let P : Trees.Branch → Type 0 = λ u. IsFaultFrom (OverBranch leaves bytes u) e in subst P (sym is) h
+  pub branch_fault : (c : Child) (b : Trees.Branch) → branch_of c ≡ b → (e : EvalFault) → IsFaultFrom (OverBranch leaves texts bytes b) e → IsFaultFrom (OverBranch leaves texts bytes (branch_of c)) e
+  branch_fault c b is e h = let P : Trees.Branch → Type 0 = λ u. IsFaultFrom (OverBranch leaves texts bytes u) e in subst P (sym is) h
 
   module _ (c : Child) (name : List ℕ) (t : Trees.Tree) (is : branch_of c ≡ Trees.meta_pattern name t) (r : Result Part EvalFault) where
-    pub asked_part : IfOk r (λ p. (n : List ℕ) → IsPart leaves bytes (Trees.meta_pattern n t) p) → IfOk r (IsPart leaves bytes (branch_of c))
+    pub asked_part : IfOk r (λ p. (n : List ℕ) → IsPart leaves texts bytes (Trees.meta_pattern n t) p) → IfOk r (IsPart leaves texts bytes (branch_of c))
     asked_part h = at r h
       where
-        at : (q : Result Part EvalFault) → IfOk q (λ p. (n : List ℕ) → IsPart leaves bytes (Trees.meta_pattern n t) p) → IfOk q (IsPart leaves bytes (branch_of c))
+        at : (q : Result Part EvalFault) → IfOk q (λ p. (n : List ℕ) → IsPart leaves texts bytes (Trees.meta_pattern n t) p) → IfOk q (IsPart leaves texts bytes (branch_of c))
         at (Ok p) k = branch_part c (Trees.meta_pattern name t) is p (k name)
         at (Err e) k = tt
 
-    pub asked_over : IfOk r (λ _. Over leaves bytes t None) → IfOk r (λ _. OverBranch leaves bytes (branch_of c) None)
+    pub asked_over : IfOk r (λ _. Over leaves texts bytes t None) → IfOk r (λ _. OverBranch leaves texts bytes (branch_of c) None)
     asked_over h = at r h
       where
-        at : (q : Result Part EvalFault) → IfOk q (λ _. Over leaves bytes t None) → IfOk q (λ _. OverBranch leaves bytes (branch_of c) None)
+        at : (q : Result Part EvalFault) → IfOk q (λ _. Over leaves texts bytes t None) → IfOk q (λ _. OverBranch leaves texts bytes (branch_of c) None)
         at (Ok p) k = branch_over c (Trees.meta_pattern name t) is k
         at (Err e) k = tt
 
-    pub asked_fault : IfErr r (IsFaultFrom (Over leaves bytes t)) → IfErr r (IsFaultFrom (OverBranch leaves bytes (branch_of c)))
+    pub asked_fault : IfErr r (IsFaultFrom (Over leaves texts bytes t)) → IfErr r (IsFaultFrom (OverBranch leaves texts bytes (branch_of c)))
     asked_fault h = at r h
       where
-        at : (q : Result Part EvalFault) → IfErr q (IsFaultFrom (Over leaves bytes t)) → IfErr q (IsFaultFrom (OverBranch leaves bytes (branch_of c)))
+        at : (q : Result Part EvalFault) → IfErr q (IsFaultFrom (Over leaves texts bytes t)) → IfErr q (IsFaultFrom (OverBranch leaves texts bytes (branch_of c)))
         at (Ok p) k = tt
         at (Err e) k = branch_fault c (Trees.meta_pattern name t) is e k
 
   -- the sets of the children of a bare formula are what a condition needs
-  pub bare_part : (f : Formula) (bs : Trees.Branches) → tree_of f ≡ Trees.all_of bs → has_operands bs ≡ false → (sets : List (Vec Member Global)) → AreTakenAway leaves bytes bs sets → (name : List ℕ) → IsBarePart leaves bytes (Trees.meta_pattern name (tree_of f)) sets
-  bare_part f bs is e sets h name = let P : Trees.Tree → Type 0 = λ u. IsBarePart leaves bytes (Trees.meta_pattern name u) sets in subst P (sym is) (e, h)
+  pub bare_part : (f : Formula) (bs : Trees.Branches) → tree_of f ≡ Trees.all_of bs → has_operands bs ≡ false → (sets : List (Vec Member Global)) → AreTakenAway leaves texts bytes bs sets → (name : List ℕ) → IsBarePart leaves texts bytes (Trees.meta_pattern name (tree_of f)) sets
+  bare_part f bs is e sets h name = let P : Trees.Tree → Type 0 = λ u. IsBarePart leaves texts bytes (Trees.meta_pattern name u) sets in subst P (sym is) (e, h)
 
-  -- a child of another kind has no formula
-  module _ (c : Child) (a : (f : Formula) → c ≡ children.Positive f → ⊥) (b : (f : Formula) → c ≡ children.Inside f → ⊥) (d : (f : Formula) → c ≡ children.Not f → ⊥) (g : (f : Formula) → c ≡ children.NotInside f → ⊥)
+  -- a child of another kind asks for no set
+  module _ (c : Child) (a : (f : Formula) → c ≡ children.Positive f → ⊥) (b : (f : Formula) → c ≡ children.Inside f → ⊥) (d : (f : Formula) → c ≡ children.Not f → ⊥) (g : (f : Formula) → c ≡ children.NotInside f → ⊥) (r : (k : ℕ) → c ≡ children.NotRegex k → ⊥)
       (h : (name : List ℕ) (f : Formula) → c ≡ children.MetaPattern name f → ⊥) where
-    none_by : (u : Trees.Branch) → branch_of c ≡ u → HasNoFormula u → OverBranch leaves bytes u None → HasNoFormula (branch_of c) × OverBranch leaves bytes (branch_of c) None
+    none_by : (u : Trees.Branch) → branch_of c ≡ u → HasNoFormula u → OverBranch leaves texts bytes u None → HasNoFormula (branch_of c) × OverBranch leaves texts bytes (branch_of c) None
     none_by u is k m = (subst HasNoFormula (sym is) k, branch_over c u is m)
 
-    pub no_formula : HasNoFormula (branch_of c) × OverBranch leaves bytes (branch_of c) None
+    pub no_formula : HasNoFormula (branch_of c) × OverBranch leaves texts bytes (branch_of c) None
     no_formula = at (out-Child c) (roll-out-Child c)
       where
-        at : (x : Child-F Child Formula) → roll-Child x ≡ c → HasNoFormula (branch_of c) × OverBranch leaves bytes (branch_of c) None
+        at : (x : Child-F Child Formula) → roll-Child x ≡ c → HasNoFormula (branch_of c) × OverBranch leaves texts bytes (branch_of c) None
         at (layers.Positive f) e = absurd (a f (sym e ∙ rolls-Positive f))
         at (layers.Inside f) e = absurd (b f (sym e ∙ rolls-Inside f))
         at (layers.Not f) e = absurd (d f (sym e ∙ rolls-Not f))
         at (layers.NotInside f) e = absurd (g f (sym e ∙ rolls-NotInside f))
-        at (layers.NotRegex k) e = none_by (Trees.without_regex k) (ap branch_of (sym e ∙ rolls-NotRegex k) ∙ branch_notregex k) tt refl
+        at (layers.NotRegex k) e = absurd (r k (sym e ∙ rolls-NotRegex k))
         at (layers.MetaRegex name k) e = none_by (Trees.meta_regex name k) (ap branch_of (sym e ∙ rolls-MetaRegex name k) ∙ branch_metaregex name k) tt refl
         at (layers.MetaCompare x) e = none_by (Trees.meta_compare x) (ap branch_of (sym e ∙ rolls-MetaCompare x) ∙ branch_metacompare x) tt refl
         at (layers.MetaPattern name f) e = absurd (h name f (sym e ∙ rolls-MetaPattern name f))
         at (layers.Focus names) e = none_by (Trees.focus names) (ap branch_of (sym e ∙ rolls-Focus names) ∙ branch_focus names) tt refl
 
   -- the members of some of the formulas
-  module _ (ts : Trees.Trees) (sets : List (Vec Member Global)) (each : AreSetsOf leaves bytes ts sets) (none : OverTrees leaves bytes 0 ts None) (r : Result (Vec Member Global) EvalFault) where
-    pub some_set : IfOk r (λ v. IsAscending member_cmp v.items) → IfOk r (λ v. (m : Member) → Among v.items m ↔ IsInSome sets m) → IfOk r (λ v. IsSetOf leaves bytes (Trees.some_of ts) v.items)
+  module _ (ts : Trees.Trees) (sets : List (Vec Member Global)) (each : AreSetsOf leaves texts bytes ts sets) (none : OverTrees leaves texts bytes 0 ts None) (r : Result (Vec Member Global) EvalFault) where
+    pub some_set : IfOk r (λ v. IsAscending member_cmp v.items) → IfOk r (λ v. (m : Member) → Among v.items m ↔ IsInSome sets m) → IfOk r (λ v. IsSetOf leaves texts bytes (Trees.some_of ts) v.items)
     some_set up same = at r up same
       where
-        at : (q : Result (Vec Member Global) EvalFault) → IfOk q (λ v. IsAscending member_cmp v.items) → IfOk q (λ v. (m : Member) → Among v.items m ↔ IsInSome sets m) → IfOk q (λ v. IsSetOf leaves bytes (Trees.some_of ts) v.items)
+        at : (q : Result (Vec Member Global) EvalFault) → IfOk q (λ v. IsAscending member_cmp v.items) → IfOk q (λ v. (m : Member) → Among v.items m ↔ IsInSome sets m) → IfOk q (λ v. IsSetOf leaves texts bytes (Trees.some_of ts) v.items)
         at (Ok v) u s = record { exact = λ m. (λ a. (in_some ts sets each m).0 ((s m).0 a), λ a. (s m).1 ((in_some ts sets each m).1 a)); ordered = u }
         at (Err e) u s = tt
 
-    pub some_over : IfOk r (λ v. (m : Member) → Among v.items m ↔ IsInSome sets m) → IfOk r (λ v. length v.items ≤ 10000) → IfOk r (λ _. Over leaves bytes (Trees.some_of ts) None)
+    pub some_over : IfOk r (λ v. (m : Member) → Among v.items m ↔ IsInSome sets m) → IfOk r (λ v. length v.items ≤ 10000) → IfOk r (λ _. Over leaves texts bytes (Trees.some_of ts) None)
     some_over same few = at r same few
       where
-        at : (q : Result (Vec Member Global) EvalFault) → IfOk q (λ v. (m : Member) → Among v.items m ↔ IsInSome sets m) → IfOk q (λ v. length v.items ≤ 10000) → IfOk q (λ _. Over leaves bytes (Trees.some_of ts) None)
-        at (Ok v) s f = (none, at_most (MeetsSome leaves bytes ts) v.items (λ m. (λ a. (in_some ts sets each m).0 ((s m).0 a), λ a. (s m).1 ((in_some ts sets each m).1 a))) f)
+        at : (q : Result (Vec Member Global) EvalFault) → IfOk q (λ v. (m : Member) → Among v.items m ↔ IsInSome sets m) → IfOk q (λ v. length v.items ≤ 10000) → IfOk q (λ _. Over leaves texts bytes (Trees.some_of ts) None)
+        at (Ok v) s f = (none, at_most (MeetsSome leaves texts bytes ts) v.items (λ m. (λ a. (in_some ts sets each m).0 ((s m).0 a), λ a. (s m).1 ((in_some ts sets each m).1 a))) f)
         at (Err e) s f = tt
 
-    pub some_fault : IfErr r (IsFaultFrom (OneSet [] (IsInSome sets))) → IfErr r (IsFaultFrom (Over leaves bytes (Trees.some_of ts)))
+    pub some_fault : IfErr r (IsFaultFrom (OneSet [] (IsInSome sets))) → IfErr r (IsFaultFrom (Over leaves texts bytes (Trees.some_of ts)))
     some_fault h = at r h
       where
-        at : (q : Result (Vec Member Global) EvalFault) → IfErr q (IsFaultFrom (OneSet [] (IsInSome sets))) → IfErr q (IsFaultFrom (Over leaves bytes (Trees.some_of ts)))
+        at : (q : Result (Vec Member Global) EvalFault) → IfErr q (IsFaultFrom (OneSet [] (IsInSome sets))) → IfErr q (IsFaultFrom (Over leaves texts bytes (Trees.some_of ts)))
         at (Ok v) k = tt
         at (Err e) k =
-            fault_next (OverTrees leaves bytes 0 ts) (OneSet [] (MeetsSome leaves bytes ts)) e none
-            (fault_more [] (IsInSome sets) (MeetsSome leaves bytes ts) (λ m a. (in_some ts sets each m).0 a) e k)
+            fault_next (OverTrees leaves texts bytes 0 ts) (OneSet [] (MeetsSome leaves texts bytes ts)) e none
+            (fault_more [] (IsInSome sets) (MeetsSome leaves texts bytes ts) (λ m a. (in_some ts sets each m).0 a) e k)
 
   -- what all children allow
-  module _ (bs : Trees.Branches) (none : OverBranches leaves bytes 0 bs None) where
-    pub all_over : {V E : Type 0} (r : Result V E) → IfOk r (λ _. AtAll leaves bytes bs None) → IfOk r (λ _. Over leaves bytes (Trees.all_of bs) None)
+  module _ (bs : Trees.Branches) (none : OverBranches leaves texts bytes 0 bs None) where
+    pub all_over : {V E : Type 0} (r : Result V E) → IfOk r (λ _. AtAll leaves texts bytes bs None) → IfOk r (λ _. Over leaves texts bytes (Trees.all_of bs) None)
     all_over {V} {E} (Ok v) h = (none, h)
     all_over {V} {E} (Err e) h = tt
 
-    pub all_fault : {V : Type 0} (r : Result V EvalFault) → IfErr r (IsFaultFrom (AtAll leaves bytes bs)) → IfErr r (IsFaultFrom (Over leaves bytes (Trees.all_of bs)))
+    pub all_fault : {V : Type 0} (r : Result V EvalFault) → IfErr r (IsFaultFrom (AtAll leaves texts bytes bs)) → IfErr r (IsFaultFrom (Over leaves texts bytes (Trees.all_of bs)))
     all_fault {V} (Ok v) h = tt
-    all_fault {V} (Err e) h = fault_next (OverBranches leaves bytes 0 bs) (AtAll leaves bytes bs) e none h
+    all_fault {V} (Err e) h = fault_next (OverBranches leaves texts bytes 0 bs) (AtAll leaves texts bytes bs) e none h
 
   -- what a bare formula takes away of its children's parts
-  pub part_taken : (b : Trees.Branch) (p : Part) → IsPart leaves bytes b p → IsTakenAway leaves bytes b (members_in p)
+  pub part_taken : (b : Trees.Branch) (p : Part) → IsPart leaves texts bytes b p → IsTakenAway leaves texts bytes b (members_in p)
   part_taken (Trees.without t) (parts.Members v) h = h
   part_taken (Trees.outside t) (parts.Members v) h = h
   part_taken (Trees.without t) parts.Nothing h = elim h [ ]
@@ -235,7 +229,9 @@ module _ (leaves : List Leaf) (bytes : List ℕ) where
   part_taken (Trees.outside t) (parts.Bare sets) h = elim h [ ]
   part_taken (Trees.positive t) p h = tt
   part_taken (Trees.inside t) p h = tt
-  part_taken (Trees.without_regex k) p h = tt
+  part_taken (Trees.without_regex k) (parts.Members v) h = h
+  part_taken (Trees.without_regex k) parts.Nothing h = elim h [ ]
+  part_taken (Trees.without_regex k) (parts.Bare sets) h = elim h [ ]
   part_taken (Trees.meta_regex name k) p h = tt
   part_taken (Trees.meta_compare x) p h = tt
   part_taken (Trees.meta_pattern name t) p h = tt

@@ -129,13 +129,13 @@ adds_unfocused child c old other = adds_none old (IsShownAmong (names_of (branch
 
 -- ---- the members of a formula of children
 
-module _ (leaves : List Leaf) (bytes : List ℕ) (bs : Branches) where
-  pub meets_chosen : (chosen given : List Member) → given ≡ chosen → ((c : Member) → Among chosen c ↔ IsChosen leaves bytes bs c) → (m : Member) → IsShownOfSome leaves bytes bs given m ↔ Meets leaves bytes (all_of bs) None m
+module _ (leaves : List Leaf) (texts : List (List ℕ)) (bytes : List ℕ) (bs : Branches) where
+  pub meets_chosen : (chosen given : List Member) → given ≡ chosen → ((c : Member) → Among chosen c ↔ IsChosen leaves texts bytes bs c) → (m : Member) → IsShownOfSome leaves texts bytes bs given m ↔ Meets leaves texts bytes (all_of bs) None m
   meets_chosen chosen given same exact m =
-      let P : List Member → Type 0 = λ xs. IsShownOfSome leaves bytes bs xs m ↔ Meets leaves bytes (all_of bs) None m in
+      let P : List Member → Type 0 = λ xs. IsShownOfSome leaves texts bytes bs xs m ↔ Meets leaves texts bytes (all_of bs) None m in
       subst P (sym same) (λ a. (a.0, (exact a.0).0 a.1, a.2.0, a.2.1), λ h. (h.0, (exact h.0).1 h.1, (h.2, h.3)))
 
   -- what is shown of a choice that is allowed
-  pub shown_allowed : {A E : Type 0} (c : Member) (old new : List Member) → Allowed leaves bytes bs c → (r : Result A E) → OnOk r (Adds old new (IsShown bs c)) → OnOk r (Adds old new (Shows leaves bytes bs c))
-  shown_allowed c old new allowed (Ok a) h = adds_as old new (IsShown bs c) (Shows leaves bytes bs c) h (λ m. (λ s. (allowed, s), λ s. s.1))
+  pub shown_allowed : {A E : Type 0} (c : Member) (old new : List Member) → Allowed leaves texts bytes bs c → (r : Result A E) → OnOk r (Adds old new (IsShown bs c)) → OnOk r (Adds old new (Shows leaves texts bytes bs c))
+  shown_allowed c old new allowed (Ok a) h = adds_as old new (IsShown bs c) (Shows leaves texts bytes bs c) h (λ m. (λ s. (allowed, s), λ s. s.1))
   shown_allowed c old new allowed (Err e) h = h

@@ -31,9 +31,9 @@ module _ {X : Type 0} where
   take_past (x ∷ xs) zero n e lt is = cc
   take_past (x ∷ xs) (suc i) n e lt is = take_past xs i (length xs) e (omega (arith, lt, is)) refl
 
-module _ (leaves : List Leaf) (bytes : List ℕ) (k : ℕ) where
-  pub leaf_set : (o : Option Leaf) (members : List Member) → slice_get leaves k ≡ o → IsWhole (InLeaf o) members → IsSetOf leaves bytes (leaf k) members
+module _ (leaves : List Leaf) (texts : List (List ℕ)) (bytes : List ℕ) (k : ℕ) where
+  pub leaf_set : (o : Option Leaf) (members : List Member) → slice_get leaves k ≡ o → IsWhole (InLeaf o) members → IsSetOf leaves texts bytes (leaf k) members
   leaf_set o members e h = let P : Option Leaf → Type 0 = λ l. IsWhole (InLeaf l) members in subst P (sym e) h
 
-  pub leaf_over : (o : Option Leaf) (p : Option (List ℕ)) → slice_get leaves k ≡ o → LeafSearch o p → Over leaves bytes (leaf k) p
+  pub leaf_over : (o : Option Leaf) (p : Option (List ℕ)) → slice_get leaves k ≡ o → LeafSearch o p → Over leaves texts bytes (leaf k) p
   leaf_over o p e h = let P : Option Leaf → Type 0 = λ l. LeafSearch l p in subst P (sym e) h

@@ -5,6 +5,7 @@ pub mod Searches
 pub mod Settling
 pub mod Added
 pub mod Openings
+pub mod Regexes
 pub mod Allowing
 pub mod Gathering
 pub mod Limits
@@ -12,7 +13,6 @@ pub mod LeafSets
 pub mod Children
 pub mod Formulas
 pub mod Once
-pub mod Placed
 pub mod Names
 pub mod Choosing
 pub mod Counts
@@ -20,5 +20,7 @@ pub mod Reaching
 pub mod Prefixes
 pub mod Taking
 pub mod Given
+pub mod Firsts
 pub mod LeafNames
 pub mod Halving
+pub mod Placed

@@ -57,18 +57,18 @@ first_ascends Set Rest one rest [] h m k = elim h [ ]
 first_ascends Set Rest one rest (n ∷ ns) h m (inl e) = let P : Member → Type 0 = Ascends in subst P e (one n h.0)
 first_ascends Set Rest one rest (n ∷ ns) h m (inr k) = rest ns h.1 m k
 
-module _ (leaves : List Leaf) (bytes : List ℕ) (up : LeavesAscend leaves) where
+module _ (leaves : List Leaf) (texts : List (List ℕ)) (bytes : List ℕ) (up : LeavesAscend leaves) where
   -- the members of the formula of an operand
   abbrev BranchAscends : Trees.Branch → Type 0
-  BranchAscends (Trees.positive t) = (m : Member) → Meets leaves bytes t None m → Ascends m
-  BranchAscends (Trees.inside t) = (m : Member) → Meets leaves bytes t None m → Ascends m
+  BranchAscends (Trees.positive t) = (m : Member) → Meets leaves texts bytes t None m → Ascends m
+  BranchAscends (Trees.inside t) = (m : Member) → Meets leaves texts bytes t None m → Ascends m
   BranchAscends _ = Unit {0}
 
-  one_ascends : (b : Trees.Branch) (role : Role) (Rest : Chosen) → BranchAscends b → AllAscend Rest → AllAscend (OneAnd leaves bytes role b Rest)
-  one_ascends (Trees.positive t) Plain Rest one rest ms h = first_ascends (Meets leaves bytes t None) Rest one rest ms h
+  one_ascends : (b : Trees.Branch) (role : Role) (Rest : Chosen) → BranchAscends b → AllAscend Rest → AllAscend (OneAnd leaves texts bytes role b Rest)
+  one_ascends (Trees.positive t) Plain Rest one rest ms h = first_ascends (Meets leaves texts bytes t None) Rest one rest ms h
   one_ascends (Trees.positive t) Inside Rest one rest ms h = rest ms h
   one_ascends (Trees.inside t) Plain Rest one rest ms h = rest ms h
-  one_ascends (Trees.inside t) Inside Rest one rest ms h = first_ascends (Meets leaves bytes t None) Rest one rest ms h
+  one_ascends (Trees.inside t) Inside Rest one rest ms h = first_ascends (Meets leaves texts bytes t None) Rest one rest ms h
   one_ascends (Trees.without t) Plain Rest one rest ms h = rest ms h
   one_ascends (Trees.without t) Inside Rest one rest ms h = rest ms h
   one_ascends (Trees.outside t) Plain Rest one rest ms h = rest ms h
@@ -85,22 +85,22 @@ module _ (leaves : List Leaf) (bytes : List ℕ) (up : LeavesAscend leaves) wher
   one_ascends (Trees.focus names) Inside Rest one rest ms h = rest ms h
 
   mutual
-    pub tree_ascends : (t : Trees.Tree) (m : Member) → Meets leaves bytes t None m → Ascends m
+    pub tree_ascends : (t : Trees.Tree) (m : Member) → Meets leaves texts bytes t None m → Ascends m
     tree_ascends (Trees.leaf k) m h = up k m h
-    tree_ascends (Trees.regex k) m h = elim h [ ]
+    tree_ascends (Trees.regex k) m h = let P : List Bound → Type 0 = NamesAscend in subst P (sym h.1) tt
     tree_ascends (Trees.some_of ts) m h = trees_ascend ts m h
     tree_ascends (Trees.all_of bs) m (c, ops, allowed, shown) =
         shown_ascends c m (Trees.focused bs) (Trees.has Trees.is_focus bs) shown
-        (operands_ascend (OneOfEach leaves bytes Plain bs) (OneOfEach leaves bytes Inside bs) (each_ascends bs Plain) (each_ascends bs Inside) c (Trees.has Trees.is_positive bs) (Trees.has Trees.is_inside bs) ops)
+        (operands_ascend (OneOfEach leaves texts bytes Plain bs) (OneOfEach leaves texts bytes Inside bs) (each_ascends bs Plain) (each_ascends bs Inside) c (Trees.has Trees.is_positive bs) (Trees.has Trees.is_inside bs) ops)
 
-    pub trees_ascend : (ts : Trees.Trees) (m : Member) → MeetsSome leaves bytes ts m → Ascends m
+    pub trees_ascend : (ts : Trees.Trees) (m : Member) → MeetsSome leaves texts bytes ts m → Ascends m
     trees_ascend Trees.no_trees m h = elim h [ ]
     trees_ascend (Trees.tree_then t ts) m (inl h) = tree_ascends t m h
     trees_ascend (Trees.tree_then t ts) m (inr h) = trees_ascend ts m h
 
-    pub each_ascends : (bs : Trees.Branches) (role : Role) → AllAscend (OneOfEach leaves bytes role bs)
+    pub each_ascends : (bs : Trees.Branches) (role : Role) → AllAscend (OneOfEach leaves texts bytes role bs)
     each_ascends Trees.no_branches role ms h = none_ascend ms h
-    each_ascends (Trees.branch_then b bs) role ms h = one_ascends b role (OneOfEach leaves bytes role bs) (branch_ascends b) (each_ascends bs role) ms h
+    each_ascends (Trees.branch_then b bs) role ms h = one_ascends b role (OneOfEach leaves texts bytes role bs) (branch_ascends b) (each_ascends bs role) ms h
 
     pub branch_ascends : (b : Trees.Branch) → BranchAscends b
     branch_ascends (Trees.positive t) = tree_ascends t

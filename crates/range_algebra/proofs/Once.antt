@@ -7,6 +7,7 @@ use Rattle.tree_match.specs.Sets.{Among}
 use Rattle.range_algebra.specs.declared.join.Role.{Role}
 use Rattle.range_algebra.specs.declared.join.Role.TheVariants.{Plain, Inside}
 use Rattle.range_algebra.specs.Sizes.{IsDistinct, HasAtMost, HasMoreThan}
+use Rattle.range_algebra.specs.Regexes.{IsMatch}
 use Rattle.range_algebra.specs.Trees
 use Rattle.range_algebra.specs.Choices.{NoneOf, IsCounted}
 use Rattle.range_algebra.specs.Meets.{Meets, MeetsSome, OneOfEach}
@@ -104,50 +105,50 @@ leaf_one None o p e f = e ∙ sym f
 leaf_one (Some (Full members)) o p s t = set_one [] (Among members) o p s t
 leaf_one (Some Crowded) o p e f = e ∙ sym f
 
-module _ (leaves : List Leaf) (bytes : List ℕ) where
-  plain_one : (role : Role) (all : Trees.Branches) (i : ℕ) (bs : Trees.Branches) → FindsOne (PlainPrefixes leaves bytes role all i bs)
+module _ (leaves : List Leaf) (texts : List (List ℕ)) (bytes : List ℕ) where
+  plain_one : (role : Role) (all : Trees.Branches) (i : ℕ) (bs : Trees.Branches) → FindsOne (PlainPrefixes leaves texts bytes role all i bs)
   plain_one role all i Trees.no_branches o p e f = e ∙ sym f
   plain_one role all i (Trees.branch_then b bs) o p s t =
-      let Set = IsCounted (OneOfFirst leaves bytes role (suc i) all) NoneOf in
-      let Rest : Search = PlainPrefixes leaves bytes role all (suc i) bs in
+      let Set = IsCounted (OneOfFirst leaves texts bytes role (suc i) all) NoneOf in
+      let Rest : Search = PlainPrefixes leaves texts bytes role all (suc i) bs in
       choice_one (is_operand role b) (Then (OneSet (i ∷ []) Set) Rest) Rest (then_one (OneSet (i ∷ []) Set) Rest (set_one (i ∷ []) Set) (plain_one role all (suc i) bs)) (plain_one role all (suc i) bs) o p s t
 
-  inside_one : (all : Trees.Branches) (i : ℕ) (bs : Trees.Branches) → FindsOne (InsidePrefixes leaves bytes all i bs)
+  inside_one : (all : Trees.Branches) (i : ℕ) (bs : Trees.Branches) → FindsOne (InsidePrefixes leaves texts bytes all i bs)
   inside_one all i Trees.no_branches o p e f = e ∙ sym f
   inside_one all i (Trees.branch_then b bs) o p s t =
-      let Set = IsCounted (OneOfEach leaves bytes Plain all) (OneOfFirst leaves bytes Inside (suc i) all) in
-      let Rest : Search = InsidePrefixes leaves bytes all (suc i) bs in
+      let Set = IsCounted (OneOfEach leaves texts bytes Plain all) (OneOfFirst leaves texts bytes Inside (suc i) all) in
+      let Rest : Search = InsidePrefixes leaves texts bytes all (suc i) bs in
       choice_one (Trees.is_inside b) (Then (OneSet (i ∷ []) Set) Rest) Rest (then_one (OneSet (i ∷ []) Set) Rest (set_one (i ∷ []) Set) (inside_one all (suc i) bs)) (inside_one all (suc i) bs) o p s t
 
-  prefixes_one : (bs : Trees.Branches) → FindsOne (Prefixes leaves bytes bs)
+  prefixes_one : (bs : Trees.Branches) → FindsOne (Prefixes leaves texts bytes bs)
   prefixes_one bs =
-      let Plains : Search = PlainPrefixes leaves bytes Plain bs 0 bs in
-      let Insides : Search = InsidePrefixes leaves bytes bs 0 bs in
-      choice_one (Trees.has Trees.is_positive bs) (Then Plains Insides) (PlainPrefixes leaves bytes Inside bs 0 bs) (then_one Plains Insides (plain_one Plain bs 0 bs) (inside_one bs 0 bs)) (plain_one Inside bs 0 bs)
+      let Plains : Search = PlainPrefixes leaves texts bytes Plain bs 0 bs in
+      let Insides : Search = InsidePrefixes leaves texts bytes bs 0 bs in
+      choice_one (Trees.has Trees.is_positive bs) (Then Plains Insides) (PlainPrefixes leaves texts bytes Inside bs 0 bs) (then_one Plains Insides (plain_one Plain bs 0 bs) (inside_one bs 0 bs)) (plain_one Inside bs 0 bs)
 
-  at_all_one : (bs : Trees.Branches) → FindsOne (AtAll leaves bytes bs)
+  at_all_one : (bs : Trees.Branches) → FindsOne (AtAll leaves texts bytes bs)
   at_all_one bs =
-      let Set = Meets leaves bytes (Trees.all_of bs) None in
-      then_one (Prefixes leaves bytes bs) (OneSet [] Set) (prefixes_one bs) (set_one [] Set)
+      let Set = Meets leaves texts bytes (Trees.all_of bs) None in
+      then_one (Prefixes leaves texts bytes bs) (OneSet [] Set) (prefixes_one bs) (set_one [] Set)
 
   mutual
-    tree_one : (t : Trees.Tree) → FindsOne (Over leaves bytes t)
+    tree_one : (t : Trees.Tree) → FindsOne (Over leaves texts bytes t)
     tree_one (Trees.leaf k) = leaf_one (slice_get leaves k)
-    tree_one (Trees.regex k) = nothing_one
-    tree_one (Trees.some_of ts) = then_one (OverTrees leaves bytes 0 ts) (OneSet [] (MeetsSome leaves bytes ts)) (trees_one ts 0) (set_one [] (MeetsSome leaves bytes ts))
-    tree_one (Trees.all_of bs) = then_one (OverBranches leaves bytes 0 bs) (AtAll leaves bytes bs) (branches_one bs 0) (at_all_one bs)
+    tree_one (Trees.regex k) = set_one [] (IsMatch texts bytes k)
+    tree_one (Trees.some_of ts) = then_one (OverTrees leaves texts bytes 0 ts) (OneSet [] (MeetsSome leaves texts bytes ts)) (trees_one ts 0) (set_one [] (MeetsSome leaves texts bytes ts))
+    tree_one (Trees.all_of bs) = then_one (OverBranches leaves texts bytes 0 bs) (AtAll leaves texts bytes bs) (branches_one bs 0) (at_all_one bs)
 
-    trees_one : (ts : Trees.Trees) (i : ℕ) → FindsOne (OverTrees leaves bytes i ts)
+    trees_one : (ts : Trees.Trees) (i : ℕ) → FindsOne (OverTrees leaves texts bytes i ts)
     trees_one Trees.no_trees i = nothing_one
     trees_one (Trees.tree_then t ts) i =
-        then_one (InChild i (Over leaves bytes t)) (OverTrees leaves bytes (suc i) ts) (child_one i (Over leaves bytes t) (tree_one t)) (trees_one ts (suc i))
+        then_one (InChild i (Over leaves texts bytes t)) (OverTrees leaves texts bytes (suc i) ts) (child_one i (Over leaves texts bytes t) (tree_one t)) (trees_one ts (suc i))
 
-    branches_one : (bs : Trees.Branches) (i : ℕ) → FindsOne (OverBranches leaves bytes i bs)
+    branches_one : (bs : Trees.Branches) (i : ℕ) → FindsOne (OverBranches leaves texts bytes i bs)
     branches_one Trees.no_branches i = nothing_one
     branches_one (Trees.branch_then b bs) i =
-        then_one (InChild i (OverBranch leaves bytes b)) (OverBranches leaves bytes (suc i) bs) (child_one i (OverBranch leaves bytes b) (branch_one b)) (branches_one bs (suc i))
+        then_one (InChild i (OverBranch leaves texts bytes b)) (OverBranches leaves texts bytes (suc i) bs) (child_one i (OverBranch leaves texts bytes b) (branch_one b)) (branches_one bs (suc i))
 
-    branch_one : (b : Trees.Branch) → FindsOne (OverBranch leaves bytes b)
+    branch_one : (b : Trees.Branch) → FindsOne (OverBranch leaves texts bytes b)
     branch_one (Trees.positive t) = tree_one t
     branch_one (Trees.inside t) = tree_one t
     branch_one (Trees.without t) = tree_one t
@@ -158,5 +159,5 @@ module _ (leaves : List Leaf) (bytes : List ℕ) where
     branch_one (Trees.meta_compare x) = nothing_one
     branch_one (Trees.focus names) = nothing_one
 
-  pub over_one : (t : Trees.Tree) (o p : Option (List ℕ)) → Over leaves bytes t o → Over leaves bytes t p → o ≡ p
+  pub over_one : (t : Trees.Tree) (o p : Option (List ℕ)) → Over leaves texts bytes t o → Over leaves texts bytes t p → o ≡ p
   over_one t o p s q = tree_one t o p s q

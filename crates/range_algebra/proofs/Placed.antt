@@ -1,4 +1,5 @@
--- The members of a formula stand at places of the file's text, where those of its patterns do.
+-- The members of a formula stand at places of the file's text, where those of its patterns and the matches of its regular
+-- expressions do. What the names are bound to stands so whatever the matches are.
 use Rattle.std.proofs.Common.{◌≡◌, inl, inr, ℕ, zero, suc, List, [], ◌∷◌, map, sym, subst, Bool, true, false, cond}
 use Rattle.std.specs.Prelude.{All, Option, None, Some, IfSome, MatchBool, slice_get}
 use Rattle.std.specs.Ordering.{is_lt, is_eq}
@@ -16,17 +17,17 @@ use Rattle.tree_match.specs.declared.leaf.Leaf.TheVariants.{Full, Crowded}
 use Rattle.tree_match.specs.Sets.{Among}
 use Rattle.tree_match.specs.Members.{Member}
 use Rattle.tree_match.specs.Placed.{IsPlaced, IsLeafPlaced}
-use Rattle.tree_match.proofs.Placed.{all_among}
+use Rattle.tree_match.proofs.Placed.{all_among, among_all}
 use Rattle.range_algebra.specs.declared.join.Role.{Role}
 use Rattle.range_algebra.specs.declared.join.Role.TheVariants.{Plain, Inside}
 use Rattle.range_algebra.specs.Trees
 use Rattle.range_algebra.specs.Choices.{Chosen, FirstOf, NoneOf, IsMet, range_of, binding_of, merged_with}
-use Rattle.range_algebra.specs.Meets.{InLeaf, IsGiven, IsOperandsMember, IsShownAt, IsShown, Meets, MeetsSome, OneOfEach, OneAnd}
+use Rattle.range_algebra.specs.Meets.{InLeaf, IsGiven, IsOperandsMember, IsShownAt, IsShown, Meets, MeetsSome, OneOfEach, OneAnd, IsChosen}
+use Rattle.range_algebra.specs.Conditions.{AreBoundIn}
+use Rattle.range_algebra.specs.Regexes.{matches_of}
 
-module _ (bytes : List ℕ) where
-  abbrev Ends : Span → Type 0
-  Ends s = EndsLieIn bytes s
-
+-- what is to hold of ranges, and holds of those that cut no character
+module _ (bytes : List ℕ) (Ends : Span → Type 0) (ends_lie : (s : Span) → EndsLieIn bytes s → Ends s) where
   abbrev BoundLies : Bound → Type 0
   BoundLies b = EndsLieIn bytes b.span
 
@@ -34,7 +35,7 @@ module _ (bytes : List ℕ) where
   AreBound b = All BoundLies b
 
   abbrev Placed : Member → Type 0
-  Placed m = IsPlaced bytes m
+  Placed m = Ends m.0 × AreBound m.1
 
   -- ---- bindings made one
 
@@ -109,7 +110,7 @@ module _ (bytes : List ℕ) where
       at false false k = given_placed given m ends k
 
   shown_at_placed : (name : List ℕ) (c m : Member) → Placed c → IsShownAt name c m → Placed m
-  shown_at_placed name c m ok (b, is, bytes', e) = let P : Member → Type 0 = Placed in subst P (sym e) (found_has BoundLies name c.1 b is ok.1, ok.1)
+  shown_at_placed name c m ok (b, is, bytes', e) = let P : Member → Type 0 = Placed in subst P (sym e) (ends_lie b.span (found_has BoundLies name c.1 b is ok.1), ok.1)
 
   shown_placed : (bs : Trees.Branches) (c m : Member) → Placed c → IsShown bs c m → Placed m
   shown_placed bs c m ok h = at (Trees.has Trees.is_focus bs) h
@@ -122,52 +123,69 @@ module _ (bytes : List ℕ) where
 
   in_leaf_placed : (leaves : List Leaf) (k : ℕ) (m : Member) → All (IsLeafPlaced bytes) leaves → InLeaf (slice_get leaves k) m → Placed m
   in_leaf_placed [] k m all h = elim h [ ]
-  in_leaf_placed (Full members ∷ leaves) zero m all h = all_among Placed members m (All-head (IsLeafPlaced bytes) (Full members) leaves all) h
+  in_leaf_placed (Full members ∷ leaves) zero m all h =
+      let p = all_among (IsPlaced bytes) members m (All-head (IsLeafPlaced bytes) (Full members) leaves all) h in
+      (ends_lie m.0 p.0, p.1)
   in_leaf_placed (Crowded ∷ leaves) zero m all h = elim h [ ]
   in_leaf_placed (leaf ∷ leaves) (suc k) m all h = in_leaf_placed leaves k m (All-tail (IsLeafPlaced bytes) leaf leaves all) h
 
 -- ---- formulas
 
-module _ (leaves : List Leaf) (bytes : List ℕ) (all : All (IsLeafPlaced bytes) leaves) where
-  -- the members of the child's formula are placed, where it is an operand
-  abbrev IsBranchPlaced : Trees.Branch → Type 0
-  IsBranchPlaced (Trees.positive t) = (m : Member) → Meets leaves bytes t None m → IsPlaced bytes m
-  IsBranchPlaced (Trees.inside t) = (m : Member) → Meets leaves bytes t None m → IsPlaced bytes m
-  IsBranchPlaced _ = Unit {0}
+module _ (leaves : List Leaf) (texts : List (List ℕ)) (bytes : List ℕ) (all : All (IsLeafPlaced bytes) leaves) where
+  module _ (Ends : Span → Type 0) (ends_lie : (s : Span) → EndsLieIn bytes s → Ends s) (matches : (k : ℕ) → All Ends (matches_of texts bytes k)) where
+    abbrev AtPlace : Member → Type 0
+    AtPlace m = Ends m.0 × AreBoundIn bytes m
 
-  one_and_placed : (role : Role) (b : Trees.Branch) (Rest : Chosen) → IsBranchPlaced b → ArePlaced bytes Rest → ArePlaced bytes (OneAnd leaves bytes role b Rest)
-  one_and_placed Plain (Trees.positive t) Rest one rest ms h = first_placed bytes (Meets leaves bytes t None) Rest one rest ms h
-  one_and_placed Inside (Trees.inside t) Rest one rest ms h = first_placed bytes (Meets leaves bytes t None) Rest one rest ms h
-  one_and_placed role b Rest one rest ms h = rest ms h
+    -- the members of the child's formula are placed, where it is an operand
+    abbrev IsBranchPlaced : Trees.Branch → Type 0
+    IsBranchPlaced (Trees.positive t) = (m : Member) → Meets leaves texts bytes t None m → AtPlace m
+    IsBranchPlaced (Trees.inside t) = (m : Member) → Meets leaves texts bytes t None m → AtPlace m
+    IsBranchPlaced _ = Unit {0}
 
-  mutual
-    tree_placed : (t : Trees.Tree) (given : Option Span) (m : Member) → IfSome given (EndsLieIn bytes) → Meets leaves bytes t given m → IsPlaced bytes m
-    tree_placed (Trees.leaf k) given m ends h = in_leaf_placed bytes leaves k m all h
-    tree_placed (Trees.regex k) given m ends h = elim h [ ]
-    tree_placed (Trees.some_of ts) given m ends h = some_placed ts m h
-    tree_placed (Trees.all_of bs) given m ends (c, among, allowed, shown) =
-        shown_placed bytes bs c m
-        (operands_placed bytes bs (OneOfEach leaves bytes Plain bs) (OneOfEach leaves bytes Inside bs) (each_placed bs Plain) (each_placed bs Inside) given ends c among) shown
+    one_and_placed : (role : Role) (b : Trees.Branch) (Rest : Chosen) → IsBranchPlaced b → ArePlaced bytes Ends ends_lie Rest → ArePlaced bytes Ends ends_lie (OneAnd leaves texts bytes role b Rest)
+    one_and_placed Plain (Trees.positive t) Rest one rest ms h = first_placed bytes Ends ends_lie (Meets leaves texts bytes t None) Rest one rest ms h
+    one_and_placed Inside (Trees.inside t) Rest one rest ms h = first_placed bytes Ends ends_lie (Meets leaves texts bytes t None) Rest one rest ms h
+    one_and_placed role b Rest one rest ms h = rest ms h
 
-    some_placed : (ts : Trees.Trees) (m : Member) → MeetsSome leaves bytes ts m → IsPlaced bytes m
-    some_placed Trees.no_trees m h = elim h [ ]
-    some_placed (Trees.tree_then t ts) m (inl h) = tree_placed t None m tt h
-    some_placed (Trees.tree_then t ts) m (inr h) = some_placed ts m h
+    mutual
+      tree_placed : (t : Trees.Tree) (given : Option Span) (m : Member) → IfSome given Ends → Meets leaves texts bytes t given m → AtPlace m
+      tree_placed (Trees.leaf k) given m ends h = in_leaf_placed bytes Ends ends_lie leaves k m all h
+      tree_placed (Trees.regex k) given m ends h =
+          let P : List Bound → Type 0 = All (λ (b : Bound). EndsLieIn bytes b.span) in
+          (all_among Ends (matches_of texts bytes k) m.0 (matches k) h.0, subst P (sym h.1) (All-nil (λ (b : Bound). EndsLieIn bytes b.span)))
+      tree_placed (Trees.some_of ts) given m ends h = some_placed ts m h
+      tree_placed (Trees.all_of bs) given m ends (c, among, allowed, shown) =
+          shown_placed bytes Ends ends_lie bs c m
+          (operands_placed bytes Ends ends_lie bs (OneOfEach leaves texts bytes Plain bs) (OneOfEach leaves texts bytes Inside bs) (each_placed bs Plain) (each_placed bs Inside) given ends c among) shown
 
-    each_placed : (bs : Trees.Branches) (role : Role) → ArePlaced bytes (OneOfEach leaves bytes role bs)
-    each_placed Trees.no_branches role ms h = none_placed bytes ms h
-    each_placed (Trees.branch_then b bs) role ms h = one_and_placed role b (OneOfEach leaves bytes role bs) (branch_placed b) (each_placed bs role) ms h
+      some_placed : (ts : Trees.Trees) (m : Member) → MeetsSome leaves texts bytes ts m → AtPlace m
+      some_placed Trees.no_trees m h = elim h [ ]
+      some_placed (Trees.tree_then t ts) m (inl h) = tree_placed t None m tt h
+      some_placed (Trees.tree_then t ts) m (inr h) = some_placed ts m h
 
-    branch_placed : (b : Trees.Branch) → IsBranchPlaced b
-    branch_placed (Trees.positive t) = λ m h. tree_placed t None m tt h
-    branch_placed (Trees.inside t) = λ m h. tree_placed t None m tt h
-    branch_placed (Trees.without t) = tt
-    branch_placed (Trees.outside t) = tt
-    branch_placed (Trees.without_regex k) = tt
-    branch_placed (Trees.meta_regex name k) = tt
-    branch_placed (Trees.meta_compare x) = tt
-    branch_placed (Trees.meta_pattern name t) = tt
-    branch_placed (Trees.focus names) = tt
+      each_placed : (bs : Trees.Branches) (role : Role) → ArePlaced bytes Ends ends_lie (OneOfEach leaves texts bytes role bs)
+      each_placed Trees.no_branches role ms h = none_placed bytes Ends ends_lie ms h
+      each_placed (Trees.branch_then b bs) role ms h = one_and_placed role b (OneOfEach leaves texts bytes role bs) (branch_placed b) (each_placed bs role) ms h
 
-  pub meets_placed : (t : Trees.Tree) (given : Option Span) (m : Member) → IfSome given (EndsLieIn bytes) → Meets leaves bytes t given m → IsPlaced bytes m
-  meets_placed t given m ends h = tree_placed t given m ends h
+      branch_placed : (b : Trees.Branch) → IsBranchPlaced b
+      branch_placed (Trees.positive t) = λ m h. tree_placed t None m tt h
+      branch_placed (Trees.inside t) = λ m h. tree_placed t None m tt h
+      branch_placed (Trees.without t) = tt
+      branch_placed (Trees.outside t) = tt
+      branch_placed (Trees.without_regex k) = tt
+      branch_placed (Trees.meta_regex name k) = tt
+      branch_placed (Trees.meta_compare x) = tt
+      branch_placed (Trees.meta_pattern name t) = tt
+      branch_placed (Trees.focus names) = tt
+
+    among_placed : (bs : Trees.Branches) (given : Option Span) → IfSome given Ends → (m : Member) → IsOperandsMember bs (OneOfEach leaves texts bytes Plain bs) (OneOfEach leaves texts bytes Inside bs) given m → AtPlace m
+    among_placed bs given ends m among = operands_placed bytes Ends ends_lie bs (OneOfEach leaves texts bytes Plain bs) (OneOfEach leaves texts bytes Inside bs) (each_placed bs Plain) (each_placed bs Inside) given ends m among
+
+  -- what a choice binds
+  pub chosen_bound : (bs : Trees.Branches) (m : Member) → IsChosen leaves texts bytes bs m → AreBoundIn bytes m
+  chosen_bound bs m chosen =
+      let Whatever : Span → Type 0 = λ s. Unit {0} in
+      (among_placed Whatever (λ s e. tt) (λ k. among_all Whatever (matches_of texts bytes k) (λ s h. tt)) bs None tt m chosen).1
+
+  pub meets_placed : ((k : ℕ) → All (EndsLieIn bytes) (matches_of texts bytes k)) → (t : Trees.Tree) (given : Option Span) (m : Member) → IfSome given (EndsLieIn bytes) → Meets leaves texts bytes t given m → IsPlaced bytes m
+  meets_placed matches t given m ends h = tree_placed (EndsLieIn bytes) (λ s e. e) matches t given m ends h

@@ -8,6 +8,7 @@ use Rattle.range_algebra.specs.declared.join.Role.TheVariants.{Plain, Inside}
 use Rattle.range_algebra.specs.declared.fault.EvalFault.{EvalFault}
 use Rattle.range_algebra.specs.declared.fault.EvalFault.TheVariants as faults
 use Rattle.range_algebra.specs.Sizes.{HasAtMost, HasMoreThan}
+use Rattle.range_algebra.specs.Regexes.{IsMatch}
 use Rattle.range_algebra.specs.Trees
 use Rattle.range_algebra.specs.Choices.{Chosen, NoneOf, IsCounted}
 use Rattle.range_algebra.specs.Meets.{Meets, MeetsSome, OneOfEach, OneAnd}
@@ -61,12 +62,12 @@ abbrev pub is_operand : Role → Trees.Branch → Bool
 is_operand Plain b = Trees.is_positive b
 is_operand Inside b = Trees.is_inside b
 
-module _ (leaves : List Leaf) (bytes : List ℕ) where
+module _ (leaves : List Leaf) (texts : List (List ℕ)) (bytes : List ℕ) where
   -- one member of each operand with that role among the first n children
   abbrev pub OneOfFirst : Role → ℕ → Trees.Branches → Chosen
   OneOfFirst role n Trees.no_branches ms = NoneOf ms
   OneOfFirst role zero (Trees.branch_then b bs) ms = NoneOf ms
-  OneOfFirst role (suc n) (Trees.branch_then b bs) ms = OneAnd leaves bytes role b (OneOfFirst role n bs) ms
+  OneOfFirst role (suc n) (Trees.branch_then b bs) ms = OneAnd leaves texts bytes role b (OneOfFirst role n bs) ms
 
   -- the prefixes that end with the plain operands, which are the positive children or else the insides
   abbrev pub PlainPrefixes : Role → Trees.Branches → ℕ → Trees.Branches → Search
@@ -78,21 +79,21 @@ module _ (leaves : List Leaf) (bytes : List ℕ) where
   abbrev pub InsidePrefixes : Trees.Branches → ℕ → Trees.Branches → Search
   InsidePrefixes all i Trees.no_branches o = o ≡ None
   InsidePrefixes all i (Trees.branch_then b bs) o =
-      MatchBool (Trees.is_inside b) (Then (OneSet (i ∷ []) (IsCounted (OneOfEach leaves bytes Plain all) (OneOfFirst Inside (suc i) all))) (InsidePrefixes all (suc i) bs) o) (InsidePrefixes all (suc i) bs o)
+      MatchBool (Trees.is_inside b) (Then (OneSet (i ∷ []) (IsCounted (OneOfEach leaves texts bytes Plain all) (OneOfFirst Inside (suc i) all))) (InsidePrefixes all (suc i) bs) o) (InsidePrefixes all (suc i) bs o)
 
   abbrev pub Prefixes : Trees.Branches → Search
   Prefixes bs o = MatchBool (Trees.has Trees.is_positive bs) (Then (PlainPrefixes Plain bs 0 bs) (InsidePrefixes bs 0 bs) o) (PlainPrefixes Inside bs 0 bs o)
 
   -- the prefixes of the operands, then the set of all that the children allow
   abbrev pub AtAll : Trees.Branches → Search
-  AtAll bs o = Then (Prefixes bs) (OneSet [] (Meets leaves bytes (Trees.all_of bs) None)) o
+  AtAll bs o = Then (Prefixes bs) (OneSet [] (Meets leaves texts bytes (Trees.all_of bs) None)) o
 
   abbrev mutual
     -- the sets of a formula: those of its children in order, then the prefixes of its operands, then its own
     pub Over : Trees.Tree → Search
     Over (Trees.leaf k) o = LeafSearch (slice_get leaves k) o
-    Over (Trees.regex k) o = Nothing o
-    Over (Trees.some_of ts) o = Then (OverTrees 0 ts) (OneSet [] (MeetsSome leaves bytes ts)) o
+    Over (Trees.regex k) o = OneSet [] (IsMatch texts bytes k) o
+    Over (Trees.some_of ts) o = Then (OverTrees 0 ts) (OneSet [] (MeetsSome leaves texts bytes ts)) o
     Over (Trees.all_of bs) o = Then (OverBranches 0 bs) (AtAll bs) o
 
     pub OverTrees : ℕ → Trees.Trees → Search

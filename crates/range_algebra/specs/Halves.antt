@@ -1,12 +1,14 @@
 -- Where the members with a range begin, among members in order.
-use Rattle.std.specs.Prelude.{◌≡◌, ◌≤◌, ℕ, List, length, take, drop}
+use Rattle.std.specs.Prelude.{◌≡◌, ◌≤◌, ℕ, List, length, map, take, drop}
 use Rattle.std.specs.declared.cmp.Ordering.TheVariants.{Less}
 use Rattle.node_tree.specs.declared.span.Span.{Span}
 use Rattle.node_tree.specs.Span.{span_cmp}
+use Rattle.rx_text.specs.Searches.{FollowFrom}
 use Rattle.tree_match.specs.Ascending.{IsAscending}
 use Rattle.tree_match.specs.Members.{Member, member_cmp}
 use Rattle.range_algebra.specs.Sizes.{Each}
-use Rattle.range_algebra.specs.Trees.{Branch, without, outside}
+use Rattle.range_algebra.specs.Choices.{range_of}
+use Rattle.range_algebra.specs.Trees.{Branch, without, outside, without_regex}
 
 -- the member begins before the range, or begins there and ends before it
 abbrev pub IsBefore : Span → Member → Type 0
@@ -24,8 +26,13 @@ pub record IsFrom (range : Span) (members : List Member) : Type 0 where
   pub ordered : IsAscending member_cmp members
   pub after : Each (λ (m : Member). IsBefore range m → ⊥) members
 
--- the members of a formula that takes something away are in order
+-- the ranges of the members follow one another
+abbrev pub AreApart : List Member → Type 0
+AreApart members = FollowFrom 0 (map range_of members)
+
+-- the members of a formula that takes something away are in order, and matches follow one another
 abbrev pub IsOrderedFor : Branch → List Member → Type 0
 IsOrderedFor (without t) members = IsAscending member_cmp members
 IsOrderedFor (outside t) members = IsAscending member_cmp members
+IsOrderedFor (without_regex k) members = AreApart members
 IsOrderedFor _ members = Unit {0}

@@ -5,6 +5,7 @@ pub mod Trees
 pub mod Choices
 pub mod Agreements
 pub mod Joins
+pub mod Regexes
 pub mod Conditions
 pub mod Orders
 pub mod Meets

@@ -10,8 +10,9 @@ use Rattle.tree_match.specs.Sets.{Among}
 use Rattle.tree_match.specs.Members.{Member}
 use Rattle.range_algebra.specs.declared.join.Role.{Role}
 use Rattle.range_algebra.specs.declared.join.Role.TheVariants.{Plain, Inside}
-use Rattle.range_algebra.specs.Ranges.{IsWithin, HasBytes}
+use Rattle.range_algebra.specs.Ranges.{IsWithin, HasBytes, ShareByte}
 use Rattle.range_algebra.specs.Sizes.{Any}
+use Rattle.range_algebra.specs.Regexes.{matches_of, IsMatch, matches_bound}
 use Rattle.range_algebra.specs.Trees
 use Rattle.range_algebra.specs.Choices.{Chosen, FirstOf, NoneOf, IsMet}
 
@@ -43,12 +44,12 @@ IsShownAmong names c m = Any (λ (name : List ℕ). IsShownAt name c m) names
 abbrev pub IsShown : Trees.Branches → Member → Member → Type 0
 IsShown bs c m = MatchBool (Trees.has Trees.is_focus bs) (IsShownAmong (Trees.focused bs) c m) (m ≡ c)
 
-module _ (leaves : List Leaf) (bytes : List ℕ) where
+module _ (leaves : List Leaf) (texts : List (List ℕ)) (bytes : List ℕ) where
   abbrev mutual
     -- the members of the formula; a formula without operands has the given range, if one is given
     pub Meets : Trees.Tree → Option Span → Member → Type 0
     Meets (Trees.leaf k) given m = InLeaf (slice_get leaves k) m
-    Meets (Trees.regex k) given m = ⊥
+    Meets (Trees.regex k) given m = IsMatch texts bytes k m
     Meets (Trees.some_of ts) given m = MeetsSome ts m
     Meets (Trees.all_of bs) given m = (c : Member) × IsOperandsMember bs (OneOfEach Plain bs) (OneOfEach Inside bs) given c × Allowed bs c × IsShown bs c m
 
@@ -73,14 +74,15 @@ module _ (leaves : List Leaf) (bytes : List ℕ) where
     Allowed (Trees.branch_then b bs) c = Allows b c × Allowed bs c
 
     -- `pattern-not`: none of the formula's members has the range, with a binding that agrees. `pattern-not-inside`: the range
-    -- lies in none. A condition holds of what is bound, and is false of a name that isn't.
+    -- lies in none. `pattern-not-regex`: the range shares no byte with a match. A condition holds of what is bound, and is false
+    -- of a name that isn't.
     pub Allows : Trees.Branch → Member → Type 0
     Allows (Trees.positive t) c = Unit {0}
     Allows (Trees.inside t) c = Unit {0}
     Allows (Trees.without t) c = (b : List Bound) → Meets t None (c.0, b) → Agree c.1 b → ⊥
     Allows (Trees.outside t) c = (m : Member) → Meets t None m → IsWithin c.0 m.0 → Agree c.1 m.1 → ⊥
-    Allows (Trees.without_regex k) c = Unit {0}
-    Allows (Trees.meta_regex name k) c = ⊥
+    Allows (Trees.without_regex k) c = Any (ShareByte c.0) (matches_of texts bytes k) → ⊥
+    Allows (Trees.meta_regex name k) c = IsTrue (matches_bound texts bytes k name c.1)
     Allows (Trees.meta_compare x) c = IsTrue (holds c.1 bytes x)
     Allows (Trees.meta_pattern name t) c = MatchOption (bound_at name c.1) ⊥ (λ b. (d : List Bound) × Meets t (Some b.span) (b.span, d) × Agree c.1 d)
     Allows (Trees.focus names) c = Unit {0}

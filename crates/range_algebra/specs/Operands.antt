@@ -40,11 +40,11 @@ AddsPart i _ old new = new ≡ old
 abbrev pub AddsChild : Role → ℕ → Trees.Branch → Part → List Operand → List Operand → Type 0
 AddsChild role i b part old new = MatchBool (is_operand role b) (AddsPart i part old new) (new ≡ old)
 
-module _ (leaves : List Leaf) (bytes : List ℕ) where
+module _ (leaves : List Leaf) (texts : List (List ℕ)) (bytes : List ℕ) where
   -- an operand with that number and the members of the child's formula, then the others
   abbrev pub BeginsWithOperand : ℕ → Trees.Branch → (List Operand → Type 0) → List Operand → Type 0
   BeginsWithOperand i b Rest [] = ⊥
-  BeginsWithOperand i b Rest (o ∷ os) = (o.number ≡ i) × IsSetIn leaves bytes b o.members.now × Rest os
+  BeginsWithOperand i b Rest (o ∷ os) = (o.number ≡ i) × IsSetIn leaves texts bytes b o.members.now × Rest os
 
   -- one operand for each child with that role, in order, where the first child has that number
   abbrev pub AreOperands : Role → ℕ → Trees.Branches → List Operand → Type 0

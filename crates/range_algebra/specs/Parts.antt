@@ -8,6 +8,7 @@ use Rattle.tree_match.specs.Leaf.{IsWhole}
 use Rattle.range_algebra.specs.declared.part.Part.{Part}
 use Rattle.range_algebra.specs.declared.part.Part.TheVariants.{Nothing, Members, Bare}
 use Rattle.range_algebra.specs.Sizes.{Any}
+use Rattle.range_algebra.specs.Regexes.{AreMatches}
 use Rattle.range_algebra.specs.Trees
 use Rattle.range_algebra.specs.Meets.{Meets}
 
@@ -25,12 +26,13 @@ abbrev pub IsBare : Trees.Tree → Type 0
 IsBare (Trees.all_of bs) = has_operands bs ≡ false
 IsBare _ = ⊥
 
--- the child has no formula of its own
+-- the child asks for no set
 abbrev pub HasNoFormula : Trees.Branch → Type 0
 HasNoFormula (Trees.positive t) = ⊥
 HasNoFormula (Trees.inside t) = ⊥
 HasNoFormula (Trees.without t) = ⊥
 HasNoFormula (Trees.outside t) = ⊥
+HasNoFormula (Trees.without_regex k) = ⊥
 HasNoFormula (Trees.meta_pattern name t) = ⊥
 HasNoFormula _ = Unit {0}
 
@@ -38,10 +40,10 @@ HasNoFormula _ = Unit {0}
 abbrev pub IsInSome : List (Vec Member Global) → Member → Type 0
 IsInSome sets m = Any (λ (v : Vec Member Global). Among v.items m) sets
 
-module _ (leaves : List Leaf) (bytes : List ℕ) where
+module _ (leaves : List Leaf) (texts : List (List ℕ)) (bytes : List ℕ) where
   -- the members of the formula, all of them, in order and each once
   abbrev pub IsSetOf : Trees.Tree → List Member → Type 0
-  IsSetOf t members = IsWhole (Meets leaves bytes t None) members
+  IsSetOf t members = IsWhole (Meets leaves texts bytes t None) members
 
   -- one such set for each formula
   abbrev pub AreSetsOf : Trees.Trees → List (Vec Member Global) → Type 0
@@ -49,19 +51,21 @@ module _ (leaves : List Leaf) (bytes : List ℕ) where
   AreSetsOf (Trees.tree_then t ts) [] = ⊥
   AreSetsOf (Trees.tree_then t ts) (v ∷ sets) = IsSetOf t v.items × AreSetsOf ts sets
 
-  -- the members of the child's formula
+  -- the members of the child's formula, or the matches of its regular expression
   abbrev pub IsSetIn : Trees.Branch → List Member → Type 0
   IsSetIn (Trees.positive t) members = IsSetOf t members
   IsSetIn (Trees.inside t) members = IsSetOf t members
   IsSetIn (Trees.without t) members = IsSetOf t members
   IsSetIn (Trees.outside t) members = IsSetOf t members
+  IsSetIn (Trees.without_regex k) members = AreMatches texts bytes k members
   IsSetIn (Trees.meta_pattern name t) members = IsSetOf t members × (IsBare t → ⊥)
   IsSetIn _ members = ⊥
 
-  -- the members of the formulas that a bare formula takes away; nothing is asked of the sets of its other children
+  -- what a bare formula takes away; nothing is asked of the sets of its other children
   abbrev pub IsTakenAway : Trees.Branch → List Member → Type 0
   IsTakenAway (Trees.without t) members = IsSetOf t members
   IsTakenAway (Trees.outside t) members = IsSetOf t members
+  IsTakenAway (Trees.without_regex k) members = AreMatches texts bytes k members
   IsTakenAway _ members = Unit {0}
 
   -- one such set for each child
@@ -75,7 +79,7 @@ module _ (leaves : List Leaf) (bytes : List ℕ) where
   IsBarePart (Trees.meta_pattern name (Trees.all_of bs)) sets = (has_operands bs ≡ false) × AreTakenAway bs sets
   IsBarePart _ sets = ⊥
 
-  -- what is known of the child's formula
+  -- what is known of the set that the child asks for
   abbrev pub IsPart : Trees.Branch → Part → Type 0
   IsPart b Nothing = HasNoFormula b
   IsPart b (Members v) = IsSetIn b v.items

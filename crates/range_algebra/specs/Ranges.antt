@@ -12,6 +12,10 @@ IsWithin a b = (a.from ≤ a.to) × (b.from ≤ a.from) × (a.to ≤ b.to)
 abbrev pub HasBytes : Span → Type 0
 HasBytes a = a.from < a.to
 
+-- a byte lies in both ranges
+abbrev pub ShareByte : Span → Span → Type 0
+ShareByte a b = (at : ℕ) × (a.from ≤ at) × (at < a.to) × (b.from ≤ at) × (at < b.to)
+
 -- the intersection of these ranges: it begins where the last of them begins, and ends where the first of them ends
 pub record IsShared (shared : Span) (ranges : List Span) : Type 0 where
   pub begins_late : Each (λ (r : Span). r.from ≤ shared.from) ranges

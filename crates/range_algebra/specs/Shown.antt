@@ -6,10 +6,10 @@ use Rattle.range_algebra.specs.Sizes.{Any}
 use Rattle.range_algebra.specs.Trees.{Branches}
 use Rattle.range_algebra.specs.Meets.{Allowed, IsShown}
 
-module _ (leaves : List Leaf) (bytes : List ℕ) where
+module _ (leaves : List Leaf) (texts : List (List ℕ)) (bytes : List ℕ) where
   -- all the children allow the choice, and the member is shown of it
   abbrev pub Shows : Branches → Member → Member → Type 0
-  Shows bs c m = Allowed leaves bytes bs c × IsShown bs c m
+  Shows bs c m = Allowed leaves texts bytes bs c × IsShown bs c m
 
   -- one of these choices shows the member
   abbrev pub IsShownOfSome : Branches → List Member → Member → Type 0

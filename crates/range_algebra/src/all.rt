@@ -1,11 +1,14 @@
 //! What all the children of a formula allow.
 
-ghost use Rattle.std.specs.Prelude.{◌≡◌, ◌↔◌, [], map, None, IsTrue, IfOk, IfErr, OnOk};
+ghost use Rattle.std.specs.Prelude.{◌≡◌, ◌↔◌, [], All, map, None, IsTrue, IfOk, IfErr, OnOk};
 ghost use Rattle.tree_match.specs.Members.{Member as member_value};
+ghost use Rattle.tree_match.specs.Placed.{IsLeafPlaced};
 ghost use Rattle.tree_match.specs.Sets.{Among, Adds};
 ghost use Rattle.range_algebra.specs.Trees.{all_of, branch_of, branches_of, names_of};
 ghost use Rattle.range_algebra.specs.Meets.{Allowed, IsShown, IsShownAt, IsShownAmong};
 ghost use Rattle.range_algebra.specs.Parts.{AreParts, IsSetOf};
+ghost use Rattle.range_algebra.specs.Conditions.{AreBoundIn};
+ghost use Rattle.range_algebra.specs.Sizes.{Each};
 ghost use Rattle.range_algebra.specs.Shown.{Shows, IsShownOfSome};
 ghost use Rattle.range_algebra.specs.Crowds.{AtAll, IsFaultFrom, OneSet};
 
@@ -27,8 +30,9 @@ fn is_allowed<'t>(
     parts: &[Part<'t>],
     one: &Member<'t>,
 ) -> Result<bool, Memory>
-    requires parts { AreParts scene.leaves.now scene.bytes.now (branches_of (map branch_of children.now)) parts.now }
-    ensures { IfOk result (λ y. IsTrue y ↔ Allowed scene.entry.leaves.now scene.entry.bytes.now (branches_of (map branch_of children.now)) one.now) }
+    requires parts { AreParts scene.leaves.now scene.rx.now scene.view.now.bytes (branches_of (map branch_of children.now)) parts.now }
+    requires placed { AreBoundIn scene.view.now.bytes one.now }
+    ensures { IfOk result (λ y. IsTrue y ↔ Allowed scene.entry.leaves.now scene.entry.rx.now scene.entry.view.now.bytes (branches_of (map branch_of children.now)) one.now) }
 {
     for (i, child) in children.iter().enumerate() {
         if !allows(alloc, scene, child, &parts[i], one)? {
@@ -96,8 +100,9 @@ fn add_allowed<'t>(
     one: &Member<'t>,
     members: &mut Vec<Member<'t>>,
 ) -> Result<(), Memory>
-    requires parts { AreParts scene.leaves.now scene.bytes.now (branches_of (map branch_of children.now)) parts.now }
-    ensures { OnOk result (Adds members.old.items members.new.items (Shows scene.entry.leaves.now scene.entry.bytes.now (branches_of (map branch_of children.now)) one.now)) }
+    requires parts { AreParts scene.leaves.now scene.rx.now scene.view.now.bytes (branches_of (map branch_of children.now)) parts.now }
+    requires placed { AreBoundIn scene.view.now.bytes one.now }
+    ensures { OnOk result (Adds members.old.items members.new.items (Shows scene.entry.leaves.now scene.entry.rx.now scene.entry.view.now.bytes (branches_of (map branch_of children.now)) one.now)) }
 {
     if !is_allowed(alloc, scene, children, parts, one)? {
         return Ok(());
@@ -113,9 +118,10 @@ fn shown_of<'t>(
     parts: &[Part<'t>],
     chosen: &[Member<'t>],
 ) -> Result<Vec<Member<'t>>, EvalFault>
-    requires parts { AreParts scene.leaves.now scene.bytes.now (branches_of (map branch_of children.now)) parts.now }
-    ensures exact { IfOk result (λ v. (m : member_value) → Among v.items m ↔ IsShownOfSome scene.entry.leaves.now scene.entry.bytes.now (branches_of (map branch_of children.now)) chosen.now m) }
-    ensures crowded { IfErr result (IsFaultFrom (OneSet [] (IsShownOfSome scene.entry.leaves.now scene.entry.bytes.now (branches_of (map branch_of children.now)) chosen.now))) }
+    requires parts { AreParts scene.leaves.now scene.rx.now scene.view.now.bytes (branches_of (map branch_of children.now)) parts.now }
+    requires placed { Each (AreBoundIn scene.view.now.bytes) chosen.now }
+    ensures exact { IfOk result (λ v. (m : member_value) → Among v.items m ↔ IsShownOfSome scene.entry.leaves.now scene.entry.rx.now scene.entry.view.now.bytes (branches_of (map branch_of children.now)) chosen.now m) }
+    ensures crowded { IfErr result (IsFaultFrom (OneSet [] (IsShownOfSome scene.entry.leaves.now scene.entry.rx.now scene.entry.view.now.bytes (branches_of (map branch_of children.now)) chosen.now))) }
 {
     let mut members = Vec::new(alloc);
     for one in chosen {
@@ -132,10 +138,11 @@ pub fn all_members<'t>(
     children: &[Child],
     parts: &[Part<'t>],
 ) -> Result<Vec<Member<'t>>, EvalFault>
-    requires parts { AreParts scene.leaves.now scene.bytes.now (branches_of (map branch_of children.now)) parts.now }
-    ensures exact { IfOk result (λ v. IsSetOf scene.entry.leaves.now scene.entry.bytes.now (all_of (branches_of (map branch_of children.now))) v.items) }
-    ensures few { IfOk result (λ _. AtAll scene.entry.leaves.now scene.entry.bytes.now (branches_of (map branch_of children.now)) None) }
-    ensures crowded { IfErr result (IsFaultFrom (AtAll scene.entry.leaves.now scene.entry.bytes.now (branches_of (map branch_of children.now)))) }
+    requires parts { AreParts scene.leaves.now scene.rx.now scene.view.now.bytes (branches_of (map branch_of children.now)) parts.now }
+    requires placed { All (λ leaf. IsLeafPlaced scene.view.now.bytes leaf) scene.leaves.now }
+    ensures exact { IfOk result (λ v. IsSetOf scene.entry.leaves.now scene.entry.rx.now scene.entry.view.now.bytes (all_of (branches_of (map branch_of children.now))) v.items) }
+    ensures few { IfOk result (λ _. AtAll scene.entry.leaves.now scene.entry.rx.now scene.entry.view.now.bytes (branches_of (map branch_of children.now)) None) }
+    ensures crowded { IfErr result (IsFaultFrom (AtAll scene.entry.leaves.now scene.entry.rx.now scene.entry.view.now.bytes (branches_of (map branch_of children.now)))) }
 {
     let chosen = choices(alloc, scene, children, parts)?;
     let members = shown_of(alloc, scene, children, parts, chosen.as_slice())?;

@@ -186,10 +186,10 @@ pub fn choices<'t>(
     children: &[Child],
     parts: &[Part<'t>],
 ) -> Result<Vec<Member<'t>>, EvalFault>
-    requires parts { AreParts scene.leaves.now scene.bytes.now (branches_of (map branch_of children.now)) parts.now }
-    ensures exact { IfOk result (λ v. (m : member_value) → Among v.items m ↔ IsChosen scene.entry.leaves.now scene.entry.bytes.now (branches_of (map branch_of children.now)) m) }
-    ensures few { IfOk result (λ _. Prefixes scene.entry.leaves.now scene.entry.bytes.now (branches_of (map branch_of children.now)) None) }
-    ensures crowded { IfErr result (IsFaultFrom (Prefixes scene.entry.leaves.now scene.entry.bytes.now (branches_of (map branch_of children.now)))) }
+    requires parts { AreParts scene.leaves.now scene.rx.now scene.view.now.bytes (branches_of (map branch_of children.now)) parts.now }
+    ensures exact { IfOk result (λ v. (m : member_value) → Among v.items m ↔ IsChosen scene.entry.leaves.now scene.entry.rx.now scene.entry.view.now.bytes (branches_of (map branch_of children.now)) m) }
+    ensures few { IfOk result (λ _. Prefixes scene.entry.leaves.now scene.entry.rx.now scene.entry.view.now.bytes (branches_of (map branch_of children.now)) None) }
+    ensures crowded { IfErr result (IsFaultFrom (Prefixes scene.entry.leaves.now scene.entry.rx.now scene.entry.view.now.bytes (branches_of (map branch_of children.now)))) }
 {
     names_ascend(scene.leaves);
     let plains = operands(alloc, Role::Plain, children, parts)?;

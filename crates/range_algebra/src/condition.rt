@@ -3,16 +3,17 @@
 ghost use Rattle.std.specs.Prelude.{◌≡◌, ◌↔◌, ◌<◌, ◌-◌, [], map, false, Some, IsTrue, IfOk};
 ghost use Rattle.tree_match.specs.Ascending.{IsAscending};
 ghost use Rattle.tree_match.specs.Members.{member_cmp};
-ghost use Rattle.range_algebra.specs.Halves.{IsBefore, IsBetween, IsFrom, IsOrderedFor};
-ghost use Rattle.range_algebra.specs.Conditions.{IsEqualTo, IsAround, AllowsBy};
+ghost use Rattle.range_algebra.specs.Halves.{IsBefore, IsBetween, IsFrom, AreApart, IsOrderedFor};
+ghost use Rattle.range_algebra.specs.Conditions.{IsEqualTo, IsAround, IsSharedWith, IsSharedAt, AreBoundIn, AllowsBy};
 ghost use Rattle.range_algebra.specs.Meets.{Meets, Allows};
 ghost use Rattle.range_algebra.specs.Parts.{IsPart, AreTakenAway, has_operands};
 ghost use Rattle.range_algebra.specs.Sizes.{Any};
 ghost use Rattle.range_algebra.specs.Trees.{all_of, meta_pattern, tree_of, branch_of, branches_of, has, is_focus};
 
 use crate::part::Part;
-use crate::range::{is_equal, lies_in};
+use crate::range::{is_equal, lies_in, shares_byte};
 use crate::scene::{Member, Scene};
+use crate::search::matches_bound;
 use meta_bind::Trail;
 use meta_filter::holds_comparison;
 use node_tree::{Memory, Span};
@@ -114,6 +115,31 @@ fn has_around<'t>(members: &[Member<'t>], range: Span, trail: &Trail<'t>) -> boo
     false
 }
 
+// Whether a byte lies in the range and in that of the member at that place, if there is one.
+fn shares_at<'t>(members: &[Member<'t>], at: usize, range: Span) -> bool
+    ensures { IsTrue result ↔ IsSharedAt range members.now at }
+{
+    if at < members.len() {
+        return shares_byte(range, members[at].0);
+    }
+    false
+}
+
+// Whether a byte lies in the range and in a member's, where the members' ranges follow one another.
+fn shares<'t>(members: &[Member<'t>], range: Span) -> bool
+    requires apart { AreApart members.now }
+    ensures { IsTrue result ↔ Any (IsSharedWith range) members.now }
+{
+    let first = first_from(members, range);
+    if shares_at(members, first, range) {
+        return true;
+    }
+    if first == 0 {
+        return false;
+    }
+    shares_at(members, first - 1, range)
+}
+
 // Whether the child puts names in focus.
 #[tactic(auto, using(crate::proofs::Layers::branch_layers))]
 fn focuses(child: &Child) -> bool
@@ -137,8 +163,8 @@ pub fn has_focus(children: &[Child]) -> bool
     false
 }
 
-// Whether a child allows the choice, where these are the members of its formula. A condition on a metavariable isn't asked of
-// what it matches: none allows the choice.
+// Whether a child allows the choice, where these are the members of its formula. A condition by a formula isn't asked: none
+// allows the choice.
 fn allows_by<'t>(
     alloc: Global,
     scene: Scene<'t>,
@@ -147,15 +173,18 @@ fn allows_by<'t>(
     one: &Member<'t>,
 ) -> Result<bool, Memory>
     requires ordered { IsOrderedFor (branch_of child.now) members.now }
-    ensures { IfOk result (λ y. IsTrue y ↔ AllowsBy scene.entry.bytes.now members.now one.now (branch_of child.now)) }
+    requires placed { AreBoundIn scene.view.now.bytes one.now }
+    ensures { IfOk result (λ y. IsTrue y ↔ AllowsBy scene.entry.rx.now scene.entry.view.now.bytes members.now one.now (branch_of child.now)) }
 {
     match child {
         Child::Not(_) => Ok(!has_equal(members, one.0, &one.1)),
         Child::NotInside(_) => Ok(!has_around(members, one.0, &one.1)),
-        Child::MetaRegex(_, _) => Ok(false),
+        Child::NotRegex(_) => Ok(!shares(members, one.0)),
+        Child::MetaRegex(name, number) => matches_bound(scene, name.as_str(), *number, &one.1),
         Child::MetaPattern(_, _) => Ok(false),
         Child::MetaCompare(comparison) => {
-            Ok(holds_comparison(comparison, &one.1.keep()?, scene.bytes))
+            let bytes = scene.view.bytes.as_slice();
+            Ok(holds_comparison(comparison, &one.1.keep()?, bytes))
         }
         _ => Ok(true),
     }
@@ -170,8 +199,8 @@ fn allows_bare<'t>(
     range: Span,
 ) -> Result<bool, Memory>
     requires bare { has_operands (branches_of (map branch_of children.now)) ≡ false }
-    requires sets { AreTakenAway scene.leaves.now scene.bytes.now (branches_of (map branch_of children.now)) sets.now }
-    ensures { IfOk result (λ y. IsTrue y ↔ Meets scene.entry.leaves.now scene.entry.bytes.now (all_of (branches_of (map branch_of children.now))) (Some range) (range, [])) }
+    requires sets { AreTakenAway scene.leaves.now scene.rx.now scene.view.now.bytes (branches_of (map branch_of children.now)) sets.now }
+    ensures { IfOk result (λ y. IsTrue y ↔ Meets scene.entry.leaves.now scene.entry.rx.now scene.entry.view.now.bytes (all_of (branches_of (map branch_of children.now))) (Some range) (range, [])) }
 {
     if has_focus(children) {
         return Ok(false);
@@ -194,8 +223,8 @@ fn matches<'t>(
     part: &Part<'t>,
     one: &Member<'t>,
 ) -> Result<bool, Memory>
-    requires part { IsPart scene.leaves.now scene.bytes.now (meta_pattern name.now (tree_of formula.now)) part.now }
-    ensures { IfOk result (λ y. IsTrue y ↔ Allows scene.entry.leaves.now scene.entry.bytes.now (meta_pattern name.now (tree_of formula.now)) one.now) }
+    requires part { IsPart scene.leaves.now scene.rx.now scene.view.now.bytes (meta_pattern name.now (tree_of formula.now)) part.now }
+    ensures { IfOk result (λ y. IsTrue y ↔ Allows scene.entry.leaves.now scene.entry.rx.now scene.entry.view.now.bytes (meta_pattern name.now (tree_of formula.now)) one.now) }
 {
     let Some(held) = one.1.get(name) else {
         return Ok(false);
@@ -222,8 +251,9 @@ pub fn allows<'t>(
     part: &Part<'t>,
     one: &Member<'t>,
 ) -> Result<bool, Memory>
-    requires part { IsPart scene.leaves.now scene.bytes.now (branch_of child.now) part.now }
-    ensures { IfOk result (λ y. IsTrue y ↔ Allows scene.entry.leaves.now scene.entry.bytes.now (branch_of child.now) one.now) }
+    requires part { IsPart scene.leaves.now scene.rx.now scene.view.now.bytes (branch_of child.now) part.now }
+    requires placed { AreBoundIn scene.view.now.bytes one.now }
+    ensures { IfOk result (λ y. IsTrue y ↔ Allows scene.entry.leaves.now scene.entry.rx.now scene.entry.view.now.bytes (branch_of child.now) one.now) }
 {
     match child {
         Child::MetaPattern(name, formula) => {

@@ -1,7 +1,8 @@
 //! The members of a formula.
 
-ghost use Rattle.std.specs.Prelude.{◌≡◌, ◌↔◌, ◌≤◌, ◌<◌, ℕ, List, [], length, map, None, Ok, OnOk, IfOk, IfErr};
+ghost use Rattle.std.specs.Prelude.{◌≡◌, ◌↔◌, ◌≤◌, ◌<◌, ℕ, All, List, [], length, map, None, Ok, OnOk, IfOk, IfErr};
 ghost use Rattle.std.specs.Option.{option_to_list};
+ghost use Rattle.tree_match.specs.Placed.{IsLeafPlaced};
 ghost use Rattle.tree_match.specs.Sets.{Among, Adds};
 ghost use Rattle.tree_match.specs.Ascending.{IsAscending};
 ghost use Rattle.tree_match.specs.Members.{Member as member_value, member_cmp};
@@ -17,6 +18,7 @@ use crate::operand::is_bare;
 use crate::order::settled;
 use crate::part::Part;
 use crate::scene::{MOST, Member, ROOM, Scene};
+use crate::search::{matches_of, regex_members};
 use node_tree::{List, Memory};
 use rule_form::{Child, Formula};
 use std::alloc::Global;
@@ -113,13 +115,14 @@ pub fn members_of<'t>(
     scene: Scene<'t>,
     formula: &'t Formula,
 ) -> Result<Vec<Member<'t>>, EvalFault>
-    ensures exact { IfOk result (λ v. IsSetOf scene.entry.leaves.now scene.entry.bytes.now (tree_of formula.now) v.items) }
-    ensures few { IfOk result (λ _. Over scene.entry.leaves.now scene.entry.bytes.now (tree_of formula.now) None) }
-    ensures crowded { IfErr result (IsFaultFrom (Over scene.entry.leaves.now scene.entry.bytes.now (tree_of formula.now))) }
+    requires placed { All (λ leaf. IsLeafPlaced scene.view.now.bytes leaf) scene.leaves.now }
+    ensures exact { IfOk result (λ v. IsSetOf scene.entry.leaves.now scene.entry.rx.now scene.entry.view.now.bytes (tree_of formula.now) v.items) }
+    ensures few { IfOk result (λ _. Over scene.entry.leaves.now scene.entry.rx.now scene.entry.view.now.bytes (tree_of formula.now) None) }
+    ensures crowded { IfErr result (IsFaultFrom (Over scene.entry.leaves.now scene.entry.rx.now scene.entry.view.now.bytes (tree_of formula.now))) }
 {
     match formula {
         Formula::Leaf(number) => leaf_members(alloc, scene, *number),
-        Formula::Regex(_) => Ok(Vec::new(alloc)),
+        Formula::Regex(number) => regex_members(alloc, scene, *number),
         Formula::Any(formulas) => {
             let sets = members_of_each(alloc, scene, formulas.as_slice())?;
             union(alloc, sets.as_slice())
@@ -138,9 +141,10 @@ fn members_of_each<'t>(
     scene: Scene<'t>,
     formulas: &'t [Formula],
 ) -> Result<Vec<Vec<Member<'t>>>, EvalFault>
-    ensures exact { IfOk result (λ sets. AreSetsOf scene.entry.leaves.now scene.entry.bytes.now (trees_of (map tree_of formulas.now)) sets.items) }
-    ensures few { IfOk result (λ _. OverTrees scene.entry.leaves.now scene.entry.bytes.now 0 (trees_of (map tree_of formulas.now)) None) }
-    ensures crowded { IfErr result (IsFaultFrom (OverTrees scene.entry.leaves.now scene.entry.bytes.now 0 (trees_of (map tree_of formulas.now)))) }
+    requires placed { All (λ leaf. IsLeafPlaced scene.view.now.bytes leaf) scene.leaves.now }
+    ensures exact { IfOk result (λ sets. AreSetsOf scene.entry.leaves.now scene.entry.rx.now scene.entry.view.now.bytes (trees_of (map tree_of formulas.now)) sets.items) }
+    ensures few { IfOk result (λ _. OverTrees scene.entry.leaves.now scene.entry.rx.now scene.entry.view.now.bytes 0 (trees_of (map tree_of formulas.now)) None) }
+    ensures crowded { IfErr result (IsFaultFrom (OverTrees scene.entry.leaves.now scene.entry.rx.now scene.entry.view.now.bytes 0 (trees_of (map tree_of formulas.now)))) }
 {
     let mut sets = Vec::new(alloc);
     for (i, formula) in formulas.iter().enumerate() {
@@ -156,9 +160,10 @@ fn parts_of_each<'t>(
     scene: Scene<'t>,
     children: &'t [Child],
 ) -> Result<Vec<Part<'t>>, EvalFault>
-    ensures exact { IfOk result (λ parts. AreParts scene.entry.leaves.now scene.entry.bytes.now (branches_of (map branch_of children.now)) parts.items) }
-    ensures few { IfOk result (λ _. OverBranches scene.entry.leaves.now scene.entry.bytes.now 0 (branches_of (map branch_of children.now)) None) }
-    ensures crowded { IfErr result (IsFaultFrom (OverBranches scene.entry.leaves.now scene.entry.bytes.now 0 (branches_of (map branch_of children.now)))) }
+    requires placed { All (λ leaf. IsLeafPlaced scene.view.now.bytes leaf) scene.leaves.now }
+    ensures exact { IfOk result (λ parts. AreParts scene.entry.leaves.now scene.entry.rx.now scene.entry.view.now.bytes (branches_of (map branch_of children.now)) parts.items) }
+    ensures few { IfOk result (λ _. OverBranches scene.entry.leaves.now scene.entry.rx.now scene.entry.view.now.bytes 0 (branches_of (map branch_of children.now)) None) }
+    ensures crowded { IfErr result (IsFaultFrom (OverBranches scene.entry.leaves.now scene.entry.rx.now scene.entry.view.now.bytes 0 (branches_of (map branch_of children.now)))) }
 {
     let mut parts = Vec::new(alloc);
     for (i, child) in children.iter().enumerate() {
@@ -170,15 +175,17 @@ fn parts_of_each<'t>(
 // What the child needs.
 #[cycle(evaluate)]
 fn part_of<'t>(alloc: Global, scene: Scene<'t>, child: &'t Child) -> Result<Part<'t>, EvalFault>
-    ensures exact { IfOk result (IsPart scene.entry.leaves.now scene.entry.bytes.now (branch_of child.now)) }
-    ensures few { IfOk result (λ _. OverBranch scene.entry.leaves.now scene.entry.bytes.now (branch_of child.now) None) }
-    ensures crowded { IfErr result (IsFaultFrom (OverBranch scene.entry.leaves.now scene.entry.bytes.now (branch_of child.now))) }
+    requires placed { All (λ leaf. IsLeafPlaced scene.view.now.bytes leaf) scene.leaves.now }
+    ensures exact { IfOk result (IsPart scene.entry.leaves.now scene.entry.rx.now scene.entry.view.now.bytes (branch_of child.now)) }
+    ensures few { IfOk result (λ _. OverBranch scene.entry.leaves.now scene.entry.rx.now scene.entry.view.now.bytes (branch_of child.now) None) }
+    ensures crowded { IfErr result (IsFaultFrom (OverBranch scene.entry.leaves.now scene.entry.rx.now scene.entry.view.now.bytes (branch_of child.now))) }
 {
     match child {
         Child::Positive(formula) => Ok(Part::Members(members_of(alloc, scene, formula)?)),
         Child::Inside(formula) => Ok(Part::Members(members_of(alloc, scene, formula)?)),
         Child::Not(formula) => Ok(Part::Members(members_of(alloc, scene, formula)?)),
         Child::NotInside(formula) => Ok(Part::Members(members_of(alloc, scene, formula)?)),
+        Child::NotRegex(number) => Ok(Part::Members(matches_of(alloc, scene, *number)?)),
         Child::MetaPattern(_, formula) => asked(alloc, scene, formula),
         _ => Ok(Part::Nothing),
     }
@@ -187,9 +194,10 @@ fn part_of<'t>(alloc: Global, scene: Scene<'t>, child: &'t Child) -> Result<Part
 // What a condition on a metavariable needs.
 #[cycle(evaluate)]
 fn asked<'t>(alloc: Global, scene: Scene<'t>, formula: &'t Formula) -> Result<Part<'t>, EvalFault>
-    ensures exact { IfOk result (λ part. (name : List ℕ) → IsPart scene.entry.leaves.now scene.entry.bytes.now (meta_pattern name (tree_of formula.now)) part) }
-    ensures few { IfOk result (λ _. Over scene.entry.leaves.now scene.entry.bytes.now (tree_of formula.now) None) }
-    ensures crowded { IfErr result (IsFaultFrom (Over scene.entry.leaves.now scene.entry.bytes.now (tree_of formula.now))) }
+    requires placed { All (λ leaf. IsLeafPlaced scene.view.now.bytes leaf) scene.leaves.now }
+    ensures exact { IfOk result (λ part. (name : List ℕ) → IsPart scene.entry.leaves.now scene.entry.rx.now scene.entry.view.now.bytes (meta_pattern name (tree_of formula.now)) part) }
+    ensures few { IfOk result (λ _. Over scene.entry.leaves.now scene.entry.rx.now scene.entry.view.now.bytes (tree_of formula.now) None) }
+    ensures crowded { IfErr result (IsFaultFrom (Over scene.entry.leaves.now scene.entry.rx.now scene.entry.view.now.bytes (tree_of formula.now))) }
 {
     let Formula::All(children) = formula else {
         return Ok(Part::Members(members_of(alloc, scene, formula)?));
@@ -207,9 +215,10 @@ fn taken_away<'t>(
     scene: Scene<'t>,
     children: &'t [Child],
 ) -> Result<Vec<Vec<Member<'t>>>, EvalFault>
-    ensures exact { IfOk result (λ sets. AreTakenAway scene.entry.leaves.now scene.entry.bytes.now (branches_of (map branch_of children.now)) sets.items) }
-    ensures few { IfOk result (λ _. OverBranches scene.entry.leaves.now scene.entry.bytes.now 0 (branches_of (map branch_of children.now)) None) }
-    ensures crowded { IfErr result (IsFaultFrom (OverBranches scene.entry.leaves.now scene.entry.bytes.now 0 (branches_of (map branch_of children.now)))) }
+    requires placed { All (λ leaf. IsLeafPlaced scene.view.now.bytes leaf) scene.leaves.now }
+    ensures exact { IfOk result (λ sets. AreTakenAway scene.entry.leaves.now scene.entry.rx.now scene.entry.view.now.bytes (branches_of (map branch_of children.now)) sets.items) }
+    ensures few { IfOk result (λ _. OverBranches scene.entry.leaves.now scene.entry.rx.now scene.entry.view.now.bytes 0 (branches_of (map branch_of children.now)) None) }
+    ensures crowded { IfErr result (IsFaultFrom (OverBranches scene.entry.leaves.now scene.entry.rx.now scene.entry.view.now.bytes 0 (branches_of (map branch_of children.now)))) }
 {
     let mut sets = Vec::new(alloc);
     for (i, child) in children.iter().enumerate() {

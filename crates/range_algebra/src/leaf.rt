@@ -37,9 +37,9 @@ pub fn leaf_members<'t>(
     scene: Scene<'t>,
     number: u32,
 ) -> Result<Vec<Member<'t>>, EvalFault>
-    ensures exact { IfOk result (λ v. IsSetOf scene.entry.leaves.now scene.entry.bytes.now (leaf number) v.items) }
-    ensures few { IfOk result (λ _. Over scene.entry.leaves.now scene.entry.bytes.now (leaf number) None) }
-    ensures crowded { IfErr result (IsFaultFrom (Over scene.entry.leaves.now scene.entry.bytes.now (leaf number))) }
+    ensures exact { IfOk result (λ v. IsSetOf scene.entry.leaves.now scene.entry.rx.now scene.entry.view.now.bytes (leaf number) v.items) }
+    ensures few { IfOk result (λ _. Over scene.entry.leaves.now scene.entry.rx.now scene.entry.view.now.bytes (leaf number) None) }
+    ensures crowded { IfErr result (IsFaultFrom (Over scene.entry.leaves.now scene.entry.rx.now scene.entry.view.now.bytes (leaf number))) }
 {
     match scene.leaves.get(number as usize) {
         None => Ok(Vec::new(alloc)),

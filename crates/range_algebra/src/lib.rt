@@ -14,6 +14,7 @@ mod order;
 mod part;
 mod range;
 mod scene;
+mod search;
 mod set;
 mod state;
 

@@ -95,7 +95,7 @@ pub fn operands<'s, 't>(
     parts: &'s [Part<'t>],
 ) -> Result<Vec<Operand<'s, 't>>, Memory>
     requires { length parts.now ≡ length children.now }
-    ensures { IfOk result (λ v. (leaves : list leaf) (bytes : list ℕ) → AreParts leaves bytes (branches_of (map branch_of children.now)) parts.now → AreOperands leaves bytes role 0 (branches_of (map branch_of children.now)) v.items) }
+    ensures { IfOk result (λ v. (leaves : list leaf) (texts : list (list ℕ)) (bytes : list ℕ) → AreParts leaves texts bytes (branches_of (map branch_of children.now)) parts.now → AreOperands leaves texts bytes role 0 (branches_of (map branch_of children.now)) v.items) }
 {
     let mut operands = Vec::new(alloc);
     for (number, child) in children.iter().enumerate() {

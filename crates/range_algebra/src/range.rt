@@ -2,7 +2,7 @@
 
 ghost use Rattle.std.specs.Prelude.{◌≡◌, ◌↔◌, ◌≤◌, IsTrue};
 ghost use Rattle.range_algebra.specs.Joins.{meet as shared, same_range};
-ghost use Rattle.range_algebra.specs.Ranges.{IsWithin};
+ghost use Rattle.range_algebra.specs.Ranges.{IsWithin, ShareByte};
 
 use node_tree::Span;
 
@@ -22,6 +22,13 @@ pub fn touches(a: Span, b: Span) -> bool
     ensures { IsTrue result ↔ ((shared a b).from ≤ (shared a b).to) }
 {
     a.from.max(b.from) <= a.to.min(b.to)
+}
+
+/// Whether a byte lies in both ranges.
+pub fn shares_byte(a: Span, b: Span) -> bool
+    ensures { IsTrue result ↔ ShareByte a b }
+{
+    a.from.max(b.from) < a.to.min(b.to)
 }
 
 /// Whether the ranges are one.

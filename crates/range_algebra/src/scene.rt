@@ -1,14 +1,16 @@
 //! What a formula is looked at in.
 
 use meta_bind::Trail;
-use node_tree::{List, Span};
+use node_tree::{FileView, List, Span};
+use rx_text::Rx;
 use tree_match::Leaf;
 
-/// A file, and the members of each pattern in it.
+/// A file, and by number the members of each pattern in it and the regular expressions of the rule.
 #[derive(Clone, Copy)]
 pub struct Scene<'t> {
-    pub bytes: &'t [u8],
+    pub view: &'t FileView,
     pub leaves: &'t List<Leaf>,
+    pub rx: &'t List<Rx>,
 }
 
 /// A range and what the metavariables stand for there.

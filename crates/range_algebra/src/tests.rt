@@ -1,4 +1,5 @@
-ghost use Rattle.std.specs.Prelude.{◌≡◌, ◌<◌, ◌≤◌, length};
+ghost use Rattle.std.specs.Prelude.{◌≡◌, ◌<◌, ◌≤◌, All, IfOk, length};
+ghost use Rattle.tree_match.specs.Placed.{IsLeafPlaced};
 
 use super::*;
 use json_tree::read_json;
@@ -6,6 +7,7 @@ use node_tree::{
     Bytes, FileView, Lang, List, Memory, Mode, Pattern, ReadFault, Shape, Steps, Text,
 };
 use rule_form::{Amount, Child, CompareOp, Comparison, Formula};
+use rx_text::{BuildFault, Patterns, RealPatterns, Rx};
 use std::alloc::Global;
 use std::marker::Brand;
 use std::sync::ledger::{Blank, Ledger};
@@ -62,6 +64,20 @@ fn read_all(alloc: Global, texts: &[&str]) -> Result<List<Pattern>, Memory> {
     Ok(patterns)
 }
 
+// The regular expressions of these texts, but for those that are none.
+fn build_all(alloc: Global, texts: &[&str]) -> Result<List<Rx>, Memory> {
+    let mut builder = RealPatterns::new(alloc);
+    let mut built = List::new(alloc);
+    for text in texts {
+        match builder.build(text) {
+            Ok(rx) => built.push(rx)?,
+            Err(BuildFault::Memory) => return Err(Memory),
+            Err(BuildFault::Refused) => {}
+        }
+    }
+    Ok(built)
+}
+
 // The sets of these patterns.
 fn leaves<L: Ledger>(
     alloc: Global,
@@ -72,6 +88,7 @@ fn leaves<L: Ledger>(
     requires name { blank.name ≡ L.name }
     requires parts { blank.parts ≡ L.parts }
     requires some { 0 < L.parts }
+    ensures { IfOk result (All (λ leaf. IsLeafPlaced view.now.bytes leaf)) }
 {
     let mut steps = Steps::<L>::new(blank);
     let mut leaves = List::new(alloc);
@@ -82,7 +99,9 @@ fn leaves<L: Ledger>(
 }
 
 // The same, counted by steps of their own.
-fn sets(alloc: Global, view: &FileView, patterns: &[Pattern]) -> Result<List<Leaf>, Memory> {
+fn sets(alloc: Global, view: &FileView, patterns: &[Pattern]) -> Result<List<Leaf>, Memory>
+    ensures { IfOk result (All (λ leaf. IsLeafPlaced view.now.bytes leaf)) }
+{
     leaves::<Brand>(alloc, Blank::new(1), view, patterns)
 }
 
@@ -102,11 +121,12 @@ fn lines(alloc: Global, set: &MatchSet) -> Result<String, Memory> {
     Ok(lines)
 }
 
-// The answer to `patterns` of these children over the patterns, in the file of that text.
-fn answer(
+// The answer to `patterns` of these children over the patterns and regular expressions, in the file of that text.
+fn searched(
     alloc: Global,
     text: &str,
     patterns: &[&str],
+    expressions: &[&str],
     children: List<Child>,
 ) -> Result<String, Memory> {
     let Some(view) = file(alloc, text)? else {
@@ -114,7 +134,8 @@ fn answer(
     };
     let patterns = read_all(alloc, patterns)?;
     let leaves = sets(alloc, &view, patterns.as_slice())?;
-    match eval(alloc, &view, &Formula::All(children), &leaves) {
+    let mut rx = build_all(alloc, expressions)?;
+    match eval(alloc, &view, &Formula::All(children), &leaves, &mut rx) {
         Err(EvalFault::Memory) => Err(Memory),
         Err(EvalFault::Crowded(numbers)) => {
             let mut crowded = String::from_str(alloc, "crowded")?;
@@ -125,6 +146,16 @@ fn answer(
         }
         Ok(set) => lines(alloc, &set),
     }
+}
+
+// The same without regular expressions.
+fn answer(
+    alloc: Global,
+    text: &str,
+    patterns: &[&str],
+    children: List<Child>,
+) -> Result<String, Memory> {
+    searched(alloc, text, patterns, &[], children)
 }
 
 // The patterns with these numbers, as operands.
@@ -149,16 +180,27 @@ fn ranges_meet_in_one_of_them(rt: HostRuntime) -> Result<(), Fail> {
     Ok(())
 }
 
-// The answer to `patterns` of the pattern with that number and this child.
-fn with(alloc: Global, number: u32, child: Child) -> Result<String, Memory> {
+// The answer to `patterns` of the pattern with that number and this child, over the regular expressions.
+fn with_regex(
+    alloc: Global,
+    expressions: &[&str],
+    number: u32,
+    child: Child,
+) -> Result<String, Memory> {
     let mut children = positives(alloc, &[number])?;
     children.push(child)?;
-    answer(
+    searched(
         alloc,
         "{\"k\":[1,\"s\"]}",
         &["$X", "[..., $Y, ...]", "\"...\""],
+        expressions,
         children,
     )
+}
+
+// The same without regular expressions.
+fn with(alloc: Global, number: u32, child: Child) -> Result<String, Memory> {
+    with_regex(alloc, &[], number, child)
 }
 
 // The name `$Y`.
@@ -234,5 +276,77 @@ fn prefixes_count(rt: HostRuntime) -> Result<(), Fail> {
     let alloc = rt.alloc();
     assert!(rt; pairs(alloc, 101)?.as_str() == "crowded 1");
     assert!(rt; pairs(alloc, 100)?.as_str().lines().count() == 10000);
+    Ok(())
+}
+
+#[test]
+fn matches_are_members(rt: HostRuntime) -> Result<(), Fail> {
+    let alloc = rt.alloc();
+    let digit = Child::Positive(Formula::Regex(0));
+    let digits = with_regex(alloc, &["[0-9],"], 0, digit)?;
+    assert!(rt; digits.as_str() == "6..7 $X=6..7\n6..8 $X=0..13\n6..8 $X=5..12\n");
+    let strings = Child::Inside(Formula::Regex(1));
+    let inside = with_regex(alloc, &["1", "\"[a-z]\""], 0, strings)?;
+    assert!(rt; inside.as_str() == "1..4 $X=1..4\n8..11 $X=8..11\n");
+    let missing = Child::Positive(Formula::Regex(2));
+    assert!(rt; with_regex(alloc, &["1", "k"], 0, missing)?.is_empty());
+    Ok(())
+}
+
+#[test]
+fn matches_take_away(rt: HostRuntime) -> Result<(), Fail> {
+    let alloc = rt.alloc();
+    let letter = with_regex(alloc, &["s"], 0, Child::NotRegex(0))?;
+    assert!(rt; letter.as_str() == "1..4 $X=1..4\n6..7 $X=6..7\n");
+    let across = with_regex(alloc, &["1,|k\":"], 0, Child::NotRegex(0))?;
+    assert!(rt; across.as_str() == "8..11 $X=8..11\n");
+    let missing = with_regex(alloc, &["s"], 1, Child::NotRegex(1))?;
+    assert!(rt; missing.as_str() == "5..12 $Y=6..7\n5..12 $Y=8..11\n");
+    let mut children = List::new(alloc);
+    children.push(Child::NotRegex(0))?;
+    let bare = Child::MetaPattern(name(alloc)?, Formula::All(children));
+    assert!(rt; with_regex(alloc, &["1"], 1, bare)?.as_str() == "5..12 $Y=8..11\n");
+    Ok(())
+}
+
+// The answer to `patterns` of `[..., $Y, ...]` and that the regular expression matches what `$Y` stands for.
+fn bound(alloc: Global, expression: &str) -> Result<String, Memory> {
+    with_regex(alloc, &[expression], 1, Child::MetaRegex(name(alloc)?, 0))
+}
+
+#[test]
+fn bound_texts_match(rt: HostRuntime) -> Result<(), Fail> {
+    let alloc = rt.alloc();
+    assert!(rt; bound(alloc, "^[0-9]$")?.as_str() == "5..12 $Y=6..7\n");
+    assert!(rt; bound(alloc, "\"s\"$")?.as_str() == "5..12 $Y=8..11\n");
+    assert!(rt; bound(alloc, "s")?.is_empty());
+    assert!(rt; bound(alloc, "")?.as_str() == "5..12 $Y=6..7\n5..12 $Y=8..11\n");
+    let unbound = Child::MetaRegex(Text::from_str(alloc, "$X")?, 0);
+    assert!(rt; with_regex(alloc, &[""], 1, unbound)?.is_empty());
+    let missing = Child::MetaRegex(name(alloc)?, 1);
+    assert!(rt; with_regex(alloc, &[""], 1, missing)?.is_empty());
+    Ok(())
+}
+
+// The answer to `patterns` of `$X` and a child with the regular expression `a`, in a string of so many.
+fn letters(alloc: Global, many: u32, child: Child) -> Result<String, Memory> {
+    let mut text = String::from_str(alloc, "\"")?;
+    for _ in 0..many {
+        text.push_str("a")?;
+    }
+    text.push_str("\"")?;
+    let mut children = positives(alloc, &[0])?;
+    children.push(child)?;
+    searched(alloc, text.as_str(), &["$X"], &["a"], children)
+}
+
+#[test]
+fn matches_count(rt: HostRuntime) -> Result<(), Fail> {
+    let alloc = rt.alloc();
+    let many = letters(alloc, 10001, Child::Positive(Formula::Regex(0)))?;
+    assert!(rt; many.as_str() == "crowded 1");
+    let few = letters(alloc, 10000, Child::Positive(Formula::Regex(0)))?;
+    assert!(rt; few.as_str().lines().count() == 10000);
+    assert!(rt; letters(alloc, 10001, Child::NotRegex(0))?.is_empty());
     Ok(())
 }

@@ -7,4 +7,4 @@ use Rattle.range_algebra.proofs.all.shown_of.Given as goal
 
 abbrev pub invariant-loop-one : goal.invariant-loop-one
 invariant-loop-one l =
-    (m : Member) → (Among l.members.items m ⊎ IsShownOfSome l.scene.leaves.now l.scene.bytes.now (branches_of (map branch_of l.children)) (drop l.one-index l.chosen) m) ↔ IsShownOfSome l.scene.leaves.now l.scene.bytes.now (branches_of (map branch_of l.children)) l.chosen m
+    (m : Member) → (Among l.members.items m ⊎ IsShownOfSome l.scene.leaves.now l.scene.rx.now l.scene.view.now.bytes (branches_of (map branch_of l.children)) (drop l.one-index l.chosen) m) ↔ IsShownOfSome l.scene.leaves.now l.scene.rx.now l.scene.view.now.bytes (branches_of (map branch_of l.children)) l.chosen m
