@@ -12,12 +12,12 @@ use Rattle.semscan.specs.Scan.{Scans}
 abbrev pub AreOtherWords : List (List ℕ) → Type 0
 AreOtherWords words = (request : Request) → IsCommand words request → ⊥
 
--- How a run ends, and the lines that it prints, by its words and by what its source and its tree tell, where no fault is met
--- and memory is not wanting.
-pub data Ends (words : List (List ℕ)) (left : Option (List ℕ)) (told : Option Files) : Status → List (List ℕ) → Type 0 where
-  usage : AreOtherWords words → Ends words left told Usage []
-  matched : (lang : Lang) (text : List ℕ) (status : Status) (lines : List (List ℕ)) → IsCommand words (Matching lang text) → Matches lang text left status lines → Ends words left told status lines
-  scanned : (task : Task) (status : Status) (lines : List (List ℕ)) → IsCommand words (Scanning task) → Scans task told status lines → Ends words left told status lines
+-- How a run ends, and the lines that it prints, by its words, by what its source and its tree tell, and by the texts of regular
+-- expressions that its builder refused, where no fault is met and memory is not wanting.
+pub data Ends (words : List (List ℕ)) (left : Option (List ℕ)) (told : Option Files) (refused : List (List ℕ)) : Status → List (List ℕ) → Type 0 where
+  usage : AreOtherWords words → Ends words left told refused Usage []
+  matched : (lang : Lang) (text : List ℕ) (status : Status) (lines : List (List ℕ)) → IsCommand words (Matching lang text) → Matches lang text left status lines → Ends words left told refused status lines
+  scanned : (task : Task) (status : Status) (lines : List (List ℕ)) → IsCommand words (Scanning task) → Scans task told refused status lines → Ends words left told refused status lines
 
 -- what a request reads is told: a match its input, a scan its files
 abbrev pub IsTold : Option (List ℕ) → Option Files → Request → Type 0

@@ -3,6 +3,7 @@
 
 ghost use Rattle.std.specs.Prelude.{◌≡◌, ◌<◌, map, string_bytes};
 ghost use Rattle.scan_world.specs.Faults.{Rose};
+ghost use Rattle.scan_session.specs.Refused.{gained};
 ghost use Rattle.semscan.specs.Status.{IsAnswer};
 ghost use Rattle.semscan.specs.Ways.{Printed};
 ghost use Rattle.semscan.specs.Run.{Ends};
@@ -23,6 +24,7 @@ use crate::folder::FolderTree;
 use crate::run::run;
 use crate::status::Status;
 use node_tree::Steps;
+use rx_text::{Patterns, RealPatterns};
 use scan_world::{Sink, Source, Tree};
 use std::alloc::Global;
 use std::marker::Brand;
@@ -36,12 +38,14 @@ fn main(rt: HostRuntime) -> io::Result<ExitCode> {
             let mut tree = FolderTree::new(rt);
             let mut input = StdinSource::new(rt.stdin());
             let mut out = StdoutSink::new(rt.stdout());
-            counted::<_, _, _, Brand>(
+            let mut patterns = RealPatterns::new(rt.alloc());
+            counted::<_, _, _, _, Brand>(
                 rt.alloc(),
                 &words,
                 &mut tree,
                 &mut input,
                 &mut out,
+                &mut patterns,
                 Blank::new(1),
             )
         }
@@ -68,24 +72,25 @@ fn words_of(rt: &HostRuntime) -> Result<Vec<String>, Status> {
 }
 
 // Runs with a counter of its own.
-fn counted<T: Tree, S: Source, K: Sink, L: Ledger>(
+fn counted<T: Tree, S: Source, K: Sink, P: Patterns, L: Ledger>(
     alloc: Global,
     words: &Vec<String>,
     tree: &mut T,
     input: &mut S,
     out: &mut K,
+    patterns: &mut P,
     blank: Blank,
 ) -> Status
     requires name { blank.name ≡ L.name }
     requires parts { blank.parts ≡ L.parts }
     requires some { 0 < L.parts }
-    ensures ends { IsAnswer result → Printed (Ends (map string_bytes words.now.items) (S.left input.old) (T.files tree.old)) (K.written out.old) (K.written out.new) result }
+    ensures ends { IsAnswer result → Printed (Ends (map string_bytes words.now.items) (S.left input.old) (T.files tree.old) (gained (P.refusals patterns.old) (P.refusals patterns.new))) (K.written out.old) (K.written out.new) result }
     ensures tree_fault { result ≡ Status.TreeFault → Rose (T.faults tree.old) (T.faults tree.new) }
     ensures input_fault { result ≡ Status.InputFault → Rose (S.faults input.old) (S.faults input.new) }
     ensures output_fault { result ≡ Status.OutputFault → Rose (K.faults out.old) (K.faults out.new) }
 {
     let mut steps = Steps::<L>::new(blank);
-    run(alloc, words, tree, input, out, &mut steps)
+    run(alloc, words, tree, input, out, patterns, &mut steps)
 }
 
 // The line of a status on standard error.

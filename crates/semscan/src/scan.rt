@@ -6,6 +6,7 @@ ghost use Rattle.scan_world.specs.Trees.{KeepsFiles};
 ghost use Rattle.tree_match.specs.Ascending.{IsAscending};
 ghost use Rattle.wire_words.specs.Commands.{task_of};
 ghost use Rattle.scan_session.specs.Fresh.{file_cmp};
+ghost use Rattle.scan_session.specs.Refused.{Gains, gained};
 ghost use Rattle.semscan.specs.Status.{IsAnswer, IsFinished, IsOfReport};
 ghost use Rattle.semscan.specs.Ways.{Printed, PrintedFront, IsOnlyEnd};
 ghost use Rattle.semscan.specs.Scan.{status_of, ReportEnds, IsOneReport, Scans};
@@ -15,6 +16,7 @@ use crate::status::Status;
 use crate::taking::read_files;
 use finding_json::{Report, report_text};
 use node_tree::{Bytes, List, Memory, Steps, Text};
+use rx_text::Patterns;
 use scan_session::{RuleFile, ScanFault, scan_files};
 use scan_world::{Sink, Tree};
 use std::alloc::Global;
@@ -42,27 +44,29 @@ fn one_file(alloc: Global, rules: RuleFile) -> Result<List<RuleFile>, Memory>
 }
 
 // Prints the report of a scan of these files, in one write.
-fn print_report<K: Sink, L: Ledger>(
+fn print_report<K: Sink, P: Patterns, L: Ledger>(
     alloc: Global,
     job: &Job<'_>,
     files: &List<(Text, Bytes)>,
     rules: RuleFile,
     out: &mut K,
+    patterns: &mut P,
     steps: &mut Steps<L>,
 ) -> Status
     requires { IsAscending file_cmp files.now }
-    ensures ends { IsAnswer result → Printed (ReportEnds job.now.flag job.now.most files.now rules) (K.written out.old) (K.written out.new) result }
-    ensures one_report { IsFinished result → IsOneReport files.now rules }
+    ensures ends { IsAnswer result → Printed (ReportEnds job.now.flag job.now.most (gained (P.refusals patterns.old) (P.refusals patterns.new)) files.now rules) (K.written out.old) (K.written out.new) result }
+    ensures one_report { IsFinished result → IsOneReport (gained (P.refusals patterns.old) (P.refusals patterns.new)) files.now rules }
     ensures cause { IsOfReport result }
     ensures unwritten { result ≡ Status.Memory → K.written out.new ≡ K.written out.old }
     ensures output_kept { IsAnswer result → K.faults out.new ≡ K.faults out.old }
     ensures output_fault { result ≡ Status.OutputFault → Rose (K.faults out.old) (K.faults out.new) }
-    ensures front_written { result ≡ Status.OutputFault → PrintedFront (ReportEnds job.now.flag job.now.most files.now rules) (K.written out.old) (K.written out.new) }
+    ensures front_written { result ≡ Status.OutputFault → PrintedFront (ReportEnds job.now.flag job.now.most (gained (P.refusals patterns.old) (P.refusals patterns.new)) files.now rules) (K.written out.old) (K.written out.new) }
+    ensures patterns_grow { Gains (P.refusals patterns.old) (P.refusals patterns.new) }
 {
     let Ok(all) = one_file(alloc, rules) else {
         return Status::Memory;
     };
-    let report = match scan_files(alloc, files, &all, job.most, steps) {
+    let report = match scan_files(alloc, files, &all, job.most, patterns, steps) {
         Ok(report) => report,
         Err(ScanFault::Memory) => return Status::Memory,
         Err(ScanFault::TooMany(_)) => return Status::TooMany(job.most),
@@ -76,16 +80,18 @@ fn print_report<K: Sink, L: Ledger>(
     }
 }
 
-/// Prints what the rules of the job's config find in the files under its prefix, as `specs/Scan.antt` says.
-pub fn run_scan<T: Tree, K: Sink, L: Ledger>(
+/// Prints what the rules of the job's config find in the files under its prefix, as `specs/Scan.antt` says. Regular expressions
+/// are built by `patterns`.
+pub fn run_scan<T: Tree, K: Sink, P: Patterns, L: Ledger>(
     alloc: Global,
     job: &Job<'_>,
     tree: &mut T,
     out: &mut K,
+    patterns: &mut P,
     steps: &mut Steps<L>,
 ) -> Status
-    ensures ends { IsAnswer result → Printed (Scans (task_of job.now) (T.files tree.old)) (K.written out.old) (K.written out.new) result }
-    ensures only { IsAnswer result → IsSome (T.files tree.old) → IsOnlyEnd (Scans (task_of job.now) (T.files tree.old)) (K.written out.old) (K.written out.new) result }
+    ensures ends { IsAnswer result → Printed (Scans (task_of job.now) (T.files tree.old) (gained (P.refusals patterns.old) (P.refusals patterns.new))) (K.written out.old) (K.written out.new) result }
+    ensures only { IsAnswer result → IsSome (T.files tree.old) → IsOnlyEnd (Scans (task_of job.now) (T.files tree.old) (gained (P.refusals patterns.old) (P.refusals patterns.new))) (K.written out.old) (K.written out.new) result }
     ensures files_kept { KeepsFiles (T.files tree.old) (T.files tree.new) }
     ensures tree_kept { IsAnswer result → T.faults tree.new ≡ T.faults tree.old }
     ensures output_kept { IsAnswer result → K.faults out.new ≡ K.faults out.old }
@@ -95,7 +101,8 @@ pub fn run_scan<T: Tree, K: Sink, L: Ledger>(
     ensures nothing_written { result ≡ Status.TreeFault → K.written out.new ≡ K.written out.old }
     ensures unwritten { result ≡ Status.Memory → K.written out.new ≡ K.written out.old }
     ensures output_fault { result ≡ Status.OutputFault → Rose (K.faults out.old) (K.faults out.new) }
-    ensures front_written { result ≡ Status.OutputFault → PrintedFront (Scans (task_of job.now) (T.files tree.old)) (K.written out.old) (K.written out.new) }
+    ensures front_written { result ≡ Status.OutputFault → PrintedFront (Scans (task_of job.now) (T.files tree.old) (gained (P.refusals patterns.old) (P.refusals patterns.new))) (K.written out.old) (K.written out.new) }
+    ensures patterns_grow { Gains (P.refusals patterns.old) (P.refusals patterns.new) }
 {
     let rules = match read_config(alloc, tree, job.config) {
         Ok(rules) => rules,
@@ -105,5 +112,5 @@ pub fn run_scan<T: Tree, K: Sink, L: Ledger>(
         Ok(files) => files,
         Err(status) => return status,
     };
-    print_report(alloc, job, &files, rules, out, steps)
+    print_report(alloc, job, &files, rules, out, patterns, steps)
 }

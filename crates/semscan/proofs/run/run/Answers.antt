@@ -1,10 +1,11 @@
-use Rattle.std.proofs.Common.{◌≡◌, ℕ, List, map, string_bytes, subst, inl, inr, refl}
+use Rattle.std.proofs.Common.{◌≡◌, ℕ, List, [], map, string_bytes, subst, inl, inr, refl}
 use Rattle.wire_words.specs.declared.command.Command.{Command}
 use Rattle.wire_words.specs.Commands.{Request, IsCommand, request, task_of}
 use Rattle.semscan.specs.declared.status.Status.{Status}
 use Rattle.semscan.specs.declared.status.Status.TheVariants as statuses
 use Rattle.semscan.specs.Status.{IsOfMatch}
 use Rattle.semscan.proofs.Files.{keeps_self}
+use Rattle.semscan.proofs.Scans.{gains_none}
 use Rattle.semscan.proofs.Requests.{ends_usage, only_usage, ends_match, only_match, front_match, some_match, ends_scan, only_scan, front_scan, no_match}
 use Rattle.semscan.proofs.run.run.Goals as goal
 
@@ -19,10 +20,10 @@ match_at : (s t : Status) → IsOfMatch s → s ≡ t → IsOfMatch t
 match_at s t h e = subst (λ (x : Status). IsOfMatch x) e h
 
 pub returns-in-None-clause-ends : goal.returns-in-None-clause-ends
-returns-in-None-clause-ends g c a = ends_usage (map string_bytes c.args.words.now.items) (g.S.Source.left c.args.input.now) (g.T.Tree.files c.args.tree.now) (g.K.Sink.written c.args.out.now) c.in-None.ensures.only
+returns-in-None-clause-ends g c a = ends_usage (map string_bytes c.args.words.now.items) (g.S.Source.left c.args.input.now) (g.T.Tree.files c.args.tree.now) _ (g.K.Sink.written c.args.out.now) c.in-None.ensures.only
 
 pub returns-in-None-clause-only : goal.returns-in-None-clause-only
-returns-in-None-clause-only g c a told = only_usage (map string_bytes c.args.words.now.items) (g.S.Source.left c.args.input.now) (g.T.Tree.files c.args.tree.now) (g.K.Sink.written c.args.out.now) c.in-None.ensures.only
+returns-in-None-clause-only g c a told = only_usage (map string_bytes c.args.words.now.items) (g.S.Source.left c.args.input.now) (g.T.Tree.files c.args.tree.now) _ (g.K.Sink.written c.args.out.now) c.in-None.ensures.only
 
 pub returns-in-None-clause-files_kept : goal.returns-in-None-clause-files_kept
 returns-in-None-clause-files_kept g c = keeps_self (g.T.Tree.files c.args.tree.now)
@@ -30,16 +31,22 @@ returns-in-None-clause-files_kept g c = keeps_self (g.T.Tree.files c.args.tree.n
 pub returns-in-None-clause-nothing_written : goal.returns-in-None-clause-nothing_written
 returns-in-None-clause-nothing_written g c e = refl
 
+pub returns-in-None-clause-patterns_grow : goal.returns-in-None-clause-patterns_grow
+returns-in-None-clause-patterns_grow g c = gains_none (g.P.Patterns.refusals c.args.patterns.now)
+
+pub returns-in-None-clause-patterns_kept : goal.returns-in-None-clause-patterns_kept
+returns-in-None-clause-patterns_kept g c nay = refl
+
 pub returns-in-Some-Match-clause-ends : goal.returns-in-Some-Match-clause-ends
 returns-in-Some-Match-clause-ends g c a =
     let is = asks (map string_bytes c.args.words.now.items) _ _ c.in-Some-Match.field-0-is c.in-Some-Match.ensures.read in
-    ends_match (map string_bytes c.args.words.now.items) (g.S.Source.left c.args.input.now) (g.T.Tree.files c.args.tree.now) (g.K.Sink.written c.args.out.now) (g.K.Sink.written c.run_match.new.out) c.in-Some-Match.lang c.in-Some-Match.text.now is c.run_match.result (c.run_match.ensures.ends a)
+    ends_match (map string_bytes c.args.words.now.items) (g.S.Source.left c.args.input.now) (g.T.Tree.files c.args.tree.now) _ (g.K.Sink.written c.args.out.now) (g.K.Sink.written c.run_match.new.out) c.in-Some-Match.lang c.in-Some-Match.text.now is c.run_match.result (c.run_match.ensures.ends a)
 
 pub returns-in-Some-Match-clause-only : goal.returns-in-Some-Match-clause-only
 returns-in-Some-Match-clause-only g c a told =
     let words = map string_bytes c.args.words.now.items in
     let is = asks words _ _ c.in-Some-Match.field-0-is c.in-Some-Match.ensures.read in
-    only_match words (g.S.Source.left c.args.input.now) (g.T.Tree.files c.args.tree.now) (g.K.Sink.written c.args.out.now) (g.K.Sink.written c.run_match.new.out) c.in-Some-Match.lang c.in-Some-Match.text.now is (only_asks words _ _ c.in-Some-Match.field-0-is c.in-Some-Match.ensures.only) c.run_match.result told (c.run_match.ensures.only a)
+    only_match words (g.S.Source.left c.args.input.now) (g.T.Tree.files c.args.tree.now) _ (g.K.Sink.written c.args.out.now) (g.K.Sink.written c.run_match.new.out) c.in-Some-Match.lang c.in-Some-Match.text.now is (only_asks words _ _ c.in-Some-Match.field-0-is c.in-Some-Match.ensures.only) c.run_match.result told (c.run_match.ensures.only a)
 
 pub returns-in-Some-Match-clause-read_to_its_end : goal.returns-in-Some-Match-clause-read_to_its_end
 returns-in-Some-Match-clause-read_to_its_end g c ask = c.run_match.ensures.read_to_its_end
@@ -60,32 +67,38 @@ returns-in-Some-Match-clause-nothing_written g c h =
 pub returns-in-Some-Match-clause-front_written : goal.returns-in-Some-Match-clause-front_written
 returns-in-Some-Match-clause-front_written g c e =
     let is = asks (map string_bytes c.args.words.now.items) _ _ c.in-Some-Match.field-0-is c.in-Some-Match.ensures.read in
-    front_match (map string_bytes c.args.words.now.items) (g.S.Source.left c.args.input.now) (g.T.Tree.files c.args.tree.now) (g.K.Sink.written c.args.out.now) (g.K.Sink.written c.run_match.new.out) c.in-Some-Match.lang c.in-Some-Match.text.now is (c.run_match.ensures.front_written e)
+    front_match (map string_bytes c.args.words.now.items) (g.S.Source.left c.args.input.now) (g.T.Tree.files c.args.tree.now) _ (g.K.Sink.written c.args.out.now) (g.K.Sink.written c.run_match.new.out) c.in-Some-Match.lang c.in-Some-Match.text.now is (c.run_match.ensures.front_written e)
 
 pub returns-in-Some-Match-clause-whole_lines : goal.returns-in-Some-Match-clause-whole_lines
 returns-in-Some-Match-clause-whole_lines g c e =
     let is = asks (map string_bytes c.args.words.now.items) _ _ c.in-Some-Match.field-0-is c.in-Some-Match.ensures.read in
-    some_match (map string_bytes c.args.words.now.items) (g.S.Source.left c.args.input.now) (g.T.Tree.files c.args.tree.now) (g.K.Sink.written c.args.out.now) (g.K.Sink.written c.run_match.new.out) c.in-Some-Match.lang c.in-Some-Match.text.now is (c.run_match.ensures.whole_lines e)
+    some_match (map string_bytes c.args.words.now.items) (g.S.Source.left c.args.input.now) (g.T.Tree.files c.args.tree.now) _ (g.K.Sink.written c.args.out.now) (g.K.Sink.written c.run_match.new.out) c.in-Some-Match.lang c.in-Some-Match.text.now is (c.run_match.ensures.whole_lines e)
 
 pub returns-in-Some-Match-clause-work : goal.returns-in-Some-Match-clause-work
 returns-in-Some-Match-clause-work g c nay = c.run_match.ensures.work
 
+pub returns-in-Some-Match-clause-patterns_grow : goal.returns-in-Some-Match-clause-patterns_grow
+returns-in-Some-Match-clause-patterns_grow g c = gains_none (g.P.Patterns.refusals c.args.patterns.now)
+
+pub returns-in-Some-Match-clause-patterns_kept : goal.returns-in-Some-Match-clause-patterns_kept
+returns-in-Some-Match-clause-patterns_kept g c nay = refl
+
 pub returns-in-Some-Scan-clause-ends : goal.returns-in-Some-Scan-clause-ends
 returns-in-Some-Scan-clause-ends g c a =
     let is = asks (map string_bytes c.args.words.now.items) _ _ c.in-Some-Scan.field-0-is c.in-Some-Scan.ensures.read in
-    ends_scan (map string_bytes c.args.words.now.items) (g.S.Source.left c.args.input.now) (g.T.Tree.files c.args.tree.now) (g.K.Sink.written c.args.out.now) (g.K.Sink.written c.run_scan.new.out) (task_of c.in-Some-Scan.job) is c.run_scan.result (c.run_scan.ensures.ends a)
+    ends_scan (map string_bytes c.args.words.now.items) (g.S.Source.left c.args.input.now) (g.T.Tree.files c.args.tree.now) _ (g.K.Sink.written c.args.out.now) (g.K.Sink.written c.run_scan.new.out) (task_of c.in-Some-Scan.job) is c.run_scan.result (c.run_scan.ensures.ends a)
 
 pub returns-in-Some-Scan-clause-only : goal.returns-in-Some-Scan-clause-only
 returns-in-Some-Scan-clause-only g c a told =
     let words = map string_bytes c.args.words.now.items in
     let is = asks words _ _ c.in-Some-Scan.field-0-is c.in-Some-Scan.ensures.read in
-    only_scan words (g.S.Source.left c.args.input.now) (g.T.Tree.files c.args.tree.now) (g.K.Sink.written c.args.out.now) (g.K.Sink.written c.run_scan.new.out) (task_of c.in-Some-Scan.job) is (only_asks words _ _ c.in-Some-Scan.field-0-is c.in-Some-Scan.ensures.only) c.run_scan.result told (c.run_scan.ensures.only a)
+    only_scan words (g.S.Source.left c.args.input.now) (g.T.Tree.files c.args.tree.now) _ (g.K.Sink.written c.args.out.now) (g.K.Sink.written c.run_scan.new.out) (task_of c.in-Some-Scan.job) is (only_asks words _ _ c.in-Some-Scan.field-0-is c.in-Some-Scan.ensures.only) c.run_scan.result told (c.run_scan.ensures.only a)
 
 pub returns-in-Some-Scan-clause-read_to_its_end : goal.returns-in-Some-Scan-clause-read_to_its_end
 returns-in-Some-Scan-clause-read_to_its_end g c ask =
     let words = map string_bytes c.args.words.now.items in
     let is = asks words _ _ c.in-Some-Scan.field-0-is c.in-Some-Scan.ensures.read in
-    let none : ⊥ = no_match words (g.S.Source.left c.args.input.now) (g.T.Tree.files c.args.tree.now) (g.K.Sink.written c.args.out.now) (g.K.Sink.written c.args.out.now) (task_of c.in-Some-Scan.job) is
+    let none : ⊥ = no_match words (g.S.Source.left c.args.input.now) (g.T.Tree.files c.args.tree.now) [] (g.K.Sink.written c.args.out.now) (g.K.Sink.written c.args.out.now) (task_of c.in-Some-Scan.job) is
     (only_asks words _ _ c.in-Some-Scan.field-0-is c.in-Some-Scan.ensures.only) ask in
     absurd none
 
@@ -98,12 +111,17 @@ returns-in-Some-Scan-clause-nothing_written g c h = elim h [ inl e ↦ absurd (c
 pub returns-in-Some-Scan-clause-front_written : goal.returns-in-Some-Scan-clause-front_written
 returns-in-Some-Scan-clause-front_written g c e =
     let is = asks (map string_bytes c.args.words.now.items) _ _ c.in-Some-Scan.field-0-is c.in-Some-Scan.ensures.read in
-    front_scan (map string_bytes c.args.words.now.items) (g.S.Source.left c.args.input.now) (g.T.Tree.files c.args.tree.now) (g.K.Sink.written c.args.out.now) (g.K.Sink.written c.run_scan.new.out) (task_of c.in-Some-Scan.job) is (c.run_scan.ensures.front_written e)
+    front_scan (map string_bytes c.args.words.now.items) (g.S.Source.left c.args.input.now) (g.T.Tree.files c.args.tree.now) _ (g.K.Sink.written c.args.out.now) (g.K.Sink.written c.run_scan.new.out) (task_of c.in-Some-Scan.job) is (c.run_scan.ensures.front_written e)
 
 pub returns-in-Some-Scan-clause-whole_lines : goal.returns-in-Some-Scan-clause-whole_lines
 returns-in-Some-Scan-clause-whole_lines g c e = inl (c.run_scan.ensures.unwritten e)
 
 pub returns-in-Some-Scan-clause-work : goal.returns-in-Some-Scan-clause-work
 returns-in-Some-Scan-clause-work g c nay =
+    let is = asks (map string_bytes c.args.words.now.items) _ _ c.in-Some-Scan.field-0-is c.in-Some-Scan.ensures.read in
+    absurd (nay (task_of c.in-Some-Scan.job) is)
+
+pub returns-in-Some-Scan-clause-patterns_kept : goal.returns-in-Some-Scan-clause-patterns_kept
+returns-in-Some-Scan-clause-patterns_kept g c nay =
     let is = asks (map string_bytes c.args.words.now.items) _ _ c.in-Some-Scan.field-0-is c.in-Some-Scan.ensures.read in
     absurd (nay (task_of c.in-Some-Scan.job) is)

@@ -3,16 +3,16 @@ use Rattle.wire_words.specs.Commands.{task_of}
 use Rattle.semscan.specs.declared.status.Status.TheVariants as statuses
 use Rattle.semscan.proofs.Files.{keeps_on, files_before, end_before}
 use Rattle.semscan.proofs.Causes.{reading_kept, reading_unfinished, reading_at, config_kept, config_at, report_at, rose_since}
-use Rattle.semscan.proofs.Scans.{only_config, ends_by_config, ends_by_limit, only_limit, ends_by_report, front_of_report, only_report}
+use Rattle.semscan.proofs.Scans.{gains_none, only_config, ends_by_config, ends_by_limit, only_limit, ends_by_report, front_of_report, only_report}
 use Rattle.semscan.proofs.scan.run_scan.Goals as goal
 
 pub returns-in-Err-clause-ends : goal.returns-in-Err-clause-ends
-returns-in-Err-clause-ends g c a = ends_by_config (task_of c.args.job.now) _ _ _ (c.in-Err.ensures.ended a)
+returns-in-Err-clause-ends g c a = ends_by_config (task_of c.args.job.now) _ _ _ _ (c.in-Err.ensures.ended a)
 
 pub returns-in-Err-clause-only : goal.returns-in-Err-clause-only
 returns-in-Err-clause-only g c a some =
     let h = c.in-Err.ensures.ended a in
-    only_config (task_of c.args.job.now) h.config h.one_file _ _ _ h.is_config h.ends some
+    only_config (task_of c.args.job.now) _ h.config h.one_file _ _ _ h.is_config h.ends some
 
 pub returns-in-Err-clause-tree_kept : goal.returns-in-Err-clause-tree_kept
 returns-in-Err-clause-tree_kept g c a = config_kept (g.T.Tree.faults c.args.tree.now) (g.T.Tree.faults c.read_config.new.tree) (g.T.Tree.absences c.args.tree.now) (g.T.Tree.absences c.read_config.new.tree) c.in-Err.status c.in-Err.ensures.cause a
@@ -32,13 +32,16 @@ returns-in-Err-clause-output_fault g c e = absurd (config_at (g.T.Tree.faults c.
 pub returns-in-Err-clause-front_written : goal.returns-in-Err-clause-front_written
 returns-in-Err-clause-front_written g c e = absurd (config_at (g.T.Tree.faults c.args.tree.now) (g.T.Tree.faults c.read_config.new.tree) (g.T.Tree.absences c.args.tree.now) (g.T.Tree.absences c.read_config.new.tree) c.in-Err.status statuses.OutputFault c.in-Err.ensures.cause e)
 
+pub returns-in-Err-clause-patterns_grow : goal.returns-in-Err-clause-patterns_grow
+returns-in-Err-clause-patterns_grow g c = gains_none (g.P.Patterns.refusals c.args.patterns.now)
+
 pub returns-in-Err-read_files-clause-ends : goal.returns-in-Err-read_files-clause-ends
 returns-in-Err-read_files-clause-ends g c a =
-    ends_by_limit (task_of c.args.job.now) _ c.in-Ok.rules c.in-Ok.ensures.rules _ _ (end_before (g.T.Tree.files c.args.tree.now) (g.T.Tree.files c.read_config.new.tree) c.args.job.now.prefix.now c.in-Err-read_files.status c.in-Ok.ensures.kept (c.in-Err-read_files.ensures.ended a))
+    ends_by_limit (task_of c.args.job.now) _ _ c.in-Ok.rules c.in-Ok.ensures.rules _ _ (end_before (g.T.Tree.files c.args.tree.now) (g.T.Tree.files c.read_config.new.tree) c.args.job.now.prefix.now c.in-Err-read_files.status c.in-Ok.ensures.kept (c.in-Err-read_files.ensures.ended a))
 
 pub returns-in-Err-read_files-clause-only : goal.returns-in-Err-read_files-clause-only
 returns-in-Err-read_files-clause-only g c a some =
-    only_limit (task_of c.args.job.now) _ c.in-Ok.rules c.in-Ok.ensures.rules _ _ (reading_unfinished (g.T.Tree.faults c.read_config.new.tree) (g.T.Tree.faults c.read_files.new.tree) c.in-Err-read_files.status c.in-Err-read_files.ensures.cause)
+    only_limit (task_of c.args.job.now) _ _ c.in-Ok.rules c.in-Ok.ensures.rules _ _ (reading_unfinished (g.T.Tree.faults c.read_config.new.tree) (g.T.Tree.faults c.read_files.new.tree) c.in-Err-read_files.status c.in-Err-read_files.ensures.cause)
     (end_before (g.T.Tree.files c.args.tree.now) (g.T.Tree.files c.read_config.new.tree) c.args.job.now.prefix.now c.in-Err-read_files.status c.in-Ok.ensures.kept (c.in-Err-read_files.ensures.ended a)) some
 
 pub returns-in-Err-read_files-clause-files_kept : goal.returns-in-Err-read_files-clause-files_kept
@@ -63,13 +66,16 @@ returns-in-Err-read_files-clause-output_fault g c e = absurd (reading_at (g.T.Tr
 pub returns-in-Err-read_files-clause-front_written : goal.returns-in-Err-read_files-clause-front_written
 returns-in-Err-read_files-clause-front_written g c e = absurd (reading_at (g.T.Tree.faults c.read_config.new.tree) (g.T.Tree.faults c.read_files.new.tree) c.in-Err-read_files.status statuses.OutputFault c.in-Err-read_files.ensures.cause e)
 
+pub returns-in-Err-read_files-clause-patterns_grow : goal.returns-in-Err-read_files-clause-patterns_grow
+returns-in-Err-read_files-clause-patterns_grow g c = gains_none (g.P.Patterns.refusals c.args.patterns.now)
+
 pub returns-clause-ends : goal.returns-clause-ends
 returns-clause-ends g c a =
-    ends_by_report (task_of c.args.job.now) _ c.in-Ok.rules c.in-Ok.ensures.rules c.in-Ok-read_files.files (files_before (g.T.Tree.files c.args.tree.now) (g.T.Tree.files c.read_config.new.tree) c.args.job.now.prefix.now c.in-Ok-read_files.files c.in-Ok.ensures.kept c.in-Ok-read_files.ensures.files) c.in-Ok-read_files.ensures.within _ _ _ (c.print_report.ensures.ends a)
+    ends_by_report (task_of c.args.job.now) _ _ c.in-Ok.rules c.in-Ok.ensures.rules c.in-Ok-read_files.files (files_before (g.T.Tree.files c.args.tree.now) (g.T.Tree.files c.read_config.new.tree) c.args.job.now.prefix.now c.in-Ok-read_files.files c.in-Ok.ensures.kept c.in-Ok-read_files.ensures.files) c.in-Ok-read_files.ensures.within _ _ _ (c.print_report.ensures.ends a)
 
 pub returns-clause-only : goal.returns-clause-only
 returns-clause-only g c a some =
-    only_report (task_of c.args.job.now) _ c.in-Ok.rules c.in-Ok.ensures.rules c.in-Ok-read_files.files (files_before (g.T.Tree.files c.args.tree.now) (g.T.Tree.files c.read_config.new.tree) c.args.job.now.prefix.now c.in-Ok-read_files.files c.in-Ok.ensures.kept c.in-Ok-read_files.ensures.files) c.in-Ok-read_files.ensures.within _ _ _
+    only_report (task_of c.args.job.now) _ _ c.in-Ok.rules c.in-Ok.ensures.rules c.in-Ok-read_files.files (files_before (g.T.Tree.files c.args.tree.now) (g.T.Tree.files c.read_config.new.tree) c.args.job.now.prefix.now c.in-Ok-read_files.files c.in-Ok.ensures.kept c.in-Ok-read_files.ensures.files) c.in-Ok-read_files.ensures.within _ _ _
     c.print_report.ensures.one_report (c.print_report.ensures.ends a) some
 
 pub returns-clause-files_kept : goal.returns-clause-files_kept
@@ -89,4 +95,4 @@ returns-clause-nothing_written g c e = absurd (report_at c.print_report.result s
 
 pub returns-clause-front_written : goal.returns-clause-front_written
 returns-clause-front_written g c e =
-    front_of_report (task_of c.args.job.now) _ c.in-Ok.rules c.in-Ok.ensures.rules c.in-Ok-read_files.files (files_before (g.T.Tree.files c.args.tree.now) (g.T.Tree.files c.read_config.new.tree) c.args.job.now.prefix.now c.in-Ok-read_files.files c.in-Ok.ensures.kept c.in-Ok-read_files.ensures.files) c.in-Ok-read_files.ensures.within _ _ (c.print_report.ensures.front_written e)
+    front_of_report (task_of c.args.job.now) _ _ c.in-Ok.rules c.in-Ok.ensures.rules c.in-Ok-read_files.files (files_before (g.T.Tree.files c.args.tree.now) (g.T.Tree.files c.read_config.new.tree) c.args.job.now.prefix.now c.in-Ok-read_files.files c.in-Ok.ensures.kept c.in-Ok-read_files.ensures.files) c.in-Ok-read_files.ensures.within _ _ (c.print_report.ensures.front_written e)
