@@ -2,6 +2,7 @@ use crate::counted;
 use crate::folder::{FolderTree, listing};
 use crate::status::{LimitKind, Status};
 use node_tree::{Bytes, List, Text};
+use rx_text::{FakePatterns, Patterns, RealPatterns};
 use scan_world::{MemorySink, MemorySource, MemoryTree, Tree, TreeFault};
 use std::alloc::Global;
 use std::fs;
@@ -14,6 +15,9 @@ const ROOM: u64 = 4_000_000;
 
 // The words of a scan of all files.
 const ALL: [&str; 4] = ["scan", "--config", "r.yaml", "."];
+
+// The same by a rule file that is no text to search.
+const OTHERS: [&str; 4] = ["scan", "--config", "r.rules", "."];
 
 // A report without results and notices.
 const NOTHING: &[u8] = b"{\"notices\":[],\"results\":[]}\n";
@@ -48,11 +52,12 @@ fn files(alloc: Global, given: &[(&str, &[u8])]) -> Result<List<(Text, Bytes)>, 
     Ok(files)
 }
 
-// A run of these words over a tree, of whose writes the first may fail.
-fn run_over<T: Tree>(
+// A run of these words over a tree with a builder of regular expressions, of whose writes some may fail.
+fn run_by<T: Tree, P: Patterns>(
     alloc: Global,
     words: &[&str],
     tree: &mut T,
+    patterns: &mut P,
     failing_writes: &[u32],
 ) -> Result<(Status, MemorySink), Fail> {
     let mut given = Vec::new(alloc);
@@ -61,15 +66,27 @@ fn run_over<T: Tree>(
     }
     let mut input = MemorySource::new(Bytes::new(alloc), 1, List::new(alloc));
     let mut out = MemorySink::new(alloc, ROOM, calls(alloc, failing_writes)?)?;
-    let status = counted::<_, _, _, Brand>(
+    let status = counted::<_, _, _, _, Brand>(
         alloc,
         &given,
         tree,
         &mut input,
         &mut out,
+        patterns,
         Blank::new(1),
     );
     Ok((status, out))
+}
+
+// The same with the builder of the program.
+fn run_over<T: Tree>(
+    alloc: Global,
+    words: &[&str],
+    tree: &mut T,
+    failing_writes: &[u32],
+) -> Result<(Status, MemorySink), Fail> {
+    let mut patterns = RealPatterns::new(alloc);
+    run_by(alloc, words, tree, &mut patterns, failing_writes)
 }
 
 // Whether a run of these words over a tree of these files ends so and prints this.
@@ -96,21 +113,32 @@ fn gives(
     gives_over(alloc, words, files(alloc, given)?, status, printed)
 }
 
-// A rule of Python with this formula.
-fn rule(alloc: Global, formula: &str) -> Result<String, Fail> {
-    let head = "rules:\n- id: p\n  languages: [python]\n  severity: INFO\n  message: m\n";
-    let mut text = String::from_str(alloc, head)?;
-    text.push_str(formula)?;
-    Ok(text)
+// A rule of this language with this formula.
+fn rule(alloc: Global, lang: &str, formula: &str) -> Result<String, Fail> {
+    Ok(format!(in alloc;
+        "rules:\n- id: p\n  languages: [{lang}]\n  severity: INFO\n  message: m\n{formula}"
+    )?)
+}
+
+// A rule file with such a rule, and a file.
+fn rule_and_file(
+    alloc: Global,
+    lang: &str,
+    formula: &str,
+    path: &str,
+    bytes: &[u8],
+) -> Result<List<(Text, Bytes)>, Fail> {
+    let rule = rule(alloc, lang, formula)?;
+    let mut given = List::new(alloc);
+    given.push(file(alloc, "r.rules", rule.as_bytes())?)?;
+    given.push(file(alloc, path, bytes)?)?;
+    Ok(given)
 }
 
 // Whether a rule of this formula over this file of Python gives this report.
 fn finds(alloc: Global, formula: &str, bytes: &[u8], printed: &[u8]) -> Result<bool, Fail> {
-    let rule = rule(alloc, formula)?;
-    let mut given = List::new(alloc);
-    given.push(file(alloc, "r.yaml", rule.as_bytes())?)?;
-    given.push(file(alloc, "a.py", bytes)?)?;
-    gives_over(alloc, &ALL, given, Status::Done, printed)
+    let given = rule_and_file(alloc, "python", formula, "a.py", bytes)?;
+    gives_over(alloc, &OTHERS, given, Status::Done, printed)
 }
 
 #[test]
@@ -131,19 +159,102 @@ fn joins_patterns(rt: HostRuntime) -> Result<(), Fail> {
     Ok(())
 }
 
+// A program of Python that runs commands.
+const COMMANDS: &[u8] = b"os.system(\"ls\")\nos.system(c)\n";
+
+// The report of its second command.
+const SECOND: &[u8] =
+    b"{\"notices\":[],\"results\":[{\"check_id\":\"p\",\"end\":{\"col\":13,\"line\":2,\"offset\":28},\"extra\":{\"message\":\"m\",\"metavars\":{\"$C\":[26,27]},\"severity\":\"INFO\"},\"path\":\"a.py\",\"start\":{\"col\":1,\"line\":2,\"offset\":16}}]}\n";
+
+// The report of a call with one argument in the first line.
+const FIRST_CALL: &[u8] =
+    b"{\"notices\":[],\"results\":[{\"check_id\":\"p\",\"end\":{\"col\":5,\"line\":1,\"offset\":4},\"extra\":{\"message\":\"m\",\"metavars\":{\"$X\":[2,3]},\"severity\":\"INFO\"},\"path\":\"a.py\",\"start\":{\"col\":1,\"line\":1,\"offset\":0}}]}\n";
+
 #[test]
-fn removes_by_patterns(rt: HostRuntime) -> Result<(), Fail> {
-    let formula = "  patterns:\n  - pattern: os.system($C)\n  - pattern-not: os.system(\"...\")\n";
+fn keeps_what_conditions_allow(rt: HostRuntime) -> Result<(), Fail> {
+    let rows: [(&str, &[u8], &[u8]); 5] = [
+        (
+            "  patterns:\n  - pattern: os.system($C)\n  - pattern-not: os.system(\"...\")\n",
+            COMMANDS,
+            SECOND,
+        ),
+        (
+            "  patterns:\n  - pattern: os.system($C)\n  - metavariable-pattern:\n      metavariable: $C\n      patterns:\n      - pattern-not: '\"...\"'\n",
+            COMMANDS,
+            SECOND,
+        ),
+        (
+            "  patterns:\n  - pattern: os.system($C)\n  - metavariable-regex:\n      metavariable: $C\n      regex: '\"l'\n",
+            COMMANDS,
+            b"{\"notices\":[],\"results\":[{\"check_id\":\"p\",\"end\":{\"col\":16,\"line\":1,\"offset\":15},\"extra\":{\"message\":\"m\",\"metavars\":{\"$C\":[10,14]},\"severity\":\"INFO\"},\"path\":\"a.py\",\"start\":{\"col\":1,\"line\":1,\"offset\":0}}]}\n",
+        ),
+        (
+            "  patterns:\n  - pattern: f($X)\n  - pattern-not-regex: 2\n",
+            b"f(1)\nf(2)\n",
+            FIRST_CALL,
+        ),
+        (
+            "  patterns:\n  - pattern: f($X)\n  - metavariable-comparison:\n      comparison: $X > 5\n",
+            b"f(8)\nf(y)\n",
+            FIRST_CALL,
+        ),
+    ];
+    for (formula, bytes, printed) in rows {
+        assert!(rt; finds(rt.alloc(), formula, bytes, printed)?);
+    }
+    Ok(())
+}
+
+// The report of `a+` in `caab`.
+const A_PLUS: &[u8] =
+    b"{\"notices\":[],\"results\":[{\"check_id\":\"p\",\"end\":{\"col\":4,\"line\":1,\"offset\":3},\"extra\":{\"message\":\"m\",\"metavars\":{},\"severity\":\"INFO\"},\"path\":\"n.txt\",\"start\":{\"col\":2,\"line\":1,\"offset\":1}}]}\n";
+
+#[test]
+fn searches_texts(rt: HostRuntime) -> Result<(), Fail> {
+    let alloc = rt.alloc();
+    let rows: [(&str, &str, &[u8], &[u8]); 3] = [
+        (
+            "  pattern-regex: a+\n",
+            "n.txt",
+            b"caab\n",
+            A_PLUS,
+        ),
+        (
+            "  pattern-regex: int\n",
+            "c.c",
+            b"int main( {\n",
+            b"{\"notices\":[{\"detail\":\"\",\"kind\":\"NoTree\",\"path\":\"c.c\",\"rule\":\"\"}],\"results\":[{\"check_id\":\"p\",\"end\":{\"col\":4,\"line\":1,\"offset\":3},\"extra\":{\"message\":\"m\",\"metavars\":{},\"severity\":\"INFO\"},\"path\":\"c.c\",\"start\":{\"col\":1,\"line\":1,\"offset\":0}}]}\n",
+        ),
+        (
+            "  pattern-regex: (\n",
+            "n.txt",
+            b"caab\n",
+            b"{\"notices\":[{\"detail\":\"(\",\"kind\":\"Regex\",\"path\":\"r.rules\",\"rule\":\"p\"}],\"results\":[]}\n",
+        ),
+    ];
+    for (formula, path, bytes, printed) in rows {
+        let given = rule_and_file(alloc, "regex", formula, path, bytes)?;
+        assert!(rt; gives_over(alloc, &OTHERS, given, Status::Done, printed)?);
+    }
+    Ok(())
+}
+
+#[test]
+fn passes_over_rules_with_refused_texts(rt: HostRuntime) -> Result<(), Fail> {
+    let alloc = rt.alloc();
+    let given = rule_and_file(alloc, "regex", "  pattern-regex: a+\n", "n.txt", b"caab\n")?;
+    let mut tree = MemoryTree::new(given, List::new(alloc));
+    let mut refused = List::new(alloc);
+    refused.push(Text::from_str(alloc, "a+")?)?;
+    let mut patterns = FakePatterns::new(refused, 1);
+    let (status, out) = run_by(alloc, &OTHERS, &mut tree, &mut patterns, &[])?;
+    assert_eq!(rt; status, Status::Done);
     let printed =
-        b"{\"notices\":[],\"results\":[{\"check_id\":\"p\",\"end\":{\"col\":13,\"line\":2,\"offset\":28},\"extra\":{\"message\":\"m\",\"metavars\":{\"$C\":[26,27]},\"severity\":\"INFO\"},\"path\":\"a.py\",\"start\":{\"col\":1,\"line\":2,\"offset\":16}}]}\n";
-    assert!(rt;
-        finds(
-            rt.alloc(),
-            formula,
-            b"os.system(\"ls\")\nos.system(c)\n",
-            printed
-        )?
-    );
+        b"{\"notices\":[{\"detail\":\"a+\",\"kind\":\"Regex\",\"path\":\"r.rules\",\"rule\":\"p\"}],\"results\":[]}\n".as_slice();
+    assert!(rt; out.as_slice() == printed);
+    assert!(rt; are(patterns.refused(), &["a+"]));
+    let (_, out) = run_by(alloc, &OTHERS, &mut tree, &mut patterns, &[])?;
+    assert!(rt; out.as_slice() == A_PLUS);
     Ok(())
 }
 
@@ -174,7 +285,7 @@ fn names_a_crowded_set(rt: HostRuntime) -> Result<(), Fail> {
     let printed =
         b"{\"notices\":[{\"detail\":\"1\",\"kind\":\"Crowded\",\"path\":\"a.py\",\"rule\":\"p\"}],\"results\":[]}\n";
     assert!(rt; finds(alloc, formula, &negated(alloc, 100)?, printed)?);
-    let rule = rule(alloc, formula)?;
+    let rule = rule(alloc, "python", formula)?;
     let bytes = negated(alloc, 99)?;
     let given = [("r.yaml", rule.as_bytes()), ("a.py", bytes.as_slice())];
     let mut tree = MemoryTree::new(files(alloc, &given)?, List::new(alloc));
@@ -291,10 +402,9 @@ fn tells_of_bad_configs(rt: HostRuntime) -> Result<(), Fail> {
             b"{\"notices\":[{\"detail\":\"\",\"kind\":\"NoRules\",\"path\":\"r.rules\",\"rule\":\"\"}],\"results\":[]}\n",
         ),
     ];
-    let words = ["scan", "--config", "r.rules", "."];
     for (config, printed) in rows {
         let given = [("r.rules", config), ("a.py", b"f(1)\n".as_slice())];
-        assert!(rt; gives(rt.alloc(), &words, &given, Status::Done, printed)?);
+        assert!(rt; gives(rt.alloc(), &OTHERS, &given, Status::Done, printed)?);
     }
     Ok(())
 }

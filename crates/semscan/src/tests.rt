@@ -1,6 +1,7 @@
 use crate::counted;
 use crate::status::{LimitKind, Status};
 use node_tree::{Bytes, List};
+use rx_text::RealPatterns;
 use scan_world::{MemorySink, MemorySource, MemoryTree};
 use std::alloc::Global;
 use std::marker::Brand;
@@ -39,12 +40,14 @@ fn run_case(alloc: Global, case: &Case<'_>) -> Result<(Status, MemorySink), Fail
     let mut input = MemorySource::new(bytes, 3, calls(alloc, case.failing_read)?);
     let mut out = MemorySink::new(alloc, ROOM, calls(alloc, case.failing_write)?)?;
     let mut tree = MemoryTree::new(List::new(alloc), List::new(alloc));
-    let status = counted::<_, _, _, Brand>(
+    let mut patterns = RealPatterns::new(alloc);
+    let status = counted::<_, _, _, _, Brand>(
         alloc,
         &words,
         &mut tree,
         &mut input,
         &mut out,
+        &mut patterns,
         Blank::new(1),
     );
     Ok((status, out))
@@ -343,12 +346,14 @@ fn understands_no_other_words(rt: HostRuntime) -> Result<(), Fail> {
         let mut input = MemorySource::new(Bytes::new(rt.alloc()), 1, List::new(rt.alloc()));
         let mut out = MemorySink::new(rt.alloc(), 1, List::new(rt.alloc()))?;
         let mut tree = MemoryTree::new(List::new(rt.alloc()), List::new(rt.alloc()));
-        let status = counted::<_, _, _, Brand>(
+        let mut patterns = RealPatterns::new(rt.alloc());
+        let status = counted::<_, _, _, _, Brand>(
             rt.alloc(),
             &words,
             &mut tree,
             &mut input,
             &mut out,
+            &mut patterns,
             Blank::new(1),
         );
         assert_eq!(rt; status, Status::Usage);
