@@ -91,7 +91,8 @@ IsResult rules files r = (file : File) × Among files file × IsResultIn rules f
 abbrev pub IsFileNotice : List Rule → List File → Notice → Type 0
 IsFileNotice rules files n = (file : File) × Among files file × IsNoticeIn rules file n
 
--- The findings of the rules that run, and the notices of rule files and files, each in order and each once.
-pub record IsFresh (files : List File) (rule_files : List RuleFile) (report : Report) : Type 0 where
-  pub results : IsExactly reported_cmp (IsResult (running rule_files) files) report.results
-  pub notices : IsExactly notice_cmp (λ n. Among (rule_notices rule_files) n ⊎ IsFileNotice (running rule_files) files n) report.notices
+-- The findings of the rules that run where these texts are refused, and the notices of rule files and files, each in order and
+-- each once.
+pub record IsFresh (refused : List (List ℕ)) (files : List File) (rule_files : List RuleFile) (report : Report) : Type 0 where
+  pub results : IsExactly reported_cmp (IsResult (running refused rule_files) files) report.results
+  pub notices : IsExactly notice_cmp (λ n. Among (rule_notices refused rule_files) n ⊎ IsFileNotice (running refused rule_files) files n) report.notices

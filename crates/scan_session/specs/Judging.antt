@@ -16,25 +16,25 @@ use Rattle.scan_session.specs.Reports.{reported, outcome_notices}
 use Rattle.scan_session.specs.Hits.{Hit}
 
 -- the part finds this and nothing else
-pub record PartJudges (text : List ℕ) (tree : Node) (part : Part) (outcome : Outcome) : Type 0 where
-  pub finds : PartFindsIn text tree part outcome
-  pub only : (o : Outcome) → PartFindsIn text tree part o → o ≡ outcome
+pub record PartJudges (texts : List (List ℕ)) (text : List ℕ) (tree : Node) (part : Part) (outcome : Outcome) : Type 0 where
+  pub finds : PartFindsIn texts text tree part outcome
+  pub only : (o : Outcome) → PartFindsIn texts text tree part o → o ≡ outcome
 
--- what a part of the rule with that number finds, if it looks at the file
-abbrev pub PartAdds : Lang → List ℕ → Node → ℕ → Part → Judged → Type 0
-PartAdds lang text tree number part x = LooksAt part lang × (x.number ≡ number) × PartFindsIn text tree part x.found
+-- what a part of the rule with that number and these regular expressions finds, if it looks at the file
+abbrev pub PartAdds : List (List ℕ) → Lang → List ℕ → Node → ℕ → Part → Judged → Type 0
+PartAdds texts lang text tree number part x = LooksAt part lang × (x.number ≡ number) × PartFindsIn texts text tree part x.found
 
--- what one of the parts of the rule with that number finds, which looks at the file
-pub record RuleJudges (lang : Lang) (text : List ℕ) (tree : Node) (number : ℕ) (parts : List Part) (x : Judged) : Type 0 where
+-- what one of the parts of that rule finds, which looks at the file
+pub record RuleJudges (texts : List (List ℕ)) (lang : Lang) (text : List ℕ) (tree : Node) (number : ℕ) (parts : List Part) (x : Judged) : Type 0 where
   pub number_is : x.number ≡ number
   pub part : Part
   pub has : Among parts part
   pub looks : LooksAt part lang
-  pub finds : PartFindsIn text tree part x.found
+  pub finds : PartFindsIn texts text tree part x.found
 
 -- what the rule with that number finds, if its globs allow the path
 abbrev pub RuleAdds : List ℕ → Lang → List ℕ → Node → ℕ → Rule → Judged → Type 0
-RuleAdds path lang text tree number rule x = Allows rule path × RuleJudges lang text tree number rule.parts x
+RuleAdds path lang text tree number rule x = Allows rule path × RuleJudges rule.texts lang text tree number rule.parts x
 
 -- what one of the rules finds
 pub record IsJudged (path : List ℕ) (lang : Lang) (text : List ℕ) (tree : Node) (rules : List Rule) (x : Judged) : Type 0 where

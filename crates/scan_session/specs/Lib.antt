@@ -2,7 +2,9 @@ pub mod Sets
 pub mod RuleFiles
 pub mod Notes
 pub mod NoteOrder
+pub mod Refused
 pub mod Running
+pub mod Building
 pub mod Taking
 pub mod Looking
 pub mod Reports

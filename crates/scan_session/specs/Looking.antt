@@ -37,9 +37,9 @@ AreLeaves tree (p ∷ ps) leaves = (leaf : Leaf) × IsLeaf (IsMember p tree) lea
 abbrev pub LooksAt : Part → Lang → Type 0
 LooksAt part lang = (part.lang ≡ lang) ⊎ (part.lang ≡ Regex)
 
--- what a part finds in a text with that tree
-abbrev pub PartFindsIn : List ℕ → Node → Part → Outcome → Type 0
-PartFindsIn text tree part outcome = (leaves : List Leaf) × AreLeaves tree part.patterns leaves × PartFinds leaves text (Some part) outcome
+-- what a part of a rule with these regular expressions finds in a text with that tree
+abbrev pub PartFindsIn : List (List ℕ) → List ℕ → Node → Part → Outcome → Type 0
+PartFindsIn texts text tree part outcome = (leaves : List Leaf) × AreLeaves tree part.patterns leaves × PartFinds leaves texts text (Some part) outcome
 
 -- what some part of a rule finds in the file at a path, a text of that language with that tree
 pub record RuleFinds (path : List ℕ) (lang : Lang) (text : List ℕ) (tree : Node) (rule : Rule) (outcome : Outcome) : Type 0 where
@@ -47,4 +47,4 @@ pub record RuleFinds (path : List ℕ) (lang : Lang) (text : List ℕ) (tree : N
   pub part : Part
   pub has : Among rule.parts part
   pub looks : LooksAt part lang
-  pub finds : PartFindsIn text tree part outcome
+  pub finds : PartFindsIn rule.texts text tree part outcome

@@ -1,4 +1,4 @@
--- The rules that run, and the notices of rule files.
+-- The rules that run, and the notices of rule files, where some texts of regular expressions are refused.
 use Rattle.std.specs.Prelude.{ℕ, suc, Bool, true, false, ◌||◌, List, [], ◌∷◌, ◌++◌, map, codes, if◌then◌else◌}
 use Rattle.std.specs.List.{list_any, flat_map}
 use Rattle.std.specs.Str.{bytes_eq}
@@ -7,6 +7,7 @@ use Rattle.rule_form.specs.declared.rule.Rule.{Rule}
 use Rattle.rule_form.specs.declared.rule.Part.{Part}
 use Rattle.rule_form.specs.declared.rule.Body.{Body}
 use Rattle.rule_form.specs.declared.rule.Body.TheVariants as bodies
+use Rattle.tree_match.specs.Sets.{Among}
 use Rattle.rule_read.specs.declared.fault.RuleOutcome.{RuleOutcome}
 use Rattle.rule_read.specs.declared.fault.RuleOutcome.TheVariants.{Good, Bad}
 use Rattle.fix_apply.specs.declared.notice.Notice.{Notice}
@@ -47,26 +48,42 @@ abbrev pub firsts : List (List ℕ) → List Stated → List Stated
 firsts taken [] = []
 firsts taken (s ∷ ss) = if is_taken taken s.rule.id then firsts taken ss else s ∷ firsts (s.rule.id ∷ taken) ss
 
+-- the texts of good rules, in order of rule and place
+abbrev pub texts_of : List Stated → List (List ℕ)
+texts_of ss = flat_map (λ (s : Stated). s.rule.texts) ss
+
+-- each of these is one of those
+abbrev pub AreTextsOf : List RuleFile → List (List ℕ) → Type 0
+AreTextsOf files texts = (text : List ℕ) → Among texts text → Among (texts_of (stated files)) text
+
+-- the text is one of the refused ones
+abbrev pub is_refused : List (List ℕ) → List ℕ → Bool
+is_refused refused text = list_any (λ other. bytes_eq other text) refused
+
+-- one of the rule's texts is
+abbrev pub has_refused : List (List ℕ) → Rule → Bool
+has_refused refused rule = list_any (is_refused refused) rule.texts
+
 -- the part follows data
 abbrev pub is_taint : Body → Bool
 is_taint (bodies.Search formula) = false
 is_taint (bodies.Taint rule) = true
 
-abbrev pub has_texts : List (List ℕ) → Bool
-has_texts [] = false
-has_texts (text ∷ texts) = true
-
--- The rule needs what is not built yet: regular expressions, or following data.
+-- The rule needs what is not built yet: following data.
 abbrev pub is_unbuilt : Rule → Bool
-is_unbuilt rule = has_texts rule.texts || list_any (λ (part : Part). is_taint part.body) rule.parts
+is_unbuilt rule = list_any (λ (part : Part). is_taint part.body) rule.parts
+
+-- it doesn't run, where these texts are refused
+abbrev pub is_out : List (List ℕ) → Rule → Bool
+is_out refused rule = is_unbuilt rule || has_refused refused rule
 
 -- the rules that run
-abbrev pub built : List Stated → List Rule
-built [] = []
-built (s ∷ ss) = if is_unbuilt s.rule then built ss else s.rule ∷ built ss
+abbrev pub built : List (List ℕ) → List Stated → List Rule
+built refused [] = []
+built refused (s ∷ ss) = if is_out refused s.rule then built refused ss else s.rule ∷ built refused ss
 
-abbrev pub running : List RuleFile → List Rule
-running files = built (firsts [] (stated files))
+abbrev pub running : List (List ℕ) → List RuleFile → List Rule
+running refused files = built refused (firsts [] (stated files))
 
 -- the key of an entry
 abbrev pub entry_key : ℕ → List ℕ
@@ -80,19 +97,24 @@ option_notice file id option = notice file id kinds.OptionUnread option
 abbrev pub unbuilt_notice : Stated → Notice
 unbuilt_notice s = notice s.file s.rule.id kinds.OutsideProfile (entry_key s.number)
 
--- the notices of a rule whose id no earlier one has: its unread options, and whether it is not built yet
-abbrev pub first_notices : Stated → List Notice
-first_notices s = map (option_notice s.file s.rule.id) s.rule.unread ++ (if is_unbuilt s.rule then unbuilt_notice s ∷ [] else [])
+-- the notice of a text, if it is refused
+abbrev pub refused_notices : List (List ℕ) → List ℕ → List ℕ → List ℕ → List Notice
+refused_notices refused file id text = if is_refused refused text then notice file id kinds.Regex text ∷ [] else []
+
+-- the notices of a rule whose id no earlier one has: its unread options, its refused texts, and whether it is not built yet
+abbrev pub first_notices : List (List ℕ) → Stated → List Notice
+first_notices refused s =
+    map (option_notice s.file s.rule.id) s.rule.unread ++ (flat_map (refused_notices refused s.file s.rule.id) s.rule.texts ++ (if is_unbuilt s.rule then unbuilt_notice s ∷ [] else []))
 
 -- the notice of one whose id an earlier one has
 abbrev pub repeat_notice : Stated → Notice
 repeat_notice s = notice s.file s.rule.id kinds.DuplicateId (entry_key s.number ++ codes ".id")
 
 -- the notices of good rules, where these ids are taken before
-abbrev pub stated_notices : List (List ℕ) → List Stated → List Notice
-stated_notices taken [] = []
-stated_notices taken (s ∷ ss) =
-    if is_taken taken s.rule.id then repeat_notice s ∷ stated_notices taken ss else first_notices s ++ stated_notices (s.rule.id ∷ taken) ss
+abbrev pub stated_notices : List (List ℕ) → List (List ℕ) → List Stated → List Notice
+stated_notices refused taken [] = []
+stated_notices refused taken (s ∷ ss) =
+    if is_taken taken s.rule.id then repeat_notice s ∷ stated_notices refused taken ss else first_notices refused s ++ stated_notices refused (s.rule.id ∷ taken) ss
 
 -- the notice of an entry that is no rule
 abbrev pub fault_notices : List ℕ → RuleOutcome → List Notice
@@ -111,5 +133,5 @@ abbrev pub file_notices : RuleFile → List Notice
 file_notices file = content_notices file.name file.content
 
 -- the notices of the rule files
-abbrev pub rule_notices : List RuleFile → List Notice
-rule_notices files = flat_map file_notices files ++ stated_notices [] (stated files)
+abbrev pub rule_notices : List (List ℕ) → List RuleFile → List Notice
+rule_notices refused files = flat_map file_notices files ++ stated_notices refused [] (stated files)

@@ -1,5 +1,5 @@
 -- What the code knows while it takes up rules, one after the other.
-use Rattle.std.specs.Prelude.{◌≡◌, ℕ, List, [], ◌∷◌, map, if◌then◌else◌}
+use Rattle.std.specs.Prelude.{◌≡◌, ℕ, List, [], ◌∷◌, if◌then◌else◌}
 use Rattle.std.specs.Borrow.{Bor}
 use Rattle.std.specs.Ordering.{nat_cmp}
 use Rattle.std.specs.Cmp.Lexicographic.{slice_cmp}
@@ -7,15 +7,11 @@ use Rattle.std.specs.BTreeSet.{BTreeSet, contains}
 use Rattle.rule_form.specs.declared.rule.Rule.{Rule}
 use Rattle.fix_apply.specs.declared.notice.Notice.{Notice}
 use Rattle.scan_session.specs.declared.running.Entry.{Entry}
-use Rattle.scan_session.specs.Running.{Stated, is_taken, is_unbuilt, first_notices, repeat_notice}
+use Rattle.scan_session.specs.Running.{Stated, is_taken, is_out, first_notices, repeat_notice}
 
 -- the entry without its borrows
 abbrev pub said : Entry → Stated
 said e = record { file = e.file.now; number = e.number; rule = e.rule.now }
-
--- rules that are lent
-abbrev pub lent : List (Bor Rule) → List Rule
-lent rules = map (λ r. r.now) rules
 
 -- the set has just these ids
 abbrev pub HasJust : BTreeSet (Bor (List ℕ)) → List (List ℕ) → Type 0
@@ -25,10 +21,10 @@ HasJust taken ids = (key : Bor (List ℕ)) → contains (λ x y. slice_cmp nat_c
 abbrev pub ids_after : List (List ℕ) → Stated → List (List ℕ)
 ids_after ids s = if is_taken ids s.rule.id then ids else s.rule.id ∷ ids
 
--- the rule, if it runs
-abbrev pub rules_at : List (List ℕ) → Stated → List Rule
-rules_at ids s = if is_taken ids s.rule.id then [] else (if is_unbuilt s.rule then [] else s.rule ∷ [])
+-- the rule, if it runs where those texts are refused
+abbrev pub rules_at : List (List ℕ) → List (List ℕ) → Stated → List Rule
+rules_at refused ids s = if is_taken ids s.rule.id then [] else (if is_out refused s.rule then [] else s.rule ∷ [])
 
 -- its notices
-abbrev pub notices_at : List (List ℕ) → Stated → List Notice
-notices_at ids s = if is_taken ids s.rule.id then repeat_notice s ∷ [] else first_notices s
+abbrev pub notices_at : List (List ℕ) → List (List ℕ) → Stated → List Notice
+notices_at refused ids s = if is_taken ids s.rule.id then repeat_notice s ∷ [] else first_notices refused s

@@ -132,26 +132,32 @@ fn scan_all<L: Ledger>(
 /// range, rule, binding and source, and all notices in order of path, rule, kind and detail, each once.
 ///
 /// A file is opened in the language that its path's ending names, or else in `Regex`. A rule whose id an earlier one has does
-/// not run; nor, so far, does one with regular expressions or one that follows data. Files are to be in ascending order of
-/// path. TooMany comes exactly where there are more than `most` findings. A file, whatever it holds, and an entry that is no
-/// rule change no finding of another.
-pub fn scan_files<L: Ledger>(
+/// not run; nor does one with a text that is refused; nor, so far, one that follows data. Files are to be in ascending order
+/// of path. TooMany comes exactly where there are more than `most` findings. A file, whatever it holds, and an entry that is
+/// no rule change no finding of another.
+///
+/// Each text of a good rule is given to `build` once, in order of rule file, entry and place. The refused ones are those that
+/// the builder's list gained in this call, whatever it answers.
+pub fn scan_files<P: Patterns, L: Ledger>(
     alloc: Global,
     files: &List<(Text, Bytes)>,
     rules: &List<RuleFile>,
     most: u64,
+    patterns: &mut P,
     steps: &mut Steps<L>,
 ) -> Result<Report, ScanFault>
     requires { IsAscending file_cmp files.now }
-    ensures fresh { IfOk result (IsFresh files.now rules.now) }
+    ensures grows { Gains (P.refusals patterns.old) (P.refusals patterns.new) }
+    ensures asked { AreTextsOf rules.now (gained (P.refusals patterns.old) (P.refusals patterns.new)) }
+    ensures fresh { IfOk result (IsFresh (gained (P.refusals patterns.old) (P.refusals patterns.new)) files.now rules.now) }
     ensures few { IfOk result (λ report. length report.results ≤ most) }
-    ensures too_many { (n : ℕ) → result ≡ Err (TooMany n) → (n ≡ most) × HasMore reported_cmp (IsResult (rules_of rules.now) files.now) most }
-    ensures only { IfOk result (λ report. (r : a_report) → IsFresh files.now rules.now r → r ≡ report) }
-    ensures other_files { IfOk result (KeepsOtherFiles files.now rules.now) }
-    ensures other_rules { IfOk result (KeepsOtherRules files.now rules.now) }
+    ensures too_many { (n : ℕ) → result ≡ Err (TooMany n) → (n ≡ most) × HasMore reported_cmp (IsResult (rules_of (gained (P.refusals patterns.old) (P.refusals patterns.new)) rules.now) files.now) most }
+    ensures only { IfOk result (λ report. (r : a_report) → IsFresh (gained (P.refusals patterns.old) (P.refusals patterns.new)) files.now rules.now r → r ≡ report) }
+    ensures other_files { IfOk result (KeepsOtherFiles (gained (P.refusals patterns.old) (P.refusals patterns.new)) files.now rules.now) }
+    ensures other_rules { IfOk result (KeepsOtherRules (gained (P.refusals patterns.old) (P.refusals patterns.new)) files.now rules.now) }
 {
     let mut notices = Vec::new(alloc);
-    let running = take_files(alloc, rules, &mut notices)?;
+    let running = take_files(alloc, rules, patterns, &mut notices)?;
     let results = scan_all(
         alloc,
         files.as_slice(),
