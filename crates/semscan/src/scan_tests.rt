@@ -213,12 +213,7 @@ const A_PLUS: &[u8] =
 fn searches_texts(rt: HostRuntime) -> Result<(), Fail> {
     let alloc = rt.alloc();
     let rows: [(&str, &str, &[u8], &[u8]); 3] = [
-        (
-            "  pattern-regex: a+\n",
-            "n.txt",
-            b"caab\n",
-            A_PLUS,
-        ),
+        ("  pattern-regex: a+\n", "n.txt", b"caab\n", A_PLUS),
         (
             "  pattern-regex: int\n",
             "c.c",
