@@ -13,7 +13,7 @@ use Rattle.scan_session.specs.Sets.{HasMore}
 use Rattle.scan_session.specs.Reports.{reported_cmp}
 use Rattle.scan_session.specs.Running.{running}
 use Rattle.scan_session.specs.Fresh.{IsResult, IsFresh}
-use Rattle.scan_session.specs.Refused.{Gains, gained}
+use Rattle.scan_session.specs.Refused.{Gains}
 use Rattle.scan_session.proofs.Laws.{exclusive}
 use Rattle.wire_words.specs.Commands.{Task}
 use Rattle.semscan.specs.declared.status.Status.{Status}
