@@ -316,7 +316,7 @@ fn finds_matches_of_regular_expressions(rt: HostRuntime) -> Result<(), Fail> {
     let alloc = rt.alloc();
     let letters = rule_with_text(alloc, "a+", Formula::Regex(0))?;
     assert!(rt; found(alloc, Lang::Regex, b"caab", &letters)?.as_str() == "1..3\n");
-    assert!(rt; found(alloc, Lang::Json, b"["caab"]", &letters)?.as_str() == "3..5\n");
+    assert!(rt; found(alloc, Lang::Json, b"[\"caab\"]", &letters)?.as_str() == "3..5\n");
     let mut children = List::new(alloc);
     children.push(Child::Positive(Formula::Leaf(0)))?;
     children.push(Child::NotRegex(0))?;
