@@ -73,6 +73,21 @@ part_judges texts text tree parts k n p leaves at n-is are (Ok found) finds only
           only o (subst R (sym there) (subst Q (leaves_one tree p.patterns h.0 leaves h.1 are) h.2));
     }
 
+-- the same of equal texts and parts
+pub part_finds : (leaves : List Leaf) (given texts : List (List ℕ)) (text : List ℕ) (some parts : List Part) (n : ℕ) (r : Result Outcome Memory) → given ≡ texts → some ≡ parts
+    → IfOk r (PartFinds leaves given text (slice_get some n)) → IfOk r (PartFinds leaves texts text (slice_get parts n))
+part_finds leaves given texts text some parts n r e f h =
+    let P : List (List ℕ) → Type 0 = λ ts. IfOk r (PartFinds leaves ts text (slice_get some n)) in
+    let Q : List Part → Type 0 = λ ps. IfOk r (PartFinds leaves texts text (slice_get ps n)) in
+    subst Q f (subst P e h)
+
+pub part_only : (leaves : List Leaf) (given texts : List (List ℕ)) (text : List ℕ) (some parts : List Part) (n : ℕ) (r : Result Outcome Memory) → given ≡ texts → some ≡ parts
+    → IfOk r (λ found. (o : Outcome) → PartFinds leaves given text (slice_get some n) o → o ≡ found) → IfOk r (λ found. (o : Outcome) → PartFinds leaves texts text (slice_get parts n) o → o ≡ found)
+part_only leaves given texts text some parts n r e f h =
+    let P : List (List ℕ) → Type 0 = λ ts. IfOk r (λ found. (o : Outcome) → PartFinds leaves ts text (slice_get some n) o → o ≡ found) in
+    let Q : List Part → Type 0 = λ ps. IfOk r (λ found. (o : Outcome) → PartFinds leaves texts text (slice_get ps n) o → o ≡ found) in
+    subst Q f (subst P e h)
+
 -- ---- the parts of a rule
 
 module _ (texts : List (List ℕ)) (lang : Lang) (text : List ℕ) (tree : Node) (number : ℕ) where

@@ -1,6 +1,6 @@
 pub mod Contents
 pub mod Members
-pub mod Building
+pub mod Asking
 pub mod Taking
 pub mod Orders
 pub mod Ids
