@@ -32,23 +32,23 @@ dotted (n ∷ ns) = decimal n ++ flat_map after_dot ns
 abbrev pub finding_of : Member → Finding
 finding_of m = record { span = m.0; binding = m.1; source = None }
 
--- What a search for the formula finds: a notice with the numbers of the first set that has more than 10,000 members, or else
--- each member of the formula, in order and once.
-abbrev pub SearchFinds : List Leaf → List ℕ → Formula → Outcome → Type 0
-SearchFinds leaves bytes formula (Findings findings) =
-    Over leaves bytes (tree_of formula) None × (members : List Member) × IsWhole (Meets leaves bytes (tree_of formula) None) members × (findings ≡ map finding_of members)
-SearchFinds leaves bytes formula (Crowded text) = (numbers : List ℕ) × Over leaves bytes (tree_of formula) (Some numbers) × (text ≡ dotted numbers)
-SearchFinds leaves bytes formula (FlowTooLarge at) = ⊥
+-- What a search for the formula finds, with the texts of the regular expressions: a notice with the numbers of the first set that
+-- has more than 10,000 members, or else each member of the formula, in order and once.
+abbrev pub SearchFinds : List Leaf → List (List ℕ) → List ℕ → Formula → Outcome → Type 0
+SearchFinds leaves texts bytes formula (Findings findings) =
+    Over leaves texts bytes (tree_of formula) None × (members : List Member) × IsWhole (Meets leaves texts bytes (tree_of formula) None) members × (findings ≡ map finding_of members)
+SearchFinds leaves texts bytes formula (Crowded text) = (numbers : List ℕ) × Over leaves texts bytes (tree_of formula) (Some numbers) × (text ≡ dotted numbers)
+SearchFinds leaves texts bytes formula (FlowTooLarge at) = ⊥
 
 -- what a body finds; a body on tainted data finds nothing
-abbrev pub BodyFinds : List Leaf → List ℕ → Body → Outcome → Type 0
-BodyFinds leaves bytes (bodies.Search formula) outcome = SearchFinds leaves bytes formula outcome
-BodyFinds leaves bytes (bodies.Taint rule) outcome = outcome ≡ Findings []
+abbrev pub BodyFinds : List Leaf → List (List ℕ) → List ℕ → Body → Outcome → Type 0
+BodyFinds leaves texts bytes (bodies.Search formula) outcome = SearchFinds leaves texts bytes formula outcome
+BodyFinds leaves texts bytes (bodies.Taint rule) outcome = outcome ≡ Findings []
 
 -- what a part finds, where there is one
-abbrev pub PartFinds : List Leaf → List ℕ → Option Part → Outcome → Type 0
-PartFinds leaves bytes None outcome = ⊥
-PartFinds leaves bytes (Some part) outcome = BodyFinds leaves bytes part.body outcome
+abbrev pub PartFinds : List Leaf → List (List ℕ) → List ℕ → Option Part → Outcome → Type 0
+PartFinds leaves texts bytes None outcome = ⊥
+PartFinds leaves texts bytes (Some part) outcome = BodyFinds leaves texts bytes part.body outcome
 
 -- the findings, and none where there is a notice
 abbrev pub findings_of : Outcome → List Finding

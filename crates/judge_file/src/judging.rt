@@ -12,6 +12,7 @@ use meta_bind::{Binding, Finding};
 use node_tree::{FileView, List, Memory, Span, Twin};
 use range_algebra::{EvalFault, MatchSet, eval};
 use rule_form::{Body, Formula, Rule};
+use rx_text::Rx;
 use std::alloc::Global;
 use tree_match::Leaf;
 
@@ -47,10 +48,14 @@ fn search(
     view: &FileView,
     formula: &Formula,
     leaves: &List<Leaf>,
+    rx: &mut List<Rx>,
 ) -> Result<Found, Memory>
-    ensures { IfOk result (SearchFinds leaves.now view.now.bytes formula.now) }
+    requires { All (λ leaf. IsLeafPlaced view.now.bytes leaf) leaves.now }
+    ensures finds { IfOk result (SearchFinds leaves.now rx.old view.now.bytes formula.now) }
+    ensures placed { IfOk result (λ found. All (λ finding. IsFindingPlaced view.now.bytes finding) (findings_in found)) }
+    ensures same { rx.new ≡ rx.old }
 {
-    let outcome = match eval(alloc, view, formula, leaves) {
+    let outcome = match eval(alloc, view, formula, leaves, rx) {
         Ok(members) => Outcome::Findings(findings_of(alloc, &members)?),
         Err(EvalFault::Crowded(numbers)) => Outcome::Crowded(dotted(alloc, numbers.as_slice())?),
         Err(EvalFault::Memory) => return Err(Memory),
@@ -59,36 +64,48 @@ fn search(
 }
 
 // What a body finds.
-fn look(alloc: Global, view: &FileView, body: &Body, leaves: &List<Leaf>) -> Result<Found, Memory>
-    ensures { IfOk result (BodyFinds leaves.now view.now.bytes body.now) }
+fn look(
+    alloc: Global,
+    view: &FileView,
+    body: &Body,
+    leaves: &List<Leaf>,
+    rx: &mut List<Rx>,
+) -> Result<Found, Memory>
+    requires { All (λ leaf. IsLeafPlaced view.now.bytes leaf) leaves.now }
+    ensures finds { IfOk result (BodyFinds leaves.now rx.old view.now.bytes body.now) }
+    ensures placed { IfOk result (λ found. All (λ finding. IsFindingPlaced view.now.bytes finding) (findings_in found)) }
+    ensures same { rx.new ≡ rx.old }
 {
     match body {
-        Body::Search(formula) => search(alloc, view, formula, leaves),
+        Body::Search(formula) => search(alloc, view, formula, leaves, rx),
         Body::Taint(_) => Ok(Found::of(Outcome::Findings(List::new(alloc)))),
     }
 }
 
 /// What the part of the rule with that number finds in the file, where `leaves` has the members of the part's patterns by
-/// number: the members of its formula in order, or the notice that a set of the formula has more than 10,000. There is one
-/// such outcome. The ends of each finding's range and of what is bound cut no character of the file, since those of `leaves`
-/// don't. So far regular expressions have no matches, and a rule on tainted data finds nothing.
+/// number and `rx` the rule's regular expressions: the members of its formula in order, or the notice that a set of the formula
+/// has more than 10,000. There is one such outcome. The ends of each finding's range and of what is bound cut no character of
+/// the file, since those of `leaves` don't. So far a rule on tainted data finds nothing.
 pub fn judge(
     alloc: Global,
     view: &FileView,
     rule: &Rule,
     part: u32,
     leaves: &List<Leaf>,
+    rx: &mut List<Rx>,
 ) -> Result<Found, Memory>
     requires part { part < length rule.now.parts }
     requires placed { All (λ leaf. IsLeafPlaced view.now.bytes leaf) leaves.now }
-    ensures finds { IfOk result (PartFinds leaves.now view.now.bytes (slice_get rule.now.parts part)) }
+    ensures finds { IfOk result (PartFinds leaves.now rx.old view.now.bytes (slice_get rule.now.parts part)) }
     ensures placed { IfOk result (λ found. All (λ finding. IsFindingPlaced view.now.bytes finding) (findings_in found)) }
-    ensures only { IfOk result (λ found. (o : an_outcome) → PartFinds leaves.now view.now.bytes (slice_get rule.now.parts part) o → o ≡ found) }
+    ensures only { IfOk result (λ found. (o : an_outcome) → PartFinds leaves.now rx.old view.now.bytes (slice_get rule.now.parts part) o → o ≡ found) }
+    ensures same { rx.new ≡ rx.old }
 {
     look(
         alloc,
         view,
         &rule.parts.as_slice()[part as usize].body,
         leaves,
+        rx,
     )
 }

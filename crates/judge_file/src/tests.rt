@@ -6,6 +6,7 @@ use node_tree::{
     Bytes, FileView, Kind, Lang, List, Memory, Node, Pattern, Shape, Span, Steps, Text,
 };
 use rule_form::{Body, Child, Formula, Part, Rule, Severity};
+use rx_text::{BuildFault, Patterns, RealPatterns, Rx};
 use std::alloc::Global;
 use std::marker::Brand;
 use std::sync::ledger::{Blank, Ledger};
@@ -187,6 +188,7 @@ fn judged<L: Ledger>(
     lang: Lang,
     bytes: &[u8],
     rule: &Rule,
+    rx: &mut List<Rx>,
 ) -> Result<Option<Found>, Memory>
     requires name { blank.name ≡ L.name }
     requires parts { blank.parts ≡ L.parts }
@@ -200,13 +202,28 @@ fn judged<L: Ledger>(
         return Ok(None);
     }
     let leaves = leaves_of(alloc, &view, &rule.parts.as_slice()[0], &mut steps)?;
-    Ok(Some(judge(alloc, &view, rule, 0, &leaves)?))
+    Ok(Some(judge(alloc, &view, rule, 0, &leaves, rx)?))
+}
+
+// The regular expressions of these texts, but for those that are none.
+fn built(alloc: Global, texts: &[Text]) -> Result<List<Rx>, Memory> {
+    let mut patterns = RealPatterns::new(alloc);
+    let mut rx = List::new(alloc);
+    for text in texts {
+        match patterns.build(text.as_str()) {
+            Ok(one) => rx.push(one)?,
+            Err(BuildFault::Memory) => return Err(Memory),
+            Err(BuildFault::Refused) => {}
+        }
+    }
+    Ok(rx)
 }
 
 // What the first part of the rule finds: the findings as lines of the range and the names, or the notice.
 fn found(alloc: Global, lang: Lang, bytes: &[u8], rule: &Rule) -> Result<String, Memory> {
     let mut lines = String::new(alloc);
-    let Some(found) = judged::<Brand>(alloc, Blank::new(1), lang, bytes, rule)? else {
+    let mut rx = built(alloc, rule.texts.as_slice())?;
+    let Some(found) = judged::<Brand>(alloc, Blank::new(1), lang, bytes, rule, &mut rx)? else {
         return Ok(lines);
     };
     for finding in found.findings() {
@@ -284,5 +301,27 @@ fn names_the_set_that_is_crowded(rt: HostRuntime) -> Result<(), Fail> {
     assert!(rt; all.as_str().lines().count() == 10_000);
     assert!(rt; zeros_found(alloc, 10_001, Formula::Leaf(0))?.as_str() == "crowded ''");
     assert!(rt; zeros_found(alloc, 10_001, nested(alloc)?)?.as_str() == "crowded '2.1'");
+    Ok(())
+}
+
+// A rule of that formula over the pattern `f($X)` and this regular expression.
+fn rule_with_text(alloc: Global, text: &str, formula: Formula) -> Result<Rule, Memory> {
+    let mut rule = rule(alloc, call_of_f(alloc)?, formula)?;
+    rule.texts.push(Text::from_str(alloc, text)?)?;
+    Ok(rule)
+}
+
+#[test]
+fn finds_matches_of_regular_expressions(rt: HostRuntime) -> Result<(), Fail> {
+    let alloc = rt.alloc();
+    let letters = rule_with_text(alloc, "a+", Formula::Regex(0))?;
+    assert!(rt; found(alloc, Lang::Regex, b"caab", &letters)?.as_str() == "1..3\n");
+    assert!(rt; found(alloc, Lang::Json, b"[\"caab\"]", &letters)?.as_str() == "3..5\n");
+    let mut children = List::new(alloc);
+    children.push(Child::Positive(Formula::Leaf(0)))?;
+    children.push(Child::NotRegex(0))?;
+    let calls = rule_with_text(alloc, "2", Formula::All(children))?;
+    let lines = found(alloc, Lang::Python, b"f(1)\nf(2)\n", &calls)?;
+    assert!(rt; lines.as_str() == "0..4 $X=2..3\n");
     Ok(())
 }

@@ -60,28 +60,43 @@ leads_end tree all leaves left far left-is =
 
 -- ---- one part
 
-pub part_judges : (text : List ℕ) (tree : Node) (parts : List Part) (k n : ℕ) (p : Part) (leaves : List Leaf) → slice_get parts k ≡ Some p → n ≡ k → AreLeaves tree p.patterns leaves → (r : Result Outcome Memory)
-    → IfOk r (PartFinds leaves text (slice_get parts n)) → IfOk r (λ found. (o : Outcome) → PartFinds leaves text (slice_get parts n) o → o ≡ found) → IfOk r (PartJudges text tree p)
-part_judges text tree parts k n p leaves at n-is are (Err e) finds only = tt
-part_judges text tree parts k n p leaves at n-is are (Ok found) finds only =
+pub part_judges : (texts : List (List ℕ)) (text : List ℕ) (tree : Node) (parts : List Part) (k n : ℕ) (p : Part) (leaves : List Leaf) → slice_get parts k ≡ Some p → n ≡ k → AreLeaves tree p.patterns leaves → (r : Result Outcome Memory)
+    → IfOk r (PartFinds leaves texts text (slice_get parts n)) → IfOk r (λ found. (o : Outcome) → PartFinds leaves texts text (slice_get parts n) o → o ≡ found) → IfOk r (PartJudges texts text tree p)
+part_judges texts text tree parts k n p leaves at n-is are (Err e) finds only = tt
+part_judges texts text tree parts k n p leaves at n-is are (Ok found) finds only =
     let there : slice_get parts n ≡ Some p = ap (slice_get parts) n-is ∙ at in
-    let P : Option Part → Type 0 = λ q. PartFinds leaves text q found in record {
+    let P : Option Part → Type 0 = λ q. PartFinds leaves texts text q found in record {
       finds = (leaves, are, subst P there finds);
       only = λ o h.
-          let Q : List Leaf → Type 0 = λ ls. PartFinds ls text (Some p) o in
-          let R : Option Part → Type 0 = λ q. PartFinds leaves text q o in
+          let Q : List Leaf → Type 0 = λ ls. PartFinds ls texts text (Some p) o in
+          let R : Option Part → Type 0 = λ q. PartFinds leaves texts text q o in
           only o (subst R (sym there) (subst Q (leaves_one tree p.patterns h.0 leaves h.1 are) h.2));
     }
 
+-- the same of equal texts and parts
+pub part_finds : (leaves : List Leaf) (given texts : List (List ℕ)) (text : List ℕ) (some parts : List Part) (n : ℕ) (r : Result Outcome Memory) → given ≡ texts → some ≡ parts
+    → IfOk r (PartFinds leaves given text (slice_get some n)) → IfOk r (PartFinds leaves texts text (slice_get parts n))
+part_finds leaves given texts text some parts n r e f h =
+    let P : List (List ℕ) → Type 0 = λ ts. IfOk r (PartFinds leaves ts text (slice_get some n)) in
+    let Q : List Part → Type 0 = λ ps. IfOk r (PartFinds leaves texts text (slice_get ps n)) in
+    subst Q f (subst P e h)
+
+pub part_only : (leaves : List Leaf) (given texts : List (List ℕ)) (text : List ℕ) (some parts : List Part) (n : ℕ) (r : Result Outcome Memory) → given ≡ texts → some ≡ parts
+    → IfOk r (λ found. (o : Outcome) → PartFinds leaves given text (slice_get some n) o → o ≡ found) → IfOk r (λ found. (o : Outcome) → PartFinds leaves texts text (slice_get parts n) o → o ≡ found)
+part_only leaves given texts text some parts n r e f h =
+    let P : List (List ℕ) → Type 0 = λ ts. IfOk r (λ found. (o : Outcome) → PartFinds leaves ts text (slice_get some n) o → o ≡ found) in
+    let Q : List Part → Type 0 = λ ps. IfOk r (λ found. (o : Outcome) → PartFinds leaves texts text (slice_get ps n) o → o ≡ found) in
+    subst Q f (subst P e h)
+
 -- ---- the parts of a rule
 
-module _ (lang : Lang) (text : List ℕ) (tree : Node) (number : ℕ) where
-  next_part : (p : Part) (all ps : List Part) (x : Judged) → all ≡ p ∷ ps → RuleJudges lang text tree number all x ↔ (PartAdds lang text tree number p x ⊎ RuleJudges lang text tree number ps x)
+module _ (texts : List (List ℕ)) (lang : Lang) (text : List ℕ) (tree : Node) (number : ℕ) where
+  next_part : (p : Part) (all ps : List Part) (x : Judged) → all ≡ p ∷ ps → RuleJudges texts lang text tree number all x ↔ (PartAdds texts lang text tree number p x ⊎ RuleJudges texts lang text tree number ps x)
   next_part p all ps x e =
-      let P : List Part → Type 0 = λ qs. RuleJudges lang text tree number qs x ↔ (PartAdds lang text tree number p x ⊎ RuleJudges lang text tree number ps x) in
+      let P : List Part → Type 0 = λ qs. RuleJudges texts lang text tree number qs x ↔ (PartAdds texts lang text tree number p x ⊎ RuleJudges texts lang text tree number ps x) in
       subst P (sym e) (
         λ h. elim h.has [
-          | inl f ↦ (let Q : Part → Type 0 = λ q. LooksAt q lang in let R : Part → Type 0 = λ q. PartFindsIn text tree q x.found in inl (subst Q (sym f) h.looks, h.number_is, subst R (sym f) h.finds))
+          | inl f ↦ (let Q : Part → Type 0 = λ q. LooksAt q lang in let R : Part → Type 0 = λ q. PartFindsIn texts text tree q x.found in inl (subst Q (sym f) h.looks, h.number_is, subst R (sym f) h.finds))
           | inr a ↦ inr (record { number_is = h.number_is; part = h.part; has = a; looks = h.looks; finds = h.finds })
         ],
         λ h. elim h [
@@ -91,39 +106,39 @@ module _ (lang : Lang) (text : List ℕ) (tree : Node) (number : ℕ) where
       )
 
   abbrev pub Gathers : List Judged → List Judged → List Part → List Part → Type 0
-  Gathers before now all left = (x : Judged) → (Among now x ⊎ RuleJudges lang text tree number left x) ↔ (Among before x ⊎ RuleJudges lang text tree number all x)
+  Gathers before now all left = (x : Judged) → (Among now x ⊎ RuleJudges texts lang text tree number left x) ↔ (Among before x ⊎ RuleJudges texts lang text tree number all x)
 
   -- what the part finds is this alone
-  pub part_adds : (p : Part) (y : Judged) (old new : List Judged) → new ≡ old ++ y ∷ [] → y.number ≡ number → LooksAt p lang → PartJudges text tree p y.found → Adds old new (PartAdds lang text tree number p)
-  part_adds p y old new new-is n looks j = adds_as old new (λ x. y ≡ x) (PartAdds lang text tree number p) (pushed old new y new-is) (λ x. (
-    λ e. let P : Judged → Type 0 = λ z. PartFindsIn text tree p z.found in (looks, sym (ap (λ (z : Judged). z.number) e) ∙ n, subst P e j.finds),
+  pub part_adds : (p : Part) (y : Judged) (old new : List Judged) → new ≡ old ++ y ∷ [] → y.number ≡ number → LooksAt p lang → PartJudges texts text tree p y.found → Adds old new (PartAdds texts lang text tree number p)
+  part_adds p y old new new-is n looks j = adds_as old new (λ x. y ≡ x) (PartAdds texts lang text tree number p) (pushed old new y new-is) (λ x. (
+    λ e. let P : Judged → Type 0 = λ z. PartFindsIn texts text tree p z.found in (looks, sym (ap (λ (z : Judged). z.number) e) ∙ n, subst P e j.finds),
     λ f.
         let g : ℕ → Judged = λ k. record { number = k; found = y.found } in
         let h : Outcome → Judged = λ o. record { number = x.number; found = o } in
         ap g (n ∙ sym f.1) ∙ ap h (sym (j.only x.found f.2)),
   ))
 
-  pub part_adds_none : (p : Part) (old : List Judged) → (LooksAt p lang → ⊥) → Adds old old (PartAdds lang text tree number p)
-  part_adds_none p old blind = adds_none old (PartAdds lang text tree number p) (λ x f. blind f.0)
+  pub part_adds_none : (p : Part) (old : List Judged) → (LooksAt p lang → ⊥) → Adds old old (PartAdds texts lang text tree number p)
+  part_adds_none p old blind = adds_none old (PartAdds texts lang text tree number p) (λ x f. blind f.0)
 
   pub gathers_start : (now : List Judged) (all left : List Part) → left ≡ all → Gathers now now all left
-  gathers_start now all left e x = let P : List Part → Type 0 = λ ps. RuleJudges lang text tree number ps x in (λ h. elim h [ inl a ↦ inl a | inr r ↦ inr (subst P e r) ], λ h. elim h [ inl a ↦ inl a | inr r ↦ inr (subst P (sym e) r) ])
+  gathers_start now all left e x = let P : List Part → Type 0 = λ ps. RuleJudges texts lang text tree number ps x in (λ h. elim h [ inl a ↦ inl a | inr r ↦ inr (subst P e r) ], λ h. elim h [ inl a ↦ inl a | inr r ↦ inr (subst P (sym e) r) ])
 
-  pub gathers_on : (before old new : List Judged) (all left ps : List Part) (p : Part) → Gathers before old all left → left ≡ p ∷ ps → Adds old new (PartAdds lang text tree number p) → Gathers before new all ps
+  pub gathers_on : (before old new : List Judged) (all left ps : List Part) (p : Part) → Gathers before old all left → left ≡ p ∷ ps → Adds old new (PartAdds texts lang text tree number p) → Gathers before new all ps
   gathers_on before old new all left ps p far left-is adds x =
-      gathered (Among old x) (Among new x) (PartAdds lang text tree number p x) (RuleJudges lang text tree number left x) (RuleJudges lang text tree number ps x) (Among before x ⊎ RuleJudges lang text tree number all x) (adds x) (next_part p left ps x left-is) (far x)
+      gathered (Among old x) (Among new x) (PartAdds texts lang text tree number p x) (RuleJudges texts lang text tree number left x) (RuleJudges texts lang text tree number ps x) (Among before x ⊎ RuleJudges texts lang text tree number all x) (adds x) (next_part p left ps x left-is) (far x)
 
-  pub gathers_end : (before now : List Judged) (all left : List Part) → Gathers before now all left → left ≡ [] → Adds before now (RuleJudges lang text tree number all)
+  pub gathers_end : (before now : List Judged) (all left : List Part) → Gathers before now all left → left ≡ [] → Adds before now (RuleJudges texts lang text tree number all)
   gathers_end before now all left far left-is x = (
     λ h. (far x).0 (inl h),
     λ h. elim ((far x).1 h) [ inl a ↦ a | inr l ↦ (let P : List Part → Type 0 = λ ps. Among ps l.part in absurd (subst P left-is l.has)) ],
   )
 
-  pub rule_adds : (path : List ℕ) (rule : Rule) (old new : List Judged) → Allows rule path → Adds old new (RuleJudges lang text tree number rule.parts) → Adds old new (RuleAdds path lang text tree number rule)
-  rule_adds path rule old new allows adds = adds_as old new (RuleJudges lang text tree number rule.parts) (RuleAdds path lang text tree number rule) adds (λ x. (λ h. (allows, h), λ h. h.1))
+pub rule_adds : (lang : Lang) (text : List ℕ) (tree : Node) (number : ℕ) (path : List ℕ) (rule : Rule) (old new : List Judged) → Allows rule path → Adds old new (RuleJudges rule.texts lang text tree number rule.parts) → Adds old new (RuleAdds path lang text tree number rule)
+rule_adds lang text tree number path rule old new allows adds = adds_as old new (RuleJudges rule.texts lang text tree number rule.parts) (RuleAdds path lang text tree number rule) adds (λ x. (λ h. (allows, h), λ h. h.1))
 
-  pub rule_adds_none : (path : List ℕ) (rule : Rule) (old : List Judged) → (Allows rule path → ⊥) → Adds old old (RuleAdds path lang text tree number rule)
-  rule_adds_none path rule old barred = adds_none old (RuleAdds path lang text tree number rule) (λ x h. barred h.0)
+pub rule_adds_none : (lang : Lang) (text : List ℕ) (tree : Node) (number : ℕ) (path : List ℕ) (rule : Rule) (old : List Judged) → (Allows rule path → ⊥) → Adds old old (RuleAdds path lang text tree number rule)
+rule_adds_none lang text tree number path rule old barred = adds_none old (RuleAdds path lang text tree number rule) (λ x h. barred h.0)
 
 pub all_placed_start : (text : List ℕ) (judged : List Judged) → judged ≡ [] → AreAllPlaced text judged
 all_placed_start text judged e x h = let P : List Judged → Type 0 = λ js. Among js x in absurd (subst P e h)

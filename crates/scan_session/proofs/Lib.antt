@@ -1,6 +1,7 @@
 pub mod Contents
-pub mod Taking
 pub mod Members
+pub mod Asking
+pub mod Taking
 pub mod Orders
 pub mod Ids
 pub mod Globs

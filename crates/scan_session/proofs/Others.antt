@@ -13,7 +13,7 @@ use Rattle.scan_session.specs.declared.rule_file.RuleFile.{RuleFile}
 use Rattle.scan_session.specs.RuleFiles.{outcomes_of}
 use Rattle.scan_session.specs.Sets.{IsExactly}
 use Rattle.scan_session.specs.Reports.{reported_cmp}
-use Rattle.scan_session.specs.Running.{Stated, stated_at, stated_from, stated, is_taken, is_unbuilt, firsts, built, running}
+use Rattle.scan_session.specs.Running.{Stated, stated_at, stated_from, stated, is_taken, is_out, firsts, built, running}
 use Rattle.scan_session.specs.Fresh.{File, IsResultIn, IsResult, IsFresh}
 use Rattle.scan_session.specs.HitOrder.{reported_total}
 use Rattle.scan_session.specs.Others.{file_of, KeepsOtherFiles, KeepsOtherRules}
@@ -35,18 +35,18 @@ still_there (b ∷ bs) after file other (inl e) = inl e
 still_there (b ∷ bs) after file other (inr h) = inr (still_there bs after file other h)
 
 -- whatever a file holds, the findings of other paths are those of a scan without it
-pub other_files : (files : List File) (rule_files : List RuleFile) (more : Report) → IsFresh files rule_files more → KeepsOtherFiles files rule_files more
-other_files files rule_files more a before after file less e b r apart = (
+pub other_files : (refused : List (List ℕ)) (files : List File) (rule_files : List RuleFile) (more : Report) → IsFresh refused files rule_files more → KeepsOtherFiles refused files rule_files more
+other_files refused files rule_files more a before after file less e b r apart = (
   λ h. let f = (whole.exact r).0 h in
       elim (one_of before after file f.0 f.1) [
-        | inl e ↦ absurd (apart (path_is (running rule_files) f.0 r f.2 ∙ ap (λ (x : File). x.0) (sym e)))
+        | inl e ↦ absurd (apart (path_is (running refused rule_files) f.0 r f.2 ∙ ap (λ (x : File). x.0) (sym e)))
         | inr k ↦ (b.results.exact r).1 (f.0, k, f.2)
       ],
   λ h. let f = (b.results.exact r).0 h in (whole.exact r).1 (f.0, still_there before after file f.0 f.1, f.2),
 )
   where
-    whole : IsExactly reported_cmp (IsResult (running rule_files) (before ++ file ∷ after)) more.results
-    whole = let P : List File → Type 0 = λ fs. IsExactly reported_cmp (IsResult (running rule_files) fs) more.results in subst P e a.results
+    whole : IsExactly reported_cmp (IsResult (running refused rule_files) (before ++ file ∷ after)) more.results
+    whole = let P : List File → Type 0 = λ fs. IsExactly reported_cmp (IsResult (running refused rule_files) fs) more.results in subst P e a.results
 
 -- ---- one entry more that is no rule
 
@@ -64,23 +64,23 @@ good_rules (Good rule ∷ os) = rule ∷ good_rules os
 good_rules (Bad fault ∷ os) = good_rules os
 
 -- those that run, where these ids are taken before
-abbrev run_from : List (List ℕ) → List Rule → List Rule
-run_from taken [] = []
-run_from taken (r ∷ rs) = if is_taken taken r.id then run_from taken rs else (if is_unbuilt r then run_from (r.id ∷ taken) rs else r ∷ run_from (r.id ∷ taken) rs)
+abbrev run_from : List (List ℕ) → List (List ℕ) → List Rule → List Rule
+run_from refused taken [] = []
+run_from refused taken (r ∷ rs) = if is_taken taken r.id then run_from refused taken rs else (if is_out refused r then run_from refused (r.id ∷ taken) rs else r ∷ run_from refused (r.id ∷ taken) rs)
 
 -- one rule after those that are taken up
-step : (repeated : Bool) (s : Stated) (later after : List Stated) → built (if repeated then later else s ∷ after) ≡ (if repeated then built later else (if is_unbuilt s.rule then built after else s.rule ∷ built after))
-step true s later after = refl
-step false s later after = refl
+step : (refused : List (List ℕ)) (repeated : Bool) (s : Stated) (later after : List Stated) → built refused (if repeated then later else s ∷ after) ≡ (if repeated then built refused later else (if is_out refused s.rule then built refused after else s.rule ∷ built refused after))
+step refused true s later after = refl
+step refused false s later after = refl
 
-runs : (taken : List (List ℕ)) (ss : List Stated) → built (firsts taken ss) ≡ run_from taken (map rule_of ss)
-runs taken [] = refl
-runs taken (s ∷ ss) =
+runs : (refused taken : List (List ℕ)) (ss : List Stated) → built refused (firsts taken ss) ≡ run_from refused taken (map rule_of ss)
+runs refused taken [] = refl
+runs refused taken (s ∷ ss) =
     let more = s.rule.id ∷ taken in
-    let later = runs taken ss in
-    let after = runs more ss in
-    let F : List Rule → List Rule → List Rule = λ x y. if is_taken taken s.rule.id then x else (if is_unbuilt s.rule then y else s.rule ∷ y) in
-    step (is_taken taken s.rule.id) s (firsts taken ss) (firsts more ss) ∙ ap (λ (x : List Rule). F x (built (firsts more ss))) later ∙ ap (λ (y : List Rule). F (run_from taken (map rule_of ss)) y) after
+    let later = runs refused taken ss in
+    let after = runs refused more ss in
+    let F : List Rule → List Rule → List Rule = λ x y. if is_taken taken s.rule.id then x else (if is_out refused s.rule then y else s.rule ∷ y) in
+    step refused (is_taken taken s.rule.id) s (firsts taken ss) (firsts more ss) ∙ ap (λ (x : List Rule). F x (built refused (firsts more ss))) later ∙ ap (λ (y : List Rule). F (run_from refused taken (map rule_of ss)) y) after
 
 rules_at : (file : List ℕ) (k : ℕ) (o : RuleOutcome) (os : List RuleOutcome) → map rule_of (stated_at file k o) ++ good_rules os ≡ good_rules (o ∷ os)
 rules_at file k (Good rule) os = refl
@@ -103,16 +103,16 @@ same_rules [] after f g e =
 same_rules (b ∷ bs) after f g e =
     map-append rule_of (stated_in b) (stated (bs ++ f ∷ after)) ∙ ap (λ (l : List Rule). map rule_of (stated_in b) ++ l) (same_rules bs after f g e) ∙ sym (map-append rule_of (stated_in b) (stated (bs ++ g ∷ after)))
 
-same_running : (before after : List RuleFile) (f g : RuleFile) → map rule_of (stated_in f) ≡ map rule_of (stated_in g) → running (before ++ f ∷ after) ≡ running (before ++ g ∷ after)
-same_running before after f g e =
-    runs [] (stated (before ++ f ∷ after)) ∙ ap (λ (l : List Rule). run_from [] l) (same_rules before after f g e) ∙ sym (runs [] (stated (before ++ g ∷ after)))
+same_running : (refused : List (List ℕ)) (before after : List RuleFile) (f g : RuleFile) → map rule_of (stated_in f) ≡ map rule_of (stated_in g) → running refused (before ++ f ∷ after) ≡ running refused (before ++ g ∷ after)
+same_running refused before after f g e =
+    runs refused [] (stated (before ++ f ∷ after)) ∙ ap (λ (l : List Rule). run_from refused [] l) (same_rules before after f g e) ∙ sym (runs refused [] (stated (before ++ g ∷ after)))
 
 same_entries : (name : List ℕ) (os ps : List RuleOutcome) (fault : RuleFault) → map rule_of (stated_from name 0 (os ++ Bad fault ∷ ps)) ≡ map rule_of (stated_from name 0 (os ++ ps))
 same_entries name os ps fault = rules_from name 0 (os ++ Bad fault ∷ ps) ∙ past_bad os ps fault ∙ sym (rules_from name 0 (os ++ ps))
 
 -- the findings are those of the rule files without the entry
-pub other_rules : (files : List File) (rule_files : List RuleFile) (more : Report) → IsFresh files rule_files more → KeepsOtherRules files rule_files more
-other_rules files rule_files more a before after name os ps fault less e b =
-    let same = ap (λ (rs : List RuleFile). running rs) e ∙ same_running before after (file_of name (os ++ Bad fault ∷ ps)) (file_of name (os ++ ps)) (same_entries name os ps fault) in
+pub other_rules : (refused : List (List ℕ)) (files : List File) (rule_files : List RuleFile) (more : Report) → IsFresh refused files rule_files more → KeepsOtherRules refused files rule_files more
+other_rules refused files rule_files more a before after name os ps fault less e b =
+    let same = ap (λ (rs : List RuleFile). running refused rs) e ∙ same_running refused before after (file_of name (os ++ Bad fault ∷ ps)) (file_of name (os ++ ps)) (same_entries name os ps fault) in
     let P : List Rule → Type 0 = λ l. IsExactly reported_cmp (IsResult l files) more.results in
-    exactly_once reported_cmp reported_total (IsResult (running (before ++ file_of name (os ++ ps) ∷ after)) files) more.results less.results (subst P same a.results) b.results
+    exactly_once reported_cmp reported_total (IsResult (running refused (before ++ file_of name (os ++ ps) ∷ after)) files) more.results less.results (subst P same a.results) b.results

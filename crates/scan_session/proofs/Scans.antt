@@ -190,14 +190,14 @@ module _ (rules : List Rule) (most : ℕ) (files left : List File) (before notic
 
 -- ---- the report
 
-pub is_fresh : (files : List File) (rule_files : List RuleFile) (rules : List Rule) (results : List Reported) (before notices listed : List Notice) → rules ≡ running rule_files → before ≡ rule_notices rule_files
+pub is_fresh : (refused : List (List ℕ)) (files : List File) (rule_files : List RuleFile) (rules : List Rule) (results : List Reported) (before notices listed : List Notice) → rules ≡ running refused rule_files → before ≡ rule_notices refused rule_files
     → IsExactly reported_cmp (IsResult rules files) results → Adds before notices (IsFileNotice rules files) → IsAscending notice_cmp listed → ((n : Notice) → Among listed n ↔ Among notices n)
-    → IsFresh files rule_files (record { results = results; notices = listed })
-is_fresh files rule_files rules results before notices listed e f whole adds up same = record {
+    → IsFresh refused files rule_files (record { results = results; notices = listed })
+is_fresh refused files rule_files rules results before notices listed e f whole adds up same = record {
   results = let P : List Rule → Type 0 = λ rs. IsExactly reported_cmp (IsResult rs files) results in subst P e whole;
   notices =
       let P : List Rule → Type 0 = λ rs. Adds before notices (IsFileNotice rs files) in
-      let Q : List Notice → Type 0 = λ ns. Adds ns notices (IsFileNotice (running rule_files) files) in
+      let Q : List Notice → Type 0 = λ ns. Adds ns notices (IsFileNotice (running refused rule_files) files) in
       let added = subst Q f (subst P e adds) in
       record { exact = λ n. (λ h. (added n).0 ((same n).0 h), λ h. (same n).1 ((added n).1 h)); ordered = up };
 }

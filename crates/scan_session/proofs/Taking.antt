@@ -1,6 +1,6 @@
 -- Rules that are taken up one after the other.
 use Rattle.std.proofs.Common.{◌≡◌, ◌↔◌, ℕ, suc, ◌+◌, Bool, true, false, cond, not, List, [], ◌∷◌, ◌++◌, map, nat_cmp, refl, sym, ap, ◌∙◌, subst, append_assoc, append-nil, add-one}
-use Rattle.std.specs.Prelude.{if◌then◌else◌, ◌||◌, IsTrue}
+use Rattle.std.specs.Prelude.{if◌then◌else◌, ◌||◌}
 use Rattle.std.specs.Borrow.{Bor}
 use Rattle.std.specs.List.{list_any}
 use Rattle.std.specs.Ordering.{is_eq}
@@ -13,8 +13,9 @@ use Rattle.rule_read.specs.declared.fault.RuleOutcome.{RuleOutcome}
 use Rattle.fix_apply.specs.declared.notice.Notice.{Notice}
 use Rattle.scan_session.specs.declared.rule_file.RuleFile.{RuleFile}
 use Rattle.scan_session.specs.RuleFiles.{outcomes_of}
-use Rattle.scan_session.specs.Running.{Stated, stated_at, stated_from, stated, is_taken, is_unbuilt, has_texts, built, firsts, stated_notices, first_notices, repeat_notice, option_notice, unbuilt_notice}
-use Rattle.scan_session.specs.Taking.{HasJust, ids_after, rules_at, notices_at}
+use Rattle.scan_session.specs.Running.{Stated, stated_at, stated_from, stated, texts_of, is_taken, is_unbuilt, has_refused, is_out, built, firsts, stated_notices, first_notices, repeat_notice}
+use Rattle.scan_session.specs.Building.{Built, HoldsAll}
+use Rattle.scan_session.specs.Taking.{HasJust, ids_after, run_of, rules_at, notices_at}
 
 -- ---- entries
 
@@ -44,13 +45,6 @@ any_found T all left x rest h left-is e = h ∙ ap (list_any T) left-is ∙ ap (
 
 pub any_past : {X : Type 0} (T : X → Bool) (all left : List X) (x : X) (rest : List X) → list_any T all ≡ list_any T left → left ≡ x ∷ rest → T x ≡ false → list_any T all ≡ list_any T rest
 any_past T all left x rest h left-is e = h ∙ ap (list_any T) left-is ∙ ap (λ (b : Bool). b || list_any T rest) e
-
-pub some_texts : (b : Bool) (texts : List (List ℕ)) → IsTrue b ↔ (texts ≡ []) → b ≡ false → has_texts texts ≡ true
-some_texts b [] h e = let f = h.1 refl in absurd (let g = sym e ∙ f in cc)
-some_texts b (t ∷ ts) h e = refl
-
-pub no_texts : (b : Bool) (texts : List (List ℕ)) → IsTrue b ↔ (texts ≡ []) → b ≡ true → has_texts texts ≡ false
-no_texts b texts h e = ap has_texts (h.0 e)
 
 -- ---- ids
 
@@ -94,72 +88,105 @@ module _ (ids : List (List ℕ)) (id : Bor (List ℕ)) (old new : Ids) (just : H
 
 -- ---- one rule after the other
 
-module _ (ids : List (List ℕ)) (s : Stated) (ss : List Stated) where
-  next_rules : built (firsts ids (s ∷ ss)) ≡ rules_at ids s ++ built (firsts (ids_after ids s) ss)
+module _ (refused ids : List (List ℕ)) (s : Stated) (ss : List Stated) where
+  next_rules : built refused (firsts ids (s ∷ ss)) ≡ rules_at refused ids s ++ built refused (firsts (ids_after ids s) ss)
   next_rules = at (is_taken ids s.rule.id)
     where
       one : (u : Bool) (rs : List Rule) → (if u then rs else s.rule ∷ rs) ≡ (if u then [] else s.rule ∷ []) ++ rs
       one true rs = refl
       one false rs = refl
 
-      at : (b : Bool) → built (if b then firsts ids ss else s ∷ firsts (s.rule.id ∷ ids) ss) ≡ (if b then [] else (if is_unbuilt s.rule then [] else s.rule ∷ [])) ++ built (firsts (if b then ids else s.rule.id ∷ ids) ss)
+      at : (b : Bool) → built refused (if b then firsts ids ss else s ∷ firsts (s.rule.id ∷ ids) ss) ≡ (if b then [] else run_of refused s.rule) ++ built refused (firsts (if b then ids else s.rule.id ∷ ids) ss)
       at true = refl
-      at false = one (is_unbuilt s.rule) (built (firsts (s.rule.id ∷ ids) ss))
+      at false = one (is_out refused s.rule) (built refused (firsts (s.rule.id ∷ ids) ss))
 
-  next_notices : stated_notices ids (s ∷ ss) ≡ notices_at ids s ++ stated_notices (ids_after ids s) ss
+  next_notices : stated_notices refused ids (s ∷ ss) ≡ notices_at refused ids s ++ stated_notices refused (ids_after ids s) ss
   next_notices = at (is_taken ids s.rule.id)
     where
-      at : (b : Bool) → (if b then repeat_notice s ∷ stated_notices ids ss else first_notices s ++ stated_notices (s.rule.id ∷ ids) ss)
-          ≡ (if b then repeat_notice s ∷ [] else first_notices s) ++ stated_notices (if b then ids else s.rule.id ∷ ids) ss
+      at : (b : Bool) → (if b then repeat_notice s ∷ stated_notices refused ids ss else first_notices refused s ++ stated_notices refused (s.rule.id ∷ ids) ss)
+          ≡ (if b then repeat_notice s ∷ [] else first_notices refused s) ++ stated_notices refused (if b then ids else s.rule.id ∷ ids) ss
       at true = refl
       at false = refl
 
 -- what was taken up, and what is left
-pub record SoFar (all : List Stated) (before : List Notice) (taken : Ids) (rules : List Rule) (notices : List Notice) (left : List Stated) : Type 0 where
+pub record SoFar (refused : List (List ℕ)) (all : List Stated) (before : List Notice) (taken : Ids) (rules : List Rule) (notices : List Notice) (left : List Stated) : Type 0 where
   pub ids : List (List ℕ)
   pub just : HasJust taken ids
-  pub rules_are : rules ++ built (firsts ids left) ≡ built (firsts [] all)
-  pub notices_are : notices ++ stated_notices ids left ≡ before ++ stated_notices [] all
+  pub rules_are : rules ++ built refused (firsts ids left) ≡ built refused (firsts [] all)
+  pub notices_are : notices ++ stated_notices refused ids left ≡ before ++ stated_notices refused [] all
 
-pub takes : (all : List Stated) (before : List Notice) (taken taken' : Ids) (rules rules' : List Rule) (notices notices' : List Notice) (left : List Stated) (s : Stated) (ss : List Stated)
-    → (far : SoFar all before taken rules notices left) → left ≡ s ∷ ss → HasJust taken' (ids_after far.ids s) → rules' ≡ rules ++ rules_at far.ids s → notices' ≡ notices ++ notices_at far.ids s
-    → SoFar all before taken' rules' notices' ss
-takes all before taken taken' rules rules' notices notices' left s ss far left-is just r n = record {
+-- the same, where of the texts of all rules it is held what they came to
+abbrev pub TakesUp : Built → List Stated → List Notice → Ids → List Rule → List Notice → List Stated → Type 0
+TakesUp store all before taken rules notices left = (refused : List (List ℕ)) → HoldsAll store refused (texts_of all) → SoFar refused all before taken rules notices left × HoldsAll store refused (texts_of left)
+
+pub takes : (refused : List (List ℕ)) (all : List Stated) (before : List Notice) (taken taken' : Ids) (rules rules' : List Rule) (notices notices' : List Notice) (left : List Stated) (s : Stated) (ss : List Stated)
+    → (far : SoFar refused all before taken rules notices left) → left ≡ s ∷ ss → HasJust taken' (ids_after far.ids s) → rules' ≡ rules ++ rules_at refused far.ids s → notices' ≡ notices ++ notices_at refused far.ids s
+    → SoFar refused all before taken' rules' notices' ss
+takes refused all before taken taken' rules rules' notices notices' left s ss far left-is just r n = record {
   ids = ids_after far.ids s;
   just = just;
   rules_are =
-      ap (λ (rs : List Rule). rs ++ built (firsts (ids_after far.ids s) ss)) r ∙ append_assoc rules (rules_at far.ids s) (built (firsts (ids_after far.ids s) ss))
-      ∙ ap (λ (rs : List Rule). rules ++ rs) (sym (next_rules far.ids s ss)) ∙ ap (λ (l : List Stated). rules ++ built (firsts far.ids l)) (sym left-is) ∙ far.rules_are;
+      ap (λ (rs : List Rule). rs ++ built refused (firsts (ids_after far.ids s) ss)) r ∙ append_assoc rules (rules_at refused far.ids s) (built refused (firsts (ids_after far.ids s) ss))
+      ∙ ap (λ (rs : List Rule). rules ++ rs) (sym (next_rules refused far.ids s ss)) ∙ ap (λ (l : List Stated). rules ++ built refused (firsts far.ids l)) (sym left-is) ∙ far.rules_are;
   notices_are =
-      ap (λ (ns : List Notice). ns ++ stated_notices (ids_after far.ids s) ss) n ∙ append_assoc notices (notices_at far.ids s) (stated_notices (ids_after far.ids s) ss)
-      ∙ ap (λ (ns : List Notice). notices ++ ns) (sym (next_notices far.ids s ss)) ∙ ap (λ (l : List Stated). notices ++ stated_notices far.ids l) (sym left-is) ∙ far.notices_are;
+      ap (λ (ns : List Notice). ns ++ stated_notices refused (ids_after far.ids s) ss) n ∙ append_assoc notices (notices_at refused far.ids s) (stated_notices refused (ids_after far.ids s) ss)
+      ∙ ap (λ (ns : List Notice). notices ++ ns) (sym (next_notices refused far.ids s ss)) ∙ ap (λ (l : List Stated). notices ++ stated_notices refused far.ids l) (sym left-is) ∙ far.notices_are;
 }
+
+pub takes_none : (store : Built) (all left : List Stated) (before : List Notice) (taken : Ids) (rules : List Rule) → HasJust taken [] → rules ≡ [] → left ≡ all → TakesUp store all before taken rules before left
+takes_none store all left before taken rules just e f refused holds =
+    let P : List Stated → Type 0 = λ l. HoldsAll store refused (texts_of l) in (
+      record {
+        ids = [];
+        just = just;
+        rules_are = ap (λ (rs : List Rule). rs ++ built refused (firsts [] left)) e ∙ ap (λ (l : List Stated). built refused (firsts [] l)) f;
+        notices_are = ap (λ (l : List Stated). before ++ stated_notices refused [] l) f;
+      },
+      subst P (sym f) holds,
+    )
+
+pub all_rules : (refused : List (List ℕ)) (all : List Stated) (before : List Notice) (taken : Ids) (rules : List Rule) (notices : List Notice) (left : List Stated) → SoFar refused all before taken rules notices left → left ≡ []
+    → (rules ≡ built refused (firsts [] all)) × (notices ≡ before ++ stated_notices refused [] all)
+all_rules refused all before taken rules notices left far e = (
+  sym (ap (λ (l : List Stated). rules ++ built refused (firsts far.ids l)) e ∙ append-nil rules) ∙ far.rules_are,
+  sym (ap (λ (l : List Stated). notices ++ stated_notices refused far.ids l) e ∙ append-nil notices) ∙ far.notices_are,
+)
 
 -- ---- what one rule gives
 
-module _ (ids : List (List ℕ)) (s : Stated) where
+module _ (refused ids : List (List ℕ)) (s : Stated) where
   pub ids_old : is_taken ids s.rule.id ≡ true → ids_after ids s ≡ ids
   ids_old e = ap (λ (b : Bool). if b then ids else s.rule.id ∷ ids) e
 
   pub ids_new : is_taken ids s.rule.id ≡ false → ids_after ids s ≡ s.rule.id ∷ ids
   ids_new e = ap (λ (b : Bool). if b then ids else s.rule.id ∷ ids) e
 
-  pub rules_old : is_taken ids s.rule.id ≡ true → rules_at ids s ≡ []
-  rules_old e = ap (λ (b : Bool). if b then [] else (if is_unbuilt s.rule then [] else s.rule ∷ [])) e
+  pub rules_old : is_taken ids s.rule.id ≡ true → rules_at refused ids s ≡ []
+  rules_old e = ap (λ (b : Bool). if b then [] else run_of refused s.rule) e
 
-  pub rules_new : (u : Bool) → is_taken ids s.rule.id ≡ false → is_unbuilt s.rule ≡ u → rules_at ids s ≡ (if u then [] else s.rule ∷ [])
-  rules_new u e f = ap (λ (b : Bool). if b then [] else (if is_unbuilt s.rule then [] else s.rule ∷ [])) e ∙ ap (λ (b : Bool). if b then [] else s.rule ∷ []) f
+  pub rules_new : is_taken ids s.rule.id ≡ false → rules_at refused ids s ≡ run_of refused s.rule
+  rules_new e = ap (λ (b : Bool). if b then [] else run_of refused s.rule) e
 
-  pub notices_old : is_taken ids s.rule.id ≡ true → notices_at ids s ≡ repeat_notice s ∷ []
-  notices_old e = ap (λ (b : Bool). if b then repeat_notice s ∷ [] else first_notices s) e
+  pub notices_old : is_taken ids s.rule.id ≡ true → notices_at refused ids s ≡ repeat_notice s ∷ []
+  notices_old e = ap (λ (b : Bool). if b then repeat_notice s ∷ [] else first_notices refused s) e
 
-  pub notices_new : (u : Bool) → is_taken ids s.rule.id ≡ false → is_unbuilt s.rule ≡ u → notices_at ids s ≡ map (option_notice s.file s.rule.id) s.rule.unread ++ (if u then unbuilt_notice s ∷ [] else [])
-  notices_new u e f =
-      ap (λ (b : Bool). if b then repeat_notice s ∷ [] else first_notices s) e ∙ ap (λ (b : Bool). map (option_notice s.file s.rule.id) s.rule.unread ++ (if b then unbuilt_notice s ∷ [] else [])) f
+  pub notices_new : is_taken ids s.rule.id ≡ false → notices_at refused ids s ≡ first_notices refused s
+  notices_new e = ap (λ (b : Bool). if b then repeat_notice s ∷ [] else first_notices refused s) e
+
+-- what a rule gives that runs, or doesn't
+module _ (refused : List (List ℕ)) (rule : Rule) where
+  pub unbuilt_out : is_unbuilt rule ≡ true → run_of refused rule ≡ []
+  unbuilt_out e = ap (λ (b : Bool). if (b || has_refused refused rule) then [] else rule ∷ []) e
+
+  pub built_out : is_unbuilt rule ≡ false → has_refused refused rule ≡ true → run_of refused rule ≡ []
+  built_out e f = ap (λ (b : Bool). if (b || has_refused refused rule) then [] else rule ∷ []) e ∙ ap (λ (b : Bool). if b then [] else rule ∷ []) f
+
+  pub built_in : is_unbuilt rule ≡ false → has_refused refused rule ≡ false → run_of refused rule ≡ rule ∷ []
+  built_in e f = ap (λ (b : Bool). if (b || has_refused refused rule) then [] else rule ∷ []) e ∙ ap (λ (b : Bool). if b then [] else rule ∷ []) f
 
 -- the ids that are taken once that of the rule is put among them
 pub ids_grown : (ids : List (List ℕ)) (s : Stated) (id : Bor (List ℕ)) → id.now ≡ s.rule.id → (old new : Ids) → HasJust old ids → ((key : Bor (List ℕ)) → has new key ≡ cond (is_eq (slice_cmp nat_cmp id.now key.now)) true (has old key)) → not (has old id) ≡ true → HasJust new (ids_after ids s)
 ids_grown ids s id id-is old new just updates added =
     let fresh : is_taken ids s.rule.id ≡ false = ap (is_taken ids) (sym id-is) ∙ is_fresh ids id old new just updates added in
     let P : List (List ℕ) → Type 0 = HasJust new in
-    subst P (ap (λ (i : List ℕ). i ∷ ids) id-is ∙ sym (ids_new ids s fresh)) (with_id ids id old new just updates)
+    subst P (ap (λ (i : List ℕ). i ∷ ids) id-is ∙ sym (ids_new [] ids s fresh)) (with_id ids id old new just updates)

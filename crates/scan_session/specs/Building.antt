@@ -1,5 +1,5 @@
 -- What the code knows of texts that it gave to a builder of regular expressions.
-use Rattle.std.specs.Prelude.{◌≡◌, ℕ, true, List, ◌++◌, Option, None, Some, if◌then◌else◌}
+use Rattle.std.specs.Prelude.{◌≡◌, ℕ, true, List, [], ◌∷◌, ◌++◌, Option, None, Some, if◌then◌else◌}
 use Rattle.std.specs.Borrow.{Bor}
 use Rattle.std.specs.BTreeMap.{BTreeMap, get_by}
 use Rattle.std.specs.Cmp.Lexicographic.{slice_cmp}
@@ -30,9 +30,17 @@ pub record HasAsked (start now : List (List ℕ)) (built : Built) (asked : List 
   pub holds : HoldsJust built asked refused
   pub were_asked : (text : List ℕ) → is_refused refused text ≡ true → is_taken asked text ≡ true
 
--- it is held of each of these what it came to
+-- it is held of the text what it came to
+abbrev pub Holds : Built → List (List ℕ) → List ℕ → Type 0
+Holds built refused text = held built text ≡ Some (came_to refused text)
+
 abbrev pub HoldsAll : Built → List (List ℕ) → List (List ℕ) → Type 0
-HoldsAll built refused texts = (text : List ℕ) → Among texts text → held built text ≡ Some (came_to refused text)
+HoldsAll built refused texts = (text : List ℕ) → Among texts text → Holds built refused text
+
+-- the builder gave the regular expression of the text and its list is as before, or it put the text on its list
+abbrev pub Answers : Option (List ℕ) → List ℕ → List (List ℕ) → List (List ℕ) → Type 0
+Answers None text old new = new ≡ old ++ text ∷ []
+Answers (Some rx) text old new = (rx ≡ text) × (new ≡ old)
 
 -- the builder's list gained some of these texts
 abbrev pub GainsOf : List (List ℕ) → List (List ℕ) → List (List ℕ) → Type 0

@@ -22,8 +22,12 @@ abbrev pub ids_after : List (List ℕ) → Stated → List (List ℕ)
 ids_after ids s = if is_taken ids s.rule.id then ids else s.rule.id ∷ ids
 
 -- the rule, if it runs where those texts are refused
+abbrev pub run_of : List (List ℕ) → Rule → List Rule
+run_of refused rule = if is_out refused rule then [] else rule ∷ []
+
+-- the same, where these ids are taken before
 abbrev pub rules_at : List (List ℕ) → List (List ℕ) → Stated → List Rule
-rules_at refused ids s = if is_taken ids s.rule.id then [] else (if is_out refused s.rule then [] else s.rule ∷ [])
+rules_at refused ids s = if is_taken ids s.rule.id then [] else run_of refused s.rule
 
 -- its notices
 abbrev pub notices_at : List (List ℕ) → List (List ℕ) → Stated → List Notice

@@ -1,12 +1,14 @@
 //! What a fresh scan of files by rule files reports.
 #![tactic(auto)]
 
+mod building;
 mod fault;
 mod looking;
 mod note;
 mod reporting;
 mod row;
 mod rule_file;
+mod runner;
 mod running;
 mod scanning;
 

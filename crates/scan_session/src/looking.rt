@@ -6,10 +6,10 @@ ghost use Rattle.tree_match.specs.Placed.{IsLeafPlaced};
 ghost use Rattle.judge_file.specs.Findings.{findings_of, IsFindingPlaced};
 ghost use Rattle.rule_form.specs.declared.rule.Part.{Part as a_part};
 ghost use Rattle.scan_session.specs.Looking.{GlobMatches, SomeMatches, Allows, AreLeaves, LooksAt};
-ghost use Rattle.scan_session.specs.Taking.{lent};
 ghost use Rattle.scan_session.specs.declared.looking.Judged.{Judged as a_judged};
 ghost use Rattle.scan_session.specs.Judging.{PartJudges, PartAdds, RuleJudges, RuleAdds, IsJudged, AreAllPlaced};
 
+use crate::runner::Runner;
 use judge_file::{Found, judge};
 use node_tree::{FileView, Lang, List, Memory, Pattern, Steps, Text};
 use path_glob::matches;
@@ -82,24 +82,26 @@ fn leaves_of<L: Ledger>(
 fn judge_part<L: Ledger>(
     alloc: Global,
     view: &FileView,
-    rule: &Rule,
+    rule: &Runner<'_>,
     part: usize,
     steps: &mut Steps<L>,
 ) -> Result<Found, Memory>
     requires { part < length rule.now.parts }
-    ensures finds { (p : a_part) → slice_get rule.now.parts part ≡ Some p → IfOk result (PartJudges view.now.bytes view.now.tree p) }
+    ensures finds { (p : a_part) → slice_get rule.now.parts part ≡ Some p → IfOk result (PartJudges rule.now.texts view.now.bytes view.now.tree p) }
     ensures placed { IfOk result (λ found. All (λ finding. IsFindingPlaced view.now.bytes finding) (findings_of found)) }
 {
     let Ok(number) = u32::try_from(part) else {
         return Err(Memory);
     };
+    let mut rx = rule.expressions()?;
+    let rule = rule.rule();
     let leaves = leaves_of(
         alloc,
         view,
         rule.parts.as_slice()[part].patterns.as_slice(),
         steps,
     )?;
-    judge(alloc, view, rule, number, &leaves)
+    judge(alloc, view, rule, number, &leaves, &mut rx)
 }
 
 // Adds what the part with that number finds, if it looks at the file.
@@ -107,16 +109,16 @@ fn add_part<L: Ledger>(
     alloc: Global,
     view: &FileView,
     number: usize,
-    rule: &Rule,
+    rule: &Runner<'_>,
     part: usize,
     steps: &mut Steps<L>,
     judged: &mut Vec<Judged>,
 ) -> Result<(), Memory>
     requires { part < length rule.now.parts }
-    ensures judged { (p : a_part) → slice_get rule.now.parts part ≡ Some p → OnOk result (Adds judged.old.items judged.new.items (PartAdds view.now.lang view.now.bytes view.now.tree number p)) }
+    ensures judged { (p : a_part) → slice_get rule.now.parts part ≡ Some p → OnOk result (Adds judged.old.items judged.new.items (PartAdds rule.now.texts view.now.lang view.now.bytes view.now.tree number p)) }
     ensures placed { AreAllPlaced view.now.bytes judged.old.items → OnOk result (AreAllPlaced view.now.bytes judged.new.items) }
 {
-    if !looks_at(&rule.parts.as_slice()[part], view.lang) {
+    if !looks_at(&rule.rule().parts.as_slice()[part], view.lang) {
         return Ok(());
     }
     let found = judge_part(alloc, view, rule, part, steps)?;
@@ -129,14 +131,14 @@ fn add_parts<L: Ledger>(
     alloc: Global,
     view: &FileView,
     number: usize,
-    rule: &Rule,
+    rule: &Runner<'_>,
     steps: &mut Steps<L>,
     judged: &mut Vec<Judged>,
 ) -> Result<(), Memory>
-    ensures judged { OnOk result (Adds judged.old.items judged.new.items (RuleJudges view.now.lang view.now.bytes view.now.tree number rule.now.parts)) }
+    ensures judged { OnOk result (Adds judged.old.items judged.new.items (RuleJudges rule.now.texts view.now.lang view.now.bytes view.now.tree number rule.now.parts)) }
     ensures placed { AreAllPlaced view.now.bytes judged.old.items → OnOk result (AreAllPlaced view.now.bytes judged.new.items) }
 {
-    for part in 0..rule.parts.len() {
+    for part in 0..rule.rule().parts.len() {
         add_part(alloc, view, number, rule, part, steps, judged)?;
     }
     Ok(())
@@ -148,14 +150,14 @@ fn add_rule<L: Ledger>(
     path: &str,
     view: &FileView,
     number: usize,
-    rule: &Rule,
+    rule: &Runner<'_>,
     steps: &mut Steps<L>,
     judged: &mut Vec<Judged>,
 ) -> Result<(), Memory>
     ensures judged { OnOk result (Adds judged.old.items judged.new.items (RuleAdds path.now view.now.lang view.now.bytes view.now.tree number rule.now)) }
     ensures placed { AreAllPlaced view.now.bytes judged.old.items → OnOk result (AreAllPlaced view.now.bytes judged.new.items) }
 {
-    if !allows(rule, path) {
+    if !allows(rule.rule(), path) {
         return Ok(());
     }
     add_parts(alloc, view, number, rule, steps, judged)
@@ -166,10 +168,10 @@ pub fn judge_all<L: Ledger>(
     alloc: Global,
     path: &str,
     view: &FileView,
-    running: &[&Rule],
+    running: &[Runner<'_>],
     steps: &mut Steps<L>,
 ) -> Result<Vec<Judged>, Memory>
-    ensures judged { IfOk result (λ judged. (x : a_judged) → Among judged.items x ↔ IsJudged path.now view.now.lang view.now.bytes view.now.tree (lent running.now) x) }
+    ensures judged { IfOk result (λ judged. (x : a_judged) → Among judged.items x ↔ IsJudged path.now view.now.lang view.now.bytes view.now.tree running.now x) }
     ensures placed { IfOk result (λ judged. AreAllPlaced view.now.bytes judged.items) }
 {
     let mut judged = Vec::new(alloc);

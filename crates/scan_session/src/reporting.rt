@@ -8,14 +8,13 @@ ghost use Rattle.meta_bind.specs.declared.bound.Bound.{Bound as a_bound};
 ghost use Rattle.meta_bind.specs.Fills.{filled};
 ghost use Rattle.meta_bind.specs.Places.{EndsLieIn};
 ghost use Rattle.judge_file.specs.Findings.{IsFindingPlaced};
-ghost use Rattle.scan_session.specs.Taking.{lent};
 ghost use Rattle.scan_session.specs.Reports.{reported as reported_as, outcome_notices};
 ghost use Rattle.scan_session.specs.Judging.{AreNumbered, AreReported, ArePlacedHits, AreNumberedHits, judged_notices};
 
 use crate::looking::Judged;
 use crate::note::{Noted, add_notice};
 use crate::row::Row;
-use crate::running::rule_at;
+use crate::runner::{Runner, rule_at};
 use fix_apply::{NoticeKind, Reported};
 use judge_file::FoundNotice;
 use meta_bind::{Binding, Finding, fill};
@@ -77,12 +76,12 @@ pub fn report_rows(
     alloc: Global,
     path: &str,
     view: &FileView,
-    running: &[&Rule],
+    running: &[Runner<'_>],
     rows: &[Row<'_, '_>],
 ) -> Result<List<Reported>, Memory>
-    requires numbered { AreNumberedHits (lent running.now) rows.now }
+    requires numbered { AreNumberedHits running.now rows.now }
     requires placed { ArePlacedHits view.now.bytes rows.now }
-    ensures { IfOk result (AreReported path.now view.now.bytes (lent running.now) rows.now) }
+    ensures { IfOk result (AreReported path.now view.now.bytes running.now rows.now) }
 {
     let places = Places::of(alloc, view.bytes.as_slice())?;
     let mut results = List::new(alloc);
@@ -126,12 +125,12 @@ fn note_found(
 pub fn note_judged(
     alloc: Global,
     path: &str,
-    running: &[&Rule],
+    running: &[Runner<'_>],
     judged: &[Judged],
     notices: &mut Vec<Noted>,
 ) -> Result<(), Memory>
-    requires { AreNumbered (lent running.now) judged.now }
-    ensures { OnOk result (notices.new.items ≡ notices.old.items ++ flat_map (judged_notices path.now (lent running.now)) judged.now) }
+    requires { AreNumbered running.now judged.now }
+    ensures { OnOk result (notices.new.items ≡ notices.old.items ++ flat_map (judged_notices path.now running.now) judged.now) }
 {
     for one in judged {
         let id = rule_at(running, one.number).id.as_str();

@@ -4,16 +4,14 @@ ghost use Rattle.std.specs.Prelude.{◌≡◌, ◌↔◌, IfOk, OnOk};
 ghost use Rattle.tree_match.specs.Sets.{Among, Adds};
 ghost use Rattle.std.specs.Option.{option_cmp};
 ghost use Rattle.node_tree.specs.Span.{span_cmp};
-ghost use Rattle.scan_session.specs.Taking.{lent};
 ghost use Rattle.scan_session.specs.Hits.{Hit};
 ghost use Rattle.scan_session.specs.Judging.{IsHit, AreNumbered, IsHitOf};
 
 use crate::looking::Judged;
-use crate::running::rule_at;
+use crate::runner::{Runner, rule_at};
 use meta_bind::{Finding, Trail};
 use node_tree::{Memory, Span};
 use range_algebra::Ordered;
-use rule_form::Rule;
 use std::alloc::Global;
 use std::cmp::Ordering;
 use std::marker::Model;
@@ -132,11 +130,11 @@ fn add_rows<'r, 'f>(
 /// All findings, in no order.
 pub fn rows_of<'r, 'f>(
     alloc: Global,
-    running: &[&'r Rule],
+    running: &[Runner<'r>],
     judged: &'f [Judged],
 ) -> Result<Vec<Row<'r, 'f>>, Memory>
-    requires { AreNumbered (lent running.now) judged.now }
-    ensures { IfOk result (λ rows. (h : Hit) → Among rows.items h ↔ IsHit (lent running.now) judged.now h) }
+    requires { AreNumbered running.now judged.now }
+    ensures { IfOk result (λ rows. (h : Hit) → Among rows.items h ↔ IsHit running.now judged.now h) }
 {
     let mut rows = Vec::new(alloc);
     for one in judged {

@@ -1,20 +1,24 @@
 //! The rules that run, and the notices of rule files.
 
-ghost use Rattle.std.specs.Prelude.{◌≡◌, ◌++◌, ◌∷◌, ℕ, List as list, [], map, slice_get, Some, IfOk, OnOk};
+ghost use Rattle.std.specs.Prelude.{◌≡◌, ◌++◌, ◌∷◌, ℕ, List as list, [], map, IfOk, OnOk};
 ghost use Rattle.std.specs.List.{flat_map, list_any};
 ghost use Rattle.rule_form.specs.declared.rule.Part.{Part as a_part};
-ghost use Rattle.rule_form.specs.declared.rule.Rule.{Rule as a_rule};
 ghost use Rattle.scan_session.specs.RuleFiles.{outcomes_of};
+ghost use Rattle.scan_session.specs.Refused.{gained};
+ghost use Rattle.scan_session.specs.Building.{Holds, HoldsAll, GainsOf};
 ghost use Rattle.scan_session.specs.Notes as notes;
 ghost use Rattle.scan_session.specs.Running as spec;
 ghost use Rattle.scan_session.specs.Taking as taking;
 
+use crate::building::{Built, build_all, expression_of, expressions_of};
 use crate::note::{Noted, add_notice};
 use crate::rule_file::{RuleContent, RuleFile};
+use crate::runner::Runner;
 use fix_apply::NoticeKind;
 use node_tree::{List, Memory, Text};
 use rule_form::{Body, Part, Rule};
 use rule_read::{RuleFaultKind, RuleOutcome};
+use rx_text::Patterns;
 use std::alloc::Global;
 use std::collections::BTreeSet;
 use yaml_lines::Feature;
@@ -106,9 +110,6 @@ fn has_taint(parts: &[Part]) -> bool
 fn is_unbuilt(rule: &Rule) -> bool
     ensures { result ≡ spec.is_unbuilt rule.now }
 {
-    if !rule.texts.is_empty() {
-        return true;
-    }
     has_taint(rule.parts.as_slice())
 }
 
@@ -165,43 +166,113 @@ fn note_repeat(alloc: Global, entry: Entry<'_>, notices: &mut Vec<Noted>) -> Res
     )
 }
 
+// Notes the text of a rule, if it was refused.
+fn note_text(
+    alloc: Global,
+    file: &str,
+    id: &str,
+    text: &str,
+    built: &Built<'_>,
+    notices: &mut Vec<Noted>,
+) -> Result<(), Memory>
+    ensures { (refused : list (list ℕ)) → Holds built.now refused text.now → OnOk result (notices.new.items ≡ notices.old.items ++ spec.refused_notices refused file.now id.now text.now) }
+{
+    if expression_of(built, text).is_some() {
+        return Ok(());
+    }
+    add_notice(alloc, notices, file, id, NoticeKind::Regex, text)
+}
+
+// Notes the texts of a rule that were refused.
+fn note_texts(
+    alloc: Global,
+    file: &str,
+    id: &str,
+    texts: &[Text],
+    built: &Built<'_>,
+    notices: &mut Vec<Noted>,
+) -> Result<(), Memory>
+    ensures { (refused : list (list ℕ)) → HoldsAll built.now refused texts.now → OnOk result (notices.new.items ≡ notices.old.items ++ flat_map (spec.refused_notices refused file.now id.now) texts.now) }
+{
+    for text in texts {
+        note_text(alloc, file, id, text.as_str(), built, notices)?;
+    }
+    Ok(())
+}
+
+// Notes what there is to be said of a rule whose id no earlier one has.
+fn note_first(
+    alloc: Global,
+    entry: Entry<'_>,
+    built: &Built<'_>,
+    notices: &mut Vec<Noted>,
+) -> Result<(), Memory>
+    ensures { (refused : list (list ℕ)) → HoldsAll built.now refused entry.entry.rule.now.texts → OnOk result (notices.new.items ≡ notices.old.items ++ spec.first_notices refused (taking.said entry.entry)) }
+{
+    let (file, rule) = (entry.file, entry.rule);
+    let id = rule.id.as_str();
+    note_options(alloc, file, id, rule.unread.as_slice(), notices)?;
+    note_texts(alloc, file, id, rule.texts.as_slice(), built, notices)?;
+    if !is_unbuilt(rule) {
+        return Ok(());
+    }
+    note_unbuilt(alloc, entry, notices)
+}
+
+// Adds the rule to those that run, if it does.
+fn add_runner<'r>(
+    alloc: Global,
+    rule: &'r Rule,
+    built: &Built<'_>,
+    running: &mut Vec<Runner<'r>>,
+) -> Result<(), Memory>
+    ensures { (refused : list (list ℕ)) → HoldsAll built.now refused rule.now.texts → OnOk result (running.new.items ≡ running.old.items ++ taking.run_of refused rule.now) }
+{
+    if is_unbuilt(rule) {
+        return Ok(());
+    }
+    let Some(rx) = expressions_of(alloc, built, rule.texts.as_slice())? else {
+        return Ok(());
+    };
+    running.push(Runner::of(rule, rx))?;
+    Ok(())
+}
+
 // Takes a rule up, where its id isn't taken.
 fn take_rule<'r>(
     alloc: Global,
     entry: Entry<'r>,
+    built: &Built<'_>,
     taken: &mut BTreeSet<&'r str>,
-    running: &mut Vec<&'r Rule>,
+    running: &mut Vec<Runner<'r>>,
     notices: &mut Vec<Noted>,
 ) -> Result<(), Memory>
     ensures ids { (ids : list (list ℕ)) → taking.HasJust taken.old ids → OnOk result (taking.HasJust taken.new (taking.ids_after ids (taking.said entry.entry))) }
-    ensures rules { (ids : list (list ℕ)) → taking.HasJust taken.old ids → OnOk result (taking.lent running.new.items ≡ taking.lent running.old.items ++ taking.rules_at ids (taking.said entry.entry)) }
-    ensures notices { (ids : list (list ℕ)) → taking.HasJust taken.old ids → OnOk result (notices.new.items ≡ notices.old.items ++ taking.notices_at ids (taking.said entry.entry)) }
+    ensures rules { (refused ids : list (list ℕ)) → HoldsAll built.now refused entry.entry.rule.now.texts → taking.HasJust taken.old ids → OnOk result (running.new.items ≡ running.old.items ++ taking.rules_at refused ids (taking.said entry.entry)) }
+    ensures notices { (refused ids : list (list ℕ)) → HoldsAll built.now refused entry.entry.rule.now.texts → taking.HasJust taken.old ids → OnOk result (notices.new.items ≡ notices.old.items ++ taking.notices_at refused ids (taking.said entry.entry)) }
 {
-    let (file, id) = (entry.file, entry.rule.id.as_str());
+    let id = entry.rule.id.as_str();
     if !taken.insert(id)? {
         return note_repeat(alloc, entry, notices);
     }
-    note_options(alloc, file, id, entry.rule.unread.as_slice(), notices)?;
-    if is_unbuilt(entry.rule) {
-        return note_unbuilt(alloc, entry, notices);
-    }
-    running.push(entry.rule)?;
-    Ok(())
+    note_first(alloc, entry, built, notices)?;
+    add_runner(alloc, entry.rule, built, running)
 }
 
 // The rules that run.
 fn take_rules<'r>(
     alloc: Global,
     entries: &[Entry<'r>],
+    built: &Built<'_>,
     notices: &mut Vec<Noted>,
-) -> Result<Vec<&'r Rule>, Memory>
-    ensures rules { IfOk result (λ running. taking.lent running.items ≡ spec.built (spec.firsts [] (map taking.said entries.now))) }
-    ensures notices { OnOk result (notices.new.items ≡ notices.old.items ++ spec.stated_notices [] (map taking.said entries.now)) }
+) -> Result<Vec<Runner<'r>>, Memory>
+    ensures rules { (refused : list (list ℕ)) → HoldsAll built.now refused (spec.texts_of (map taking.said entries.now)) → IfOk result (λ running. running.items ≡ spec.built refused (spec.firsts [] (map taking.said entries.now))) }
+    ensures notices { (refused : list (list ℕ)) → HoldsAll built.now refused (spec.texts_of (map taking.said entries.now)) → OnOk result (notices.new.items ≡ notices.old.items ++ spec.stated_notices refused [] (map taking.said entries.now)) }
 {
     let mut taken: BTreeSet<&str> = BTreeSet::new(alloc);
     let mut running = Vec::new(alloc);
     for entry in entries {
-        take_rule(alloc, *entry, &mut taken, &mut running, notices)?;
+        take_rule(alloc, *entry, built, &mut taken, &mut running, notices)?;
     }
     Ok(running)
 }
@@ -305,24 +376,20 @@ fn note_files(alloc: Global, files: &[RuleFile], notices: &mut Vec<Noted>) -> Re
     Ok(())
 }
 
-/// The rules of these files that run, in order. All that is to be said of the files and their rules is added to the notices.
-pub fn take_files<'r>(
+/// The rules of these files that run, in order, where those texts are refused that the builder's list gained. All that is to
+/// be said of the files and their rules is added to the notices.
+pub fn take_files<'r, P: Patterns>(
     alloc: Global,
     files: &'r List<RuleFile>,
+    patterns: &mut P,
     notices: &mut Vec<Noted>,
-) -> Result<Vec<&'r Rule>, Memory>
-    ensures rules { IfOk result (λ running. taking.lent running.items ≡ spec.running files.now) }
-    ensures notices { OnOk result (notices.new.items ≡ notices.old.items ++ spec.rule_notices files.now) }
+) -> Result<Vec<Runner<'r>>, Memory>
+    ensures grows { GainsOf (spec.texts_of (spec.stated files.now)) (P.refusals patterns.old) (P.refusals patterns.new) }
+    ensures rules { IfOk result (λ running. running.items ≡ spec.running (gained (P.refusals patterns.old) (P.refusals patterns.new)) files.now) }
+    ensures notices { OnOk result (notices.new.items ≡ notices.old.items ++ spec.rule_notices (gained (P.refusals patterns.old) (P.refusals patterns.new)) files.now) }
 {
     note_files(alloc, files.as_slice(), notices)?;
     let entries = good_rules(alloc, files.as_slice())?;
-    take_rules(alloc, entries.as_slice(), notices)
-}
-
-/// The rule with that number among those that run, from 0, which is there.
-pub fn rule_at<'r>(running: &[&'r Rule], number: usize) -> &'r Rule
-    requires { (rule : a_rule) × (slice_get (taking.lent running.now) number ≡ Some rule) }
-    ensures { slice_get (taking.lent running.now) number ≡ Some result.now }
-{
-    running[number]
+    let built = build_all(alloc, entries.as_slice(), patterns)?;
+    take_rules(alloc, entries.as_slice(), &built, notices)
 }

@@ -6,10 +6,10 @@ ghost use Rattle.tree_match.specs.Ascending.{IsAscending};
 ghost use Rattle.fix_apply.specs.declared.report.Report.{Report as a_report};
 ghost use Rattle.scan_session.specs.declared.fault.ScanFault.TheVariants.{TooMany};
 ghost use Rattle.scan_session.specs.Sets.{IsExactly, HasMore};
-ghost use Rattle.scan_session.specs.Taking.{lent};
 ghost use Rattle.scan_session.specs.Judging.{AreApart};
 ghost use Rattle.scan_session.specs.Reports.{reported_cmp};
-ghost use Rattle.scan_session.specs.Running.{running as rules_of};
+ghost use Rattle.scan_session.specs.Refused.{gained, Gains};
+ghost use Rattle.scan_session.specs.Running.{running as rules_of, AreTextsOf};
 ghost use Rattle.scan_session.specs.Fresh.{IsFresh, IsResult, IsResultIn, IsFoundIn, IsNotedIn, IsNoticeIn, IsFileNotice, file_cmp};
 ghost use Rattle.scan_session.specs.Others.{KeepsOtherFiles, KeepsOtherRules};
 
@@ -19,13 +19,14 @@ use crate::note::{Noted, add_notice, in_order};
 use crate::reporting::{note_judged, report_rows};
 use crate::row::rows_of;
 use crate::rule_file::RuleFile;
+use crate::runner::Runner;
 use crate::running::take_files;
 use fix_apply::{NoticeKind, Report, Reported};
 use judge_file::{Opened, open_file};
 use node_tree::{Bytes, FileView, Lang, List, Memory, Steps, Text};
 use path_glob::lang_of;
 use range_algebra::settled;
-use rule_form::Rule;
+use rx_text::Patterns;
 use std::alloc::Global;
 use std::sync::ledger::Ledger;
 
@@ -34,13 +35,13 @@ fn scan_view<L: Ledger>(
     alloc: Global,
     path: &str,
     view: &FileView,
-    running: &[&Rule],
+    running: &[Runner<'_>],
     steps: &mut Steps<L>,
     notices: &mut Vec<Noted>,
 ) -> Result<List<Reported>, Memory>
-    requires { AreApart (lent running.now) }
-    ensures results { IfOk result (IsExactly reported_cmp (IsFoundIn (lent running.now) path.now view.now.lang view.now.bytes view.now.tree)) }
-    ensures notices { OnOk result (Adds notices.old.items notices.new.items (IsNotedIn (lent running.now) path.now view.now.lang view.now.bytes view.now.tree)) }
+    requires { AreApart running.now }
+    ensures results { IfOk result (IsExactly reported_cmp (IsFoundIn running.now path.now view.now.lang view.now.bytes view.now.tree)) }
+    ensures notices { OnOk result (Adds notices.old.items notices.new.items (IsNotedIn running.now path.now view.now.lang view.now.bytes view.now.tree)) }
 {
     let judged = judge_all(alloc, path, view, running, steps)?;
     let found = judged.as_slice();
@@ -55,13 +56,13 @@ fn scan_file<L: Ledger>(
     alloc: Global,
     path: &str,
     bytes: &[u8],
-    running: &[&Rule],
+    running: &[Runner<'_>],
     steps: &mut Steps<L>,
     notices: &mut Vec<Noted>,
 ) -> Result<List<Reported>, Memory>
-    requires { AreApart (lent running.now) }
-    ensures results { IfOk result (IsExactly reported_cmp (IsResultIn (lent running.now) (path.now, bytes.now))) }
-    ensures notices { OnOk result (Adds notices.old.items notices.new.items (IsNoticeIn (lent running.now) (path.now, bytes.now))) }
+    requires { AreApart running.now }
+    ensures results { IfOk result (IsExactly reported_cmp (IsResultIn running.now (path.now, bytes.now))) }
+    ensures notices { OnOk result (Adds notices.old.items notices.new.items (IsNoticeIn running.now (path.now, bytes.now))) }
 {
     let lang = lang_of(path).unwrap_or(Lang::Regex);
     let opened = open_file(alloc, lang, bytes, steps)?;
@@ -97,17 +98,17 @@ fn append(results: &mut List<Reported>, mut more: List<Reported>) -> Result<(), 
 fn scan_all<L: Ledger>(
     alloc: Global,
     files: &[(Text, Bytes)],
-    running: &[&Rule],
+    running: &[Runner<'_>],
     most: u64,
     steps: &mut Steps<L>,
     notices: &mut Vec<Noted>,
 ) -> Result<List<Reported>, ScanFault>
-    requires apart { AreApart (lent running.now) }
+    requires apart { AreApart running.now }
     requires ordered { IsAscending file_cmp files.now }
-    ensures results { IfOk result (IsExactly reported_cmp (IsResult (lent running.now) files.now)) }
+    ensures results { IfOk result (IsExactly reported_cmp (IsResult running.now files.now)) }
     ensures few { IfOk result (λ results. length results ≤ most) }
-    ensures too_many { (n : ℕ) → result ≡ Err (TooMany n) → (n ≡ most) × HasMore reported_cmp (IsResult (lent running.now) files.now) most }
-    ensures notices { OnOk result (Adds notices.old.items notices.new.items (IsFileNotice (lent running.now) files.now)) }
+    ensures too_many { (n : ℕ) → result ≡ Err (TooMany n) → (n ≡ most) × HasMore reported_cmp (IsResult running.now files.now) most }
+    ensures notices { OnOk result (Adds notices.old.items notices.new.items (IsFileNotice running.now files.now)) }
 {
     let mut results = List::new(alloc);
     for (path, bytes) in files {

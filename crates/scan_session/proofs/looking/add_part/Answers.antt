@@ -1,5 +1,6 @@
-use Rattle.std.proofs.Common.{refl, subst}
+use Rattle.std.proofs.Common.{refl, ap, ◌∙◌, subst}
 use Rattle.rule_form.specs.declared.rule.Part.{Part}
+use Rattle.rule_form.specs.declared.rule.Rule.{Rule}
 use Rattle.scan_session.specs.Looking.{LooksAt}
 use Rattle.scan_session.proofs.Members.{read_there}
 use Rattle.scan_session.proofs.Judged.{part_adds, all_placed_more}
@@ -8,10 +9,10 @@ use Rattle.scan_session.proofs.looking.add_part.Goals as goal
 pub returns-clause-judged : goal.returns-clause-judged
 returns-clause-judged g c p at =
     let v = c.args.view.now in
-    let same = read_there c.as_slice.result.now c.args.rule.now.parts c.args.part c.index-as_slice-part.result p c.as_slice.ensures c.index-as_slice-part.is at in
+    let same = read_there c.as_slice.result.now c.args.rule.now.parts c.args.part c.index-as_slice-part.result p (c.as_slice.ensures ∙ ap (λ (r : Rule). r.parts) c.rule.ensures) c.index-as_slice-part.is at in
     let P : Part → Type 0 = λ q. LooksAt q v.lang in
     let looks = subst P same (c.looks_at.ensures.0 c.if-not-looks_at.false) in
-    part_adds v.lang v.bytes v.tree c.args.number p (record { number = c.args.number; found = c.in_ok-found.found }) c.args.judged.now.items c.push.new.self.items c.in_ok-push.ensures.items refl looks (c.in_ok-found.ensures.finds p at)
+    part_adds c.args.rule.now.texts v.lang v.bytes v.tree c.args.number p (record { number = c.args.number; found = c.in_ok-found.found }) c.args.judged.now.items c.push.new.self.items c.in_ok-push.ensures.items refl looks (c.in_ok-found.ensures.finds p at)
 
 pub returns-clause-placed : goal.returns-clause-placed
 returns-clause-placed g c all =

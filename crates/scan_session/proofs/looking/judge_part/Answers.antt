@@ -1,17 +1,22 @@
 use Rattle.std.proofs.Common.{◌≡◌, List, sym, ap, ◌∙◌, subst, arith}
 use Rattle.node_tree.specs.declared.view.Pattern.{Pattern}
 use Rattle.rule_form.specs.declared.rule.Part.{Part}
+use Rattle.rule_form.specs.declared.rule.Rule.{Rule}
 use Rattle.scan_session.specs.Looking.{AreLeaves}
 use Rattle.scan_session.proofs.Members.{read_there}
-use Rattle.scan_session.proofs.Judged.{part_judges}
+use Rattle.scan_session.proofs.Judged.{part_judges, part_finds, part_only}
 use Rattle.scan_session.proofs.looking.judge_part.Goals as goal
 
 pub returns-clause-finds : goal.returns-clause-finds
 returns-clause-finds g c p at =
     let v = c.args.view.now in
     let parts = c.args.rule.now.parts in
-    let same = read_there c.as_slice.result.now parts c.args.part c.index-as_slice-part.result p c.as_slice.ensures c.index-as_slice-part.is at in
+    let texts = c.args.rule.now.texts in
+    let rule = c.rule-rule.ensures in
+    let same = read_there c.as_slice.result.now parts c.args.part c.index-as_slice-part.result p (c.as_slice.ensures ∙ ap (λ (r : Rule). r.parts) rule) c.index-as_slice-part.is at in
     let number : c.in-Ok.number ≡ c.args.part = grind arith in
     let P : List Pattern → Type 0 = λ ps. AreLeaves v.tree ps c.in_ok-leaves.leaves in
     let are = subst P (c.as_slice-2.ensures ∙ ap (λ (q : Part). q.patterns) (sym c.index-as_slice-part.is ∙ same)) c.in_ok-leaves.ensures.leaves in
-    part_judges v.bytes v.tree parts c.args.part c.in-Ok.number p c.in_ok-leaves.leaves at number are c.judge.result c.judge.ensures.finds c.judge.ensures.only
+    part_judges texts v.bytes v.tree parts c.args.part c.in-Ok.number p c.in_ok-leaves.leaves at number are c.judge.result
+    (part_finds c.in_ok-leaves.leaves c.in_ok-rx.rx texts v.bytes c.rule-rule.result.now.parts parts c.in-Ok.number c.judge.result c.in_ok-rx.ensures (ap (λ (r : Rule). r.parts) rule) c.judge.ensures.finds)
+    (part_only c.in_ok-leaves.leaves c.in_ok-rx.rx texts v.bytes c.rule-rule.result.now.parts parts c.in-Ok.number c.judge.result c.in_ok-rx.ensures (ap (λ (r : Rule). r.parts) rule) c.judge.ensures.only)

@@ -4,7 +4,6 @@ use Rattle.std.proofs.lemmas.List.{drop_all}
 use Rattle.meta_bind.proofs.Lookups.{opened}
 use Rattle.rule_form.specs.declared.rule.Rule.{Rule}
 use Rattle.tree_match.proofs.Ascents.{among_at}
-use Rattle.scan_session.specs.Taking.{lent}
 use Rattle.scan_session.specs.Reports.{outcome_notices}
 use Rattle.scan_session.specs.Judging.{judged_notices, notices_by}
 use Rattle.scan_session.proofs.Members.{flat_step, flat_end}
@@ -21,7 +20,7 @@ loop-one-preserved c =
     let old = c.loop-one.notices.items in
     let path = c.args.path.now in
     let is = ap (λ (id : List ℕ). old ++ outcome_notices path id j.found) c.as_str-id.ensures ∙ ap (λ (o : Option Rule). old ++ notices_by path j.found o) (sym c.rule_at.ensures) in
-    flat_step (judged_notices path (lent c.args.running.now)) old c.note_found.new.notices.items j (drop i js) (drop (i + 1) js) _ c.loop-one.invariant (opened js i j c.loop-one-test.true c.one-item.is) (c.in_ok-note_found.ensures ∙ is)
+    flat_step (judged_notices path c.args.running.now) old c.note_found.new.notices.items j (drop i js) (drop (i + 1) js) _ c.loop-one.invariant (opened js i j c.loop-one-test.true c.one-item.is) (c.in_ok-note_found.ensures ∙ is)
 
 pub returns : goal.returns
-returns c = let js = c.args.judged.now in flat_end (judged_notices c.args.path.now (lent c.args.running.now)) c.loop-one.notices.items (drop c.loop-one.one-index js) _ c.loop-one.invariant (drop_all c.loop-one.one-index js c.loop-one-test.false)
+returns c = let js = c.args.judged.now in flat_end (judged_notices c.args.path.now c.args.running.now) c.loop-one.notices.items (drop c.loop-one.one-index js) _ c.loop-one.invariant (drop_all c.loop-one.one-index js c.loop-one-test.false)

@@ -1,15 +1,35 @@
 use Rattle.std.proofs.Common.{◌+◌, ap, map, drop}
+use Rattle.std.proofs.lemmas.List.{drop_all}
 use Rattle.meta_bind.proofs.Lookups.{opened}
-use Rattle.scan_session.specs.Taking.{said, lent}
-use Rattle.scan_session.proofs.Taking.{takes}
+use Rattle.scan_session.specs.Taking.{said}
+use Rattle.scan_session.proofs.Asking.{holds_first, holds_rest}
+use Rattle.scan_session.proofs.Taking.{takes, all_rules}
 use Rattle.scan_session.proofs.running.take_rules.Goals as goal
 
 pub loop-entry-preserved : goal.loop-entry-preserved
-loop-entry-preserved c =
+loop-entry-preserved c refused holds =
     let i = c.loop-entry.entry-index in
     let es = c.args.entries.now in
     let e = c.entry-item.result in
-    let far = c.loop-entry.invariant in
+    let far = c.loop-entry.invariant refused holds in
     let r = c.in_ok-take_rule.ensures in
-    takes (map said es) _ c.loop-entry.taken c.take_rule.new.taken (lent c.loop-entry.running.items) (lent c.take_rule.new.running.items) c.loop-entry.notices.items c.take_rule.new.notices.items
-    (map said (drop i es)) (said e) (map said (drop (i + 1) es)) far (ap (map said) (opened es i e c.loop-entry-test.true c.entry-item.is)) (r.ids far.ids far.just) (r.rules far.ids far.just) (r.notices far.ids far.just)
+    let left = map said (drop i es) in
+    let rest = map said (drop (i + 1) es) in
+    let left-is = ap (map said) (opened es i e c.loop-entry-test.true c.entry-item.is) in
+    let first = holds_first c.args.built.now refused left (said e) rest left-is far.1 in (
+      takes refused (map said es) _ c.loop-entry.taken c.take_rule.new.taken c.loop-entry.running.items c.take_rule.new.running.items c.loop-entry.notices.items c.take_rule.new.notices.items
+          left (said e) rest far.0 left-is (r.ids far.0.ids far.0.just) (r.rules refused far.0.ids first far.0.just) (r.notices refused far.0.ids first far.0.just),
+      holds_rest c.args.built.now refused left (said e) rest left-is far.1,
+    )
+
+pub returns-clause-rules : goal.returns-clause-rules
+returns-clause-rules c refused holds =
+    let es = c.args.entries.now in
+    (all_rules refused (map said es) _ c.loop-entry.taken c.loop-entry.running.items c.loop-entry.notices.items (map said (drop c.loop-entry.entry-index es)) (c.loop-entry.invariant refused holds).0
+    (ap (map said) (drop_all c.loop-entry.entry-index es c.loop-entry-test.false))).0
+
+pub returns-clause-notices : goal.returns-clause-notices
+returns-clause-notices c refused holds =
+    let es = c.args.entries.now in
+    (all_rules refused (map said es) _ c.loop-entry.taken c.loop-entry.running.items c.loop-entry.notices.items (map said (drop c.loop-entry.entry-index es)) (c.loop-entry.invariant refused holds).0
+    (ap (map said) (drop_all c.loop-entry.entry-index es c.loop-entry-test.false))).1

@@ -4,20 +4,19 @@ use Rattle.meta_bind.proofs.Lookups.{opened}
 use Rattle.tree_match.specs.Sets.{Adds}
 use Rattle.scan_session.specs.Reports.{reported_cmp}
 use Rattle.scan_session.specs.Sets.{IsExactly}
-use Rattle.scan_session.specs.Taking.{lent}
 use Rattle.scan_session.specs.Fresh.{File, IsResultIn, IsNoticeIn}
 use Rattle.scan_session.proofs.Scans.{start, goes_on, has_more, all_results, all_notices}
 use Rattle.scan_session.proofs.scanning.scan_all.Goals as goal
 
 pub loop-path-init : goal.loop-path-init
-loop-path-init g c = let fs = c.args.files.now in start (lent c.args.running.now) c.args.most fs (drop 0 fs) c.args.notices.now.items c.new-results.result refl c.new-results.ensures
+loop-path-init g c = let fs = c.args.files.now in start c.args.running.now c.args.most fs (drop 0 fs) c.args.notices.now.items c.new-results.result refl c.new-results.ensures
 
 pub loop-path-preserved : goal.loop-path-preserved
 loop-path-preserved g c =
     let i = c.loop-path.path-index in
     let fs = c.args.files.now in
     let f = c.loop-path-item.result in
-    let rules = lent c.args.running.now in
+    let rules = c.args.running.now in
     let g1 : List ℕ → File = λ p. (p, c.as_slice.result.now) in
     let g2 : List ℕ → File = λ b. (f.0, b) in
     let here = ap g1 c.as_str.ensures ∙ ap g2 c.as_slice.ensures in
@@ -33,7 +32,7 @@ returns-then-most-count-clause-too_many g c n e =
     let i = c.loop-path.path-index in
     let fs = c.args.files.now in
     let f = c.loop-path-item.result in
-    let rules = lent c.args.running.now in
+    let rules = c.args.running.now in
     let g1 : List ℕ → File = λ p. (p, c.as_slice.result.now) in
     let g2 : List ℕ → File = λ b. (f.0, b) in
     let here = ap g1 c.as_str.ensures ∙ ap g2 c.as_slice.ensures in
@@ -47,10 +46,10 @@ returns-then-most-count-clause-too_many g c n e =
     )
 
 pub returns-clause-results : goal.returns-clause-results
-returns-clause-results g c = let fs = c.args.files.now in all_results (lent c.args.running.now) c.args.most fs (drop c.loop-path.path-index fs) c.args.notices.now.items c.loop-path.notices.items c.loop-path.results c.loop-path.invariant (drop_all c.loop-path.path-index fs c.loop-path-test.false)
+returns-clause-results g c = let fs = c.args.files.now in all_results c.args.running.now c.args.most fs (drop c.loop-path.path-index fs) c.args.notices.now.items c.loop-path.notices.items c.loop-path.results c.loop-path.invariant (drop_all c.loop-path.path-index fs c.loop-path-test.false)
 
 pub returns-clause-few : goal.returns-clause-few
 returns-clause-few g c = c.loop-path.invariant.few
 
 pub returns-clause-notices : goal.returns-clause-notices
-returns-clause-notices g c = let fs = c.args.files.now in all_notices (lent c.args.running.now) c.args.most fs (drop c.loop-path.path-index fs) c.args.notices.now.items c.loop-path.notices.items c.loop-path.results c.loop-path.invariant (drop_all c.loop-path.path-index fs c.loop-path-test.false)
+returns-clause-notices g c = let fs = c.args.files.now in all_notices c.args.running.now c.args.most fs (drop c.loop-path.path-index fs) c.args.notices.now.items c.loop-path.notices.items c.loop-path.results c.loop-path.invariant (drop_all c.loop-path.path-index fs c.loop-path-test.false)

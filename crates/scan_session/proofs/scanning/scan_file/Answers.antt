@@ -6,7 +6,6 @@ use Rattle.node_tree.specs.declared.view.Lang.TheVariants.{Regex}
 use Rattle.judge_file.specs.declared.opened.Opened.TheVariants as opened
 use Rattle.scan_session.specs.Reports.{reported_cmp}
 use Rattle.scan_session.specs.Sets.{IsExactly}
-use Rattle.scan_session.specs.Taking.{lent}
 use Rattle.scan_session.specs.Fresh.{lang_at, IsFoundIn, IsResultIn}
 use Rattle.scan_session.proofs.Members.{on_ok_map}
 use Rattle.scan_session.proofs.Hits.{if_reported}
@@ -20,7 +19,7 @@ returns-in_ok-add_notice-in-TooLarge-clause-results g c =
     let e : c.unwrap_or-lang.result ≡ lang_at path = c.unwrap_or-lang.ensures ∙ ap (λ (o : Option Lang). unwrap_or o Regex) c.lang_of.ensures in
     let is = opened_as path bytes _ _ opened.TooLarge e c.in-TooLarge.is c.in_ok-opened.ensures.opened in
     let only = only_as path bytes _ _ opened.TooLarge e c.in-TooLarge.is c.in_ok-opened.ensures.only in
-    no_results (lent c.args.running.now) path bytes opened.TooLarge is only (λ l t s. s) c.new.result c.new.ensures
+    no_results c.args.running.now path bytes opened.TooLarge is only (λ l t s. s) c.new.result c.new.ensures
 
 pub returns-in_ok-add_notice-in-TooLarge-clause-notices : goal.returns-in_ok-add_notice-in-TooLarge-clause-notices
 returns-in_ok-add_notice-in-TooLarge-clause-notices g c =
@@ -29,7 +28,7 @@ returns-in_ok-add_notice-in-TooLarge-clause-notices g c =
     let e : c.unwrap_or-lang.result ≡ lang_at path = c.unwrap_or-lang.ensures ∙ ap (λ (o : Option Lang). unwrap_or o Regex) c.lang_of.ensures in
     let is = opened_as path bytes _ _ opened.TooLarge e c.in-TooLarge.is c.in_ok-opened.ensures.opened in
     let only = only_as path bytes _ _ opened.TooLarge e c.in-TooLarge.is c.in_ok-opened.ensures.only in
-    own_notices (lent c.args.running.now) path bytes opened.TooLarge is only (λ l t s. s) c.args.notices.now.items c.add_notice.new.notices.items c.in_ok-add_notice-in-TooLarge.ensures
+    own_notices c.args.running.now path bytes opened.TooLarge is only (λ l t s. s) c.args.notices.now.items c.add_notice.new.notices.items c.in_ok-add_notice-in-TooLarge.ensures
 
 pub returns-in_ok-add_notice-in-NotUtf8-clause-results : goal.returns-in_ok-add_notice-in-NotUtf8-clause-results
 returns-in_ok-add_notice-in-NotUtf8-clause-results g c =
@@ -38,7 +37,7 @@ returns-in_ok-add_notice-in-NotUtf8-clause-results g c =
     let e : c.unwrap_or-lang.result ≡ lang_at path = c.unwrap_or-lang.ensures ∙ ap (λ (o : Option Lang). unwrap_or o Regex) c.lang_of.ensures in
     let is = opened_as path bytes _ _ opened.NotUtf8 e c.in-NotUtf8.is c.in_ok-opened.ensures.opened in
     let only = only_as path bytes _ _ opened.NotUtf8 e c.in-NotUtf8.is c.in_ok-opened.ensures.only in
-    no_results (lent c.args.running.now) path bytes opened.NotUtf8 is only (λ l t s. s) c.new-in-NotUtf8.result c.new-in-NotUtf8.ensures
+    no_results c.args.running.now path bytes opened.NotUtf8 is only (λ l t s. s) c.new-in-NotUtf8.result c.new-in-NotUtf8.ensures
 
 pub returns-in_ok-add_notice-in-NotUtf8-clause-notices : goal.returns-in_ok-add_notice-in-NotUtf8-clause-notices
 returns-in_ok-add_notice-in-NotUtf8-clause-notices g c =
@@ -47,13 +46,13 @@ returns-in_ok-add_notice-in-NotUtf8-clause-notices g c =
     let e : c.unwrap_or-lang.result ≡ lang_at path = c.unwrap_or-lang.ensures ∙ ap (λ (o : Option Lang). unwrap_or o Regex) c.lang_of.ensures in
     let is = opened_as path bytes _ _ opened.NotUtf8 e c.in-NotUtf8.is c.in_ok-opened.ensures.opened in
     let only = only_as path bytes _ _ opened.NotUtf8 e c.in-NotUtf8.is c.in_ok-opened.ensures.only in
-    own_notices (lent c.args.running.now) path bytes opened.NotUtf8 is only (λ l t s. s) c.args.notices.now.items c.add_notice-in-NotUtf8.new.notices.items c.in_ok-add_notice-in-NotUtf8.ensures
+    own_notices c.args.running.now path bytes opened.NotUtf8 is only (λ l t s. s) c.args.notices.now.items c.add_notice-in-NotUtf8.new.notices.items c.in_ok-add_notice-in-NotUtf8.ensures
 
 pub returns-in_ok-add_notice-in-NoTree-clause-results : goal.returns-in_ok-add_notice-in-NoTree-clause-results
 returns-in_ok-add_notice-in-NoTree-clause-results g c =
     let path = c.args.path.now in
     let bytes = c.args.bytes.now in
-    let rules = lent c.args.running.now in
+    let rules = c.args.running.now in
     let v = c.in-NoTree.view in
     let e : c.unwrap_or-lang.result ≡ lang_at path = c.unwrap_or-lang.ensures ∙ ap (λ (o : Option Lang). unwrap_or o Regex) c.lang_of.ensures in
     let is = opened_as path bytes _ _ (opened.NoTree v) e c.in-NoTree.is c.in_ok-opened.ensures.opened in
@@ -65,7 +64,7 @@ pub returns-in_ok-add_notice-in-NoTree-clause-notices : goal.returns-in_ok-add_n
 returns-in_ok-add_notice-in-NoTree-clause-notices g c =
     let path = c.args.path.now in
     let bytes = c.args.bytes.now in
-    let rules = lent c.args.running.now in
+    let rules = c.args.running.now in
     let v = c.in-NoTree.view in
     let e : c.unwrap_or-lang.result ≡ lang_at path = c.unwrap_or-lang.ensures ∙ ap (λ (o : Option Lang). unwrap_or o Regex) c.lang_of.ensures in
     let is = opened_as path bytes _ _ (opened.NoTree v) e c.in-NoTree.is c.in_ok-opened.ensures.opened in
@@ -79,7 +78,7 @@ pub returns-in-Read-clause-results : goal.returns-in-Read-clause-results
 returns-in-Read-clause-results g c =
     let path = c.args.path.now in
     let bytes = c.args.bytes.now in
-    let rules = lent c.args.running.now in
+    let rules = c.args.running.now in
     let v = c.in-Read.view in
     let e : c.unwrap_or-lang.result ≡ lang_at path = c.unwrap_or-lang.ensures ∙ ap (λ (o : Option Lang). unwrap_or o Regex) c.lang_of.ensures in
     let is = opened_as path bytes _ _ (opened.Read v) e c.in-Read.is c.in_ok-opened.ensures.opened in
@@ -91,7 +90,7 @@ pub returns-in-Read-clause-notices : goal.returns-in-Read-clause-notices
 returns-in-Read-clause-notices g c =
     let path = c.args.path.now in
     let bytes = c.args.bytes.now in
-    let rules = lent c.args.running.now in
+    let rules = c.args.running.now in
     let v = c.in-Read.view in
     let e : c.unwrap_or-lang.result ≡ lang_at path = c.unwrap_or-lang.ensures ∙ ap (λ (o : Option Lang). unwrap_or o Regex) c.lang_of.ensures in
     let is = opened_as path bytes _ _ (opened.Read v) e c.in-Read.is c.in_ok-opened.ensures.opened in

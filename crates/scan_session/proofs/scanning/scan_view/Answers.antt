@@ -6,7 +6,6 @@ use Rattle.scan_session.specs.declared.looking.Judged.{Judged}
 use Rattle.scan_session.specs.Hits.{Hit, hit_cmp}
 use Rattle.scan_session.specs.Reports.{reported_cmp}
 use Rattle.scan_session.specs.Sets.{IsExactly}
-use Rattle.scan_session.specs.Taking.{lent}
 use Rattle.scan_session.specs.Judging.{AreAllPlaced, AreReported, judged_notices}
 use Rattle.scan_session.specs.Fresh.{IsFoundIn, IsNotedIn}
 use Rattle.scan_session.proofs.Members.{appended, on_ok}
@@ -17,7 +16,7 @@ pub note_judged-requires : goal.note_judged-requires
 note_judged-requires g c =
     let v = c.args.view.now in
     let path = c.args.path.now in
-    let rules = lent c.args.running.now in
+    let rules = c.args.running.now in
     let found = c.as_slice-found.result.now in
     numbered path v.lang v.bytes v.tree rules found (found_all path v.lang v.bytes v.tree rules c.in_ok-judged.judged.items found c.as_slice-found.ensures.value c.in_ok-judged.ensures.judged)
 
@@ -25,7 +24,7 @@ pub report_rows-requires-clause-numbered : goal.report_rows-requires-clause-numb
 report_rows-requires-clause-numbered g c =
     let v = c.args.view.now in
     let path = c.args.path.now in
-    let rules = lent c.args.running.now in
+    let rules = c.args.running.now in
     let found = c.as_slice-found.result.now in
     let all = found_all path v.lang v.bytes v.tree rules c.in_ok-judged.judged.items found c.as_slice-found.ensures.value c.in_ok-judged.ensures.judged in
     let whole = shown_all rules found c.in_ok-unsorted.unsorted.items c.in_ok-rows.rows.items c.as_slice.result.now c.as_slice.ensures.value c.in_ok-rows.ensures.same c.in_ok-unsorted.ensures in
@@ -35,7 +34,7 @@ pub report_rows-requires-clause-placed : goal.report_rows-requires-clause-placed
 report_rows-requires-clause-placed g c =
     let v = c.args.view.now in
     let path = c.args.path.now in
-    let rules = lent c.args.running.now in
+    let rules = c.args.running.now in
     let found = c.as_slice-found.result.now in
     let all = found_all path v.lang v.bytes v.tree rules c.in_ok-judged.judged.items found c.as_slice-found.ensures.value c.in_ok-judged.ensures.judged in
     let whole = shown_all rules found c.in_ok-unsorted.unsorted.items c.in_ok-rows.rows.items c.as_slice.result.now c.as_slice.ensures.value c.in_ok-rows.ensures.same c.in_ok-unsorted.ensures in
@@ -46,7 +45,7 @@ pub returns-clause-results : goal.returns-clause-results
 returns-clause-results g c =
     let v = c.args.view.now in
     let path = c.args.path.now in
-    let rules = lent c.args.running.now in
+    let rules = c.args.running.now in
     let found = c.as_slice-found.result.now in
     let shown = c.as_slice.result.now in
     let all = found_all path v.lang v.bytes v.tree rules c.in_ok-judged.judged.items found c.as_slice-found.ensures.value c.in_ok-judged.ensures.judged in
@@ -59,7 +58,7 @@ pub returns-clause-notices : goal.returns-clause-notices
 returns-clause-notices g c =
     let v = c.args.view.now in
     let path = c.args.path.now in
-    let rules = lent c.args.running.now in
+    let rules = c.args.running.now in
     let found = c.as_slice-found.result.now in
     let all = found_all path v.lang v.bytes v.tree rules c.in_ok-judged.judged.items found c.as_slice-found.ensures.value c.in_ok-judged.ensures.judged in
     let old = c.args.notices.now.items in
