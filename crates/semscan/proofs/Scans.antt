@@ -1,9 +1,9 @@
 -- A scan ends in one way.
-use Rattle.std.proofs.Common.{◌≡◌, ℕ, ◌≤◌, Bool, true, false, List, [], ◌∷◌, ◌++◌, length, refl, sym, ap, ◌∙◌, subst, arith}
+use Rattle.std.proofs.Common.{◌≡◌, ℕ, ◌≤◌, Bool, true, false, List, [], ◌∷◌, length, refl, sym, ap, ◌∙◌, subst, arith}
 use Rattle.std.specs.Prelude.{Option, Some, None, IsSome}
 use Rattle.std.specs.List.{concat}
 use Rattle.std.specs.Io.KnownBytes.{Appends}
-use Rattle.std.proofs.lemmas.List.{append-nil, drop_all}
+use Rattle.std.proofs.lemmas.List.{append-nil}
 use Rattle.scan_world.specs.Files.{Files}
 use Rattle.scan_world.specs.Streams.{AppendsFront}
 use Rattle.fix_apply.specs.declared.report.Report.{Report}
@@ -13,7 +13,6 @@ use Rattle.scan_session.specs.Sets.{HasMore}
 use Rattle.scan_session.specs.Reports.{reported_cmp}
 use Rattle.scan_session.specs.Running.{running}
 use Rattle.scan_session.specs.Fresh.{IsResult, IsFresh}
-use Rattle.scan_session.specs.Refused.{Gains}
 use Rattle.scan_session.proofs.Laws.{exclusive}
 use Rattle.wire_words.specs.Commands.{Task}
 use Rattle.semscan.specs.declared.status.Status.{Status}
@@ -26,10 +25,6 @@ use Rattle.semscan.specs.Scan.{report_line, status_of, HasMoreFindings, ReportEn
 use Rattle.semscan.proofs.Streaming.{nothing_written}
 use Rattle.semscan.proofs.Files.{config_once, files_once}
 use Rattle.semscan.proofs.Rules.{same_rules, rules_or_end, config_ends_once}
-
--- a list that stays as it is gains nothing
-pub gains_none : (texts : List (List ℕ)) → Gains texts texts
-gains_none texts = sym (ap (λ (l : List (List ℕ)). texts ++ l) (drop_all (length texts) texts (omega arith)) ∙ append-nil texts)
 
 -- the status and the lines of a run
 abbrev pub Same : Status → Status → List (List ℕ) → List (List ℕ) → Type 0

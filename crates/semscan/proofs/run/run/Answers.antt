@@ -5,7 +5,6 @@ use Rattle.semscan.specs.declared.status.Status.{Status}
 use Rattle.semscan.specs.declared.status.Status.TheVariants as statuses
 use Rattle.semscan.specs.Status.{IsOfMatch}
 use Rattle.semscan.proofs.Files.{keeps_self}
-use Rattle.semscan.proofs.Scans.{gains_none}
 use Rattle.semscan.proofs.Requests.{ends_usage, only_usage, ends_match, only_match, front_match, some_match, ends_scan, only_scan, front_scan, no_match}
 use Rattle.semscan.proofs.run.run.Goals as goal
 
@@ -30,12 +29,6 @@ returns-in-None-clause-files_kept g c = keeps_self (g.T.Tree.files c.args.tree.n
 
 pub returns-in-None-clause-nothing_written : goal.returns-in-None-clause-nothing_written
 returns-in-None-clause-nothing_written g c e = refl
-
-pub returns-in-None-clause-patterns_grow : goal.returns-in-None-clause-patterns_grow
-returns-in-None-clause-patterns_grow g c = gains_none (g.P.Patterns.refusals c.args.patterns.now)
-
-pub returns-in-None-clause-patterns_kept : goal.returns-in-None-clause-patterns_kept
-returns-in-None-clause-patterns_kept g c nay = refl
 
 pub returns-in-Some-Match-clause-ends : goal.returns-in-Some-Match-clause-ends
 returns-in-Some-Match-clause-ends g c a =
@@ -76,12 +69,6 @@ returns-in-Some-Match-clause-whole_lines g c e =
 
 pub returns-in-Some-Match-clause-work : goal.returns-in-Some-Match-clause-work
 returns-in-Some-Match-clause-work g c nay = c.run_match.ensures.work
-
-pub returns-in-Some-Match-clause-patterns_grow : goal.returns-in-Some-Match-clause-patterns_grow
-returns-in-Some-Match-clause-patterns_grow g c = gains_none (g.P.Patterns.refusals c.args.patterns.now)
-
-pub returns-in-Some-Match-clause-patterns_kept : goal.returns-in-Some-Match-clause-patterns_kept
-returns-in-Some-Match-clause-patterns_kept g c nay = refl
 
 pub returns-in-Some-Scan-clause-ends : goal.returns-in-Some-Scan-clause-ends
 returns-in-Some-Scan-clause-ends g c a =

@@ -2,11 +2,8 @@ use Rattle.std.proofs.Common.{◌≡◌, ◌∙◌, ℕ, List, Err, refl, sym, a
 use Rattle.std.specs.Io.KnownBytes.{Appends}
 use Rattle.scan_world.specs.Streams.{AppendsFront}
 use Rattle.scan_session.specs.Refused.{gained}
-use Rattle.semscan.proofs.Scans.{gains_none, ends_too_many, ends_reported, front_reported, fresh_of_one, more_of_one, one_report, of_report}
+use Rattle.semscan.proofs.Scans.{ends_too_many, ends_reported, front_reported, fresh_of_one, more_of_one, one_report, of_report}
 use Rattle.semscan.proofs.scan.print_report.Goals as goal
-
-pub returns-in_default-clause-patterns_grow : goal.returns-in_default-clause-patterns_grow
-returns-in_default-clause-patterns_grow g c = gains_none (g.P.Patterns.refusals c.args.patterns.now)
 
 pub returns-in-Err-TooMany-clause-ends : goal.returns-in-Err-TooMany-clause-ends
 returns-in-Err-TooMany-clause-ends g c a =

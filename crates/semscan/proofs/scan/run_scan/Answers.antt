@@ -3,7 +3,7 @@ use Rattle.wire_words.specs.Commands.{task_of}
 use Rattle.semscan.specs.declared.status.Status.TheVariants as statuses
 use Rattle.semscan.proofs.Files.{keeps_on, files_before, end_before}
 use Rattle.semscan.proofs.Causes.{reading_kept, reading_unfinished, reading_at, config_kept, config_at, report_at, rose_since}
-use Rattle.semscan.proofs.Scans.{gains_none, only_config, ends_by_config, ends_by_limit, only_limit, ends_by_report, front_of_report, only_report}
+use Rattle.semscan.proofs.Scans.{only_config, ends_by_config, ends_by_limit, only_limit, ends_by_report, front_of_report, only_report}
 use Rattle.semscan.proofs.scan.run_scan.Goals as goal
 
 pub returns-in-Err-clause-ends : goal.returns-in-Err-clause-ends
@@ -31,9 +31,6 @@ returns-in-Err-clause-output_fault g c e = absurd (config_at (g.T.Tree.faults c.
 
 pub returns-in-Err-clause-front_written : goal.returns-in-Err-clause-front_written
 returns-in-Err-clause-front_written g c e = absurd (config_at (g.T.Tree.faults c.args.tree.now) (g.T.Tree.faults c.read_config.new.tree) (g.T.Tree.absences c.args.tree.now) (g.T.Tree.absences c.read_config.new.tree) c.in-Err.status statuses.OutputFault c.in-Err.ensures.cause e)
-
-pub returns-in-Err-clause-patterns_grow : goal.returns-in-Err-clause-patterns_grow
-returns-in-Err-clause-patterns_grow g c = gains_none (g.P.Patterns.refusals c.args.patterns.now)
 
 pub returns-in-Err-read_files-clause-ends : goal.returns-in-Err-read_files-clause-ends
 returns-in-Err-read_files-clause-ends g c a =
@@ -65,9 +62,6 @@ returns-in-Err-read_files-clause-output_fault g c e = absurd (reading_at (g.T.Tr
 
 pub returns-in-Err-read_files-clause-front_written : goal.returns-in-Err-read_files-clause-front_written
 returns-in-Err-read_files-clause-front_written g c e = absurd (reading_at (g.T.Tree.faults c.read_config.new.tree) (g.T.Tree.faults c.read_files.new.tree) c.in-Err-read_files.status statuses.OutputFault c.in-Err-read_files.ensures.cause e)
-
-pub returns-in-Err-read_files-clause-patterns_grow : goal.returns-in-Err-read_files-clause-patterns_grow
-returns-in-Err-read_files-clause-patterns_grow g c = gains_none (g.P.Patterns.refusals c.args.patterns.now)
 
 pub returns-clause-ends : goal.returns-clause-ends
 returns-clause-ends g c a =
