@@ -23,6 +23,11 @@ module _ {X : Type 0} where
   among_either (z ∷ zs) ys x (inl e) = inl (inl e)
   among_either (z ∷ zs) ys x (inr h) = elim (among_either zs ys x h) [ inl a ↦ inl (inr a) | inr b ↦ inr b ]
 
+  pub among_map : {Y : Type 0} (f : X → Y) (xs : List X) (x : X) → Among xs x → Among (map f xs) (f x)
+  among_map f [] x h = absurd h
+  among_map f (z ∷ zs) x (inl e) = inl (ap f e)
+  among_map f (z ∷ zs) x (inr h) = inr (among_map f zs x h)
+
   pub get_among : (xs : List X) (i : ℕ) (x : X) → slice_get xs i ≡ Some x → Among xs x
   get_among [] i x e = absurd cc
   get_among (y ∷ ys) zero x e = inl cc
