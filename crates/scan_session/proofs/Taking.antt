@@ -1,8 +1,8 @@
 -- Rules that are taken up one after the other.
 use Rattle.std.proofs.Common.{◌≡◌, ◌↔◌, ℕ, suc, ◌+◌, Bool, true, false, cond, not, List, [], ◌∷◌, ◌++◌, map, nat_cmp, refl, sym, ap, ◌∙◌, subst, append_assoc, append-nil, add-one}
-use Rattle.std.specs.Prelude.{if◌then◌else◌, ◌||◌}
+use Rattle.std.specs.Prelude.{if◌then◌else◌, ◌||◌, Result, IfOk}
 use Rattle.std.specs.Borrow.{Bor}
-use Rattle.std.specs.List.{list_any}
+use Rattle.std.specs.List.{list_any, flat_map}
 use Rattle.std.specs.Ordering.{is_eq}
 use Rattle.std.specs.Str.{bytes_eq}
 use Rattle.std.specs.BTreeSet.{BTreeSet, contains}
@@ -13,7 +13,7 @@ use Rattle.rule_read.specs.declared.fault.RuleOutcome.{RuleOutcome}
 use Rattle.fix_apply.specs.declared.notice.Notice.{Notice}
 use Rattle.scan_session.specs.declared.rule_file.RuleFile.{RuleFile}
 use Rattle.scan_session.specs.RuleFiles.{outcomes_of}
-use Rattle.scan_session.specs.Running.{Stated, stated_at, stated_from, stated, texts_of, is_taken, is_unbuilt, has_refused, is_out, built, firsts, stated_notices, first_notices, repeat_notice}
+use Rattle.scan_session.specs.Running.{Stated, stated_at, stated_from, stated, texts_of, is_taken, is_unbuilt, has_refused, is_out, built, firsts, stated_notices, first_notices, repeat_notice, file_notices, rule_notices}
 use Rattle.scan_session.specs.Building.{Built, HoldsAll}
 use Rattle.scan_session.specs.Taking.{HasJust, ids_after, run_of, rules_at, notices_at}
 
@@ -151,6 +151,18 @@ all_rules refused all before taken rules notices left far e = (
   sym (ap (λ (l : List Stated). rules ++ built refused (firsts far.ids l)) e ∙ append-nil rules) ∙ far.rules_are,
   sym (ap (λ (l : List Stated). notices ++ stated_notices refused far.ids l) e ∙ append-nil notices) ∙ far.notices_are,
 )
+
+-- ---- all rules
+
+pub runs_as : {A E : Type 0} (r : Result A E) (items : A → List Rule) (refused : List (List ℕ)) (given all : List Stated) → given ≡ all
+    → IfOk r (λ a. items a ≡ built refused (firsts [] given)) → IfOk r (λ a. items a ≡ built refused (firsts [] all))
+runs_as r items refused given all e h = let P : List Stated → Type 0 = λ ss. IfOk r (λ a. items a ≡ built refused (firsts [] ss)) in subst P e h
+
+pub all_noted : (refused : List (List ℕ)) (old mid new : List Notice) (files : List RuleFile) (given : List Stated) → mid ≡ old ++ flat_map file_notices files → given ≡ stated files
+    → new ≡ mid ++ stated_notices refused [] given → new ≡ old ++ rule_notices refused files
+all_noted refused old mid new files given e f h =
+    h ∙ ap (λ (ss : List Stated). mid ++ stated_notices refused [] ss) f ∙ ap (λ (ns : List Notice). ns ++ stated_notices refused [] (stated files)) e
+    ∙ append_assoc old (flat_map file_notices files) (stated_notices refused [] (stated files))
 
 -- ---- what one rule gives
 

@@ -392,7 +392,8 @@ pub fn take_files<'r, P: Patterns>(
     ensures notices { OnOk result (notices.new.items ≡ notices.old.items ++ spec.rule_notices (gained (P.refusals patterns.old) (P.refusals patterns.new)) files.now) }
 {
     note_files(alloc, files.as_slice(), notices)?;
-    let entries = good_rules(alloc, files.as_slice())?;
-    let built = build_all(alloc, entries.as_slice(), patterns)?;
-    take_rules(alloc, entries.as_slice(), &built, notices)
+    let rules = good_rules(alloc, files.as_slice())?;
+    let entries = rules.as_slice();
+    let built = build_all(alloc, entries, patterns)?;
+    take_rules(alloc, entries, &built, notices)
 }
