@@ -248,7 +248,7 @@ fn take_rule<'r>(
     running: &mut Vec<Runner<'r>>,
     notices: &mut Vec<Noted>,
 ) -> Result<(), Memory>
-    requires { (refused : list (list ℕ)) × HoldsAll built.now refused entry.entry.rule.now.texts }
+    requires { (refused : list (list ℕ)) × HoldsAll built.now refused entry.rule.now.texts }
     ensures ids { (ids : list (list ℕ)) → taking.HasJust taken.old ids → OnOk result (taking.HasJust taken.new (taking.ids_after ids (taking.said entry.entry))) }
     ensures rules { (refused ids : list (list ℕ)) → HoldsAll built.now refused entry.entry.rule.now.texts → taking.HasJust taken.old ids → OnOk result (running.new.items ≡ running.old.items ++ taking.rules_at refused ids (taking.said entry.entry)) }
     ensures notices { (refused ids : list (list ℕ)) → HoldsAll built.now refused entry.entry.rule.now.texts → taking.HasJust taken.old ids → OnOk result (notices.new.items ≡ notices.old.items ++ taking.notices_at refused ids (taking.said entry.entry)) }
