@@ -7,8 +7,8 @@ first_from-first-requires c = record { ordered = apart_ascend 0 c.args.members.n
 pub returns-then-shares_at : goal.returns-then-shares_at
 returns-then-shares_at c = shares_here c.args.range c.args.members.now c.first_from-first.result c.requires.apart c.first_from-first.ensures c.shares_at.result c.shares_at.ensures c.if-shares_at.true
 
-pub returns-then-first-0 : goal.returns-then-first-0
-returns-then-first-0 c = shares_none c.args.range c.args.members.now c.first_from-first.result c.requires.apart c.first_from-first.ensures c.shares_at.result c.shares_at.ensures c.if-shares_at.false c.if-first-0.true
+pub returns-then-first-eq0 : goal.returns-then-first-eq0
+returns-then-first-eq0 c = shares_none c.args.range c.args.members.now c.first_from-first.result c.requires.apart c.first_from-first.ensures c.shares_at.result c.shares_at.ensures c.if-shares_at.false c.if-first-eq0.true
 
 pub returns : goal.returns
 returns c = shares_before c.args.range c.args.members.now c.first_from-first.result c.requires.apart c.first_from-first.ensures c.shares_at.result c.shares_at.ensures c.if-shares_at.false c.shares_at-2.result c.shares_at-2.ensures

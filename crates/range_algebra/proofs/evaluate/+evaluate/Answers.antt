@@ -99,11 +99,11 @@ part_of-returns-in_ok-members_of-in-NotInside-clause-exact t c = branch_part c.a
 pub part_of-returns-in_ok-members_of-in-NotInside-clause-few : goal.part_of-returns-in_ok-members_of-in-NotInside-clause-few
 part_of-returns-in_ok-members_of-in-NotInside-clause-few t c = branch_over c.args.scene.leaves.now c.args.scene.rx.now c.args.scene.view.now.bytes _ (outside _) (ap branch_of c.in-NotInside.is ∙ branch_notinside _) c.in_ok-members_of-in-NotInside.ensures.few
 
-pub part_of-returns-in_ok-matches_of-clause-exact : goal.part_of-returns-in_ok-matches_of-clause-exact
-part_of-returns-in_ok-matches_of-clause-exact t c = branch_part c.args.scene.leaves.now c.args.scene.rx.now c.args.scene.view.now.bytes _ (without_regex _) (ap branch_of c.in-NotRegex.is ∙ branch_notregex _) (parts.Members c.in_ok-matches_of.field-0) c.in_ok-matches_of.ensures
+pub part_of-returns-in_ok-matches_of-in-NotRegex-clause-exact : goal.part_of-returns-in_ok-matches_of-in-NotRegex-clause-exact
+part_of-returns-in_ok-matches_of-in-NotRegex-clause-exact t c = branch_part c.args.scene.leaves.now c.args.scene.rx.now c.args.scene.view.now.bytes _ (without_regex _) (ap branch_of c.in-NotRegex.is ∙ branch_notregex _) (parts.Members c.in_ok-matches_of-in-NotRegex.field-0) c.in_ok-matches_of-in-NotRegex.ensures
 
-pub part_of-returns-in_ok-matches_of-clause-few : goal.part_of-returns-in_ok-matches_of-clause-few
-part_of-returns-in_ok-matches_of-clause-few t c = branch_over c.args.scene.leaves.now c.args.scene.rx.now c.args.scene.view.now.bytes _ (without_regex _) (ap branch_of c.in-NotRegex.is ∙ branch_notregex _) refl
+pub part_of-returns-in_ok-matches_of-in-NotRegex-clause-few : goal.part_of-returns-in_ok-matches_of-in-NotRegex-clause-few
+part_of-returns-in_ok-matches_of-in-NotRegex-clause-few t c = branch_over c.args.scene.leaves.now c.args.scene.rx.now c.args.scene.view.now.bytes _ (without_regex _) (ap branch_of c.in-NotRegex.is ∙ branch_notregex _) refl
 
 pub part_of-returns-in-MetaPattern-clause-exact : goal.part_of-returns-in-MetaPattern-clause-exact
 part_of-returns-in-MetaPattern-clause-exact t c = asked_part c.args.scene.leaves.now c.args.scene.rx.now c.args.scene.view.now.bytes _ _ _ (ap branch_of c.in-MetaPattern.is ∙ branch_metapattern _ _) _ c.asked.ensures.exact
