@@ -1,9 +1,8 @@
 -- Texts that are given to a builder of regular expressions, each once.
-use Rattle.std.proofs.Common.{◌≡◌, ◌⊎◌, inl, inr, ℕ, ◌<◌, ◌+◌, Bool, true, false, cond, List, [], ◌∷◌, ◌++◌, length, map, take, drop, get_or, nat_cmp, refl, sym, ap, ◌∙◌, subst, Some, append_assoc, append-nil}
+use Rattle.std.proofs.Common.{◌≡◌, inl, inr, ℕ, ◌<◌, ◌+◌, Bool, true, false, cond, List, [], ◌∷◌, ◌++◌, length, map, take, drop, get_or, nat_cmp, refl, sym, ap, ◌∙◌, subst, Some, append_assoc, append-nil}
 use Rattle.std.specs.Prelude.{Option, None, if◌then◌else◌, ◌||◌}
 use Rattle.std.specs.Borrow.{Bor}
 use Rattle.std.specs.BTreeMap.{UpdatesBy}
-use Rattle.std.specs.List.{list_any, flat_map}
 use Rattle.std.specs.Option.{is_some, option_copied}
 use Rattle.std.specs.Str.{bytes_eq}
 use Rattle.std.specs.Cmp.Lexicographic.{slice_cmp, bytes_decides}
@@ -16,7 +15,7 @@ use Rattle.scan_session.specs.Refused.{gained, Gains}
 use Rattle.scan_session.specs.Running.{Stated, is_taken, is_refused, texts_of}
 use Rattle.scan_session.specs.declared.running.Entry.{Entry}
 use Rattle.scan_session.specs.Taking.{said}
-use Rattle.scan_session.specs.Building.{Built, held, came_to, HoldsJust, HasAsked, Holds, HoldsAll, Answers, GainsOf}
+use Rattle.scan_session.specs.Building.{Built, held, came_to, HasAsked, HoldsAll, Answers, GainsOf}
 use Rattle.scan_session.proofs.Members.{among_left, among_right, among_either, among_map, flat_among}
 
 -- ---- what lists gain
@@ -34,12 +33,6 @@ gains texts old new (more, e, some) = e ∙ ap (λ (ts : List (List ℕ)). old +
 
 pub gained_of : (texts old new : List (List ℕ)) → GainsOf texts old new → (text : List ℕ) → Among (gained old new) text → Among texts text
 gained_of texts old new (more, e, some) text h = let P : List (List ℕ) → Type 0 = λ ts. Among ts text in some text (subst P (gained_is old new more e) h)
-
-pub gains_none : (texts old new : List (List ℕ)) → new ≡ old → GainsOf texts old new
-gains_none texts old new e = ([], e ∙ sym (append-nil old), λ text h. absurd h)
-
-pub gains_one : (text : List ℕ) (old new : List (List ℕ)) → new ≡ old ++ text ∷ [] → GainsOf (text ∷ []) old new
-gains_one text old new e = (text ∷ [], e, λ t h. h)
 
 pub gains_more : (texts some old mid new : List (List ℕ)) → GainsOf texts old mid → GainsOf some mid new → ((text : List ℕ) → Among some text → Among texts text) → GainsOf texts old new
 gains_more texts some old mid new (xs, e, first) (ys, f, second) within =
@@ -91,9 +84,6 @@ is_there false o x e f = let g = sym (ap is_some e) ∙ f in absurd cc
 not_there : {X : Type 0} (b : Bool) (o : Option X) (x : X) → o ≡ (if b then Some x else None) → is_some o ≡ false → b ≡ false
 not_there true o x e f = let g = sym (ap is_some e) ∙ f in absurd cc
 not_there false o x e f = refl
-
-pub asked_none : (start now : List (List ℕ)) (built : Built) → ((text : List ℕ) → held built text ≡ None) → now ≡ start → HasAsked start now built []
-asked_none start now built empty e = record { refused = []; now_is = e ∙ sym (append-nil start); holds = empty; were_asked = λ text f. absurd cc }
 
 module _ (text : List ℕ) (start old : List (List ℕ)) (built : Built) (asked : List (List ℕ)) (far : HasAsked start old built asked) where
   -- the text was asked for before

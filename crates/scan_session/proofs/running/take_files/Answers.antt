@@ -1,11 +1,8 @@
-use Rattle.std.proofs.Common.{◌≡◌, ◌++◌, ℕ, List, ap, ◌∙◌, subst, map}
-use Rattle.std.specs.Prelude.{IfOk, OnOk}
+use Rattle.std.proofs.Common.{◌++◌, List, ap, ◌∙◌, subst, map}
 use Rattle.std.specs.List.{flat_map}
-use Rattle.rule_form.specs.declared.rule.Rule.{Rule}
-use Rattle.fix_apply.specs.declared.notice.Notice.{Notice}
 use Rattle.scan_session.specs.declared.rule_file.RuleFile.{RuleFile}
 use Rattle.scan_session.specs.Refused.{gained}
-use Rattle.scan_session.specs.Running.{Stated, stated, texts_of, built, firsts, file_notices, stated_notices}
+use Rattle.scan_session.specs.Running.{Stated, stated, texts_of, file_notices}
 use Rattle.scan_session.specs.Taking.{said}
 use Rattle.scan_session.specs.Building.{GainsOf}
 use Rattle.scan_session.proofs.Members.{on_ok_map}
