@@ -2,7 +2,7 @@
 use Rattle.std.proofs.Common.{◌≡◌, ◌<◌, ℕ, List, length, get_or, map, sym, ap, ◌∙◌, subst}
 use Rattle.std.specs.Prelude.{All, slice_get, Option, None, Some, Result, Ok, Err, IfOk}
 use Rattle.std.proofs.lemmas.Option.{slice_get-get_or}
-use Rattle.std.proofs.lemmas.List.Elements.{All-map}
+use Rattle.std.proofs.lemmas.List.Elements.{All-nil, All-map}
 use Rattle.meta_bind.specs.declared.finding.Finding.{Finding}
 use Rattle.rule_form.specs.declared.formula.Formula.{Formula}
 use Rattle.rule_form.specs.declared.rule.Body.{Body}
@@ -17,7 +17,7 @@ use Rattle.range_algebra.specs.Meets.{Meets}
 use Rattle.range_algebra.proofs.Once.{over_one}
 use Rattle.judge_file.specs.declared.outcome.Outcome.{Outcome}
 use Rattle.judge_file.specs.declared.outcome.Outcome.TheVariants.{Findings, Crowded, FlowTooLarge}
-use Rattle.judge_file.specs.Findings.{dotted, finding_of, SearchFinds, BodyFinds, PartFinds, IsFindingPlaced}
+use Rattle.judge_file.specs.Findings.{dotted, finding_of, SearchFinds, BodyFinds, PartFinds, findings_of, IsFindingPlaced}
 
 module _ (leaves : List Leaf) (texts : List (List ℕ)) (bytes : List ℕ) where
   -- ---- one outcome
@@ -53,6 +53,13 @@ findings_placed bytes members findings e all =
     let Placed : Finding → Type 0 = λ finding. IsFindingPlaced bytes finding in
     let P : List Finding → Type 0 = All Placed in
     subst P (sym e) (All-map Placed finding_of members all)
+
+pub outcome_placed : (bytes : List ℕ) (o : Outcome) (findings : List Finding) → o ≡ Findings findings → All (λ finding. IsFindingPlaced bytes finding) findings → All (λ finding. IsFindingPlaced bytes finding) (findings_of o)
+outcome_placed bytes o findings e all = let P : Outcome → Type 0 = λ x. All (λ finding. IsFindingPlaced bytes finding) (findings_of x) in subst P (sym e) all
+
+-- where there is a notice there are none
+pub crowded_placed : (bytes : List ℕ) (o : Outcome) (text : List ℕ) → o ≡ Crowded text → All (λ finding. IsFindingPlaced bytes finding) (findings_of o)
+crowded_placed bytes o text e = let P : Outcome → Type 0 = λ x. All (λ finding. IsFindingPlaced bytes finding) (findings_of x) in subst P (sym e) (All-nil (λ finding. IsFindingPlaced bytes finding))
 
 -- what the body of the part at a place finds is what the part there does
 pub finds_at : {E : Type 0} (leaves : List Leaf) (texts : List (List ℕ)) (bytes : List ℕ) (parts items : List Part) (i : ℕ) (d : Part) (r : Result Outcome E) → items ≡ parts → i < length parts

@@ -1,19 +1,22 @@
 -- Texts that are given to a builder of regular expressions, each once.
-use Rattle.std.proofs.Common.{◌≡◌, ◌⊎◌, inl, inr, ℕ, ◌<◌, ◌+◌, Bool, true, false, cond, List, [], ◌∷◌, ◌++◌, length, map, take, drop, get_or, nat_cmp, refl, sym, ap, ◌∙◌, subst, Some, append_assoc, append-nil}
+use Rattle.std.proofs.Common.{◌≡◌, inl, inr, ℕ, ◌<◌, ◌+◌, Bool, true, false, cond, List, [], ◌∷◌, ◌++◌, length, map, take, drop, get_or, nat_cmp, refl, sym, ap, ◌∙◌, subst, Some, append_assoc, append-nil}
 use Rattle.std.specs.Prelude.{Option, None, if◌then◌else◌, ◌||◌}
 use Rattle.std.specs.Borrow.{Bor}
 use Rattle.std.specs.BTreeMap.{UpdatesBy}
-use Rattle.std.specs.List.{list_any, flat_map}
-use Rattle.std.specs.Option.{is_some}
+use Rattle.std.specs.Option.{is_some, option_copied}
 use Rattle.std.specs.Str.{bytes_eq}
 use Rattle.std.specs.Cmp.Lexicographic.{slice_cmp, bytes_decides}
+use Rattle.std.proofs.lemmas.List.{take_more, map-append}
+use Rattle.std.proofs.lemmas.List.Concat.{flat_map-append}
 use Rattle.std.proofs.lemmas.List.Folds.{list_any-append}
 use Rattle.std.proofs.lemmas.Map.Text.{btree_map_updates_str}
 use Rattle.tree_match.specs.Sets.{Among}
 use Rattle.scan_session.specs.Refused.{gained, Gains}
 use Rattle.scan_session.specs.Running.{Stated, is_taken, is_refused, texts_of}
-use Rattle.scan_session.specs.Building.{Built, held, came_to, HoldsJust, HasAsked, Holds, HoldsAll, Answers, GainsOf}
-use Rattle.scan_session.proofs.Members.{among_left, among_right, among_either}
+use Rattle.scan_session.specs.declared.running.Entry.{Entry}
+use Rattle.scan_session.specs.Taking.{said}
+use Rattle.scan_session.specs.Building.{Built, held, came_to, HasAsked, HoldsAll, Answers, GainsOf}
+use Rattle.scan_session.proofs.Members.{among_left, among_right, among_either, among_map, flat_among}
 
 -- ---- what lists gain
 
@@ -31,15 +34,9 @@ gains texts old new (more, e, some) = e ∙ ap (λ (ts : List (List ℕ)). old +
 pub gained_of : (texts old new : List (List ℕ)) → GainsOf texts old new → (text : List ℕ) → Among (gained old new) text → Among texts text
 gained_of texts old new (more, e, some) text h = let P : List (List ℕ) → Type 0 = λ ts. Among ts text in some text (subst P (gained_is old new more e) h)
 
-pub gains_none : (texts old new : List (List ℕ)) → new ≡ old → GainsOf texts old new
-gains_none texts old new e = ([], e ∙ sym (append-nil old), λ text h. absurd h)
-
-pub gains_one : (text : List ℕ) (old new : List (List ℕ)) → new ≡ old ++ text ∷ [] → GainsOf (text ∷ []) old new
-gains_one text old new e = (text ∷ [], e, λ t h. h)
-
 pub gains_more : (texts some old mid new : List (List ℕ)) → GainsOf texts old mid → GainsOf some mid new → ((text : List ℕ) → Among some text → Among texts text) → GainsOf texts old new
-gains_more texts some old mid new (as, e, first) (bs, f, second) within =
-    (as ++ bs, f ∙ ap (λ (ts : List (List ℕ)). ts ++ bs) e ∙ append_assoc old as bs, λ text h. elim (among_either as bs text h) [ inl a ↦ first text a | inr b ↦ within text (second text b) ])
+gains_more texts some old mid new (xs, e, first) (ys, f, second) within =
+    (xs ++ ys, f ∙ ap (λ (ts : List (List ℕ)). ts ++ ys) e ∙ append_assoc old xs ys, λ text h. elim (among_either xs ys text h) [ inl a ↦ first text a | inr b ↦ within text (second text b) ])
 
 -- ---- texts that are among others
 
@@ -87,9 +84,6 @@ is_there false o x e f = let g = sym (ap is_some e) ∙ f in absurd cc
 not_there : {X : Type 0} (b : Bool) (o : Option X) (x : X) → o ≡ (if b then Some x else None) → is_some o ≡ false → b ≡ false
 not_there true o x e f = let g = sym (ap is_some e) ∙ f in absurd cc
 not_there false o x e f = refl
-
-pub asked_none : (start now : List (List ℕ)) (built : Built) → ((text : List ℕ) → held built text ≡ None) → now ≡ start → HasAsked start now built []
-asked_none start now built empty e = record { refused = []; now_is = e ∙ sym (append-nil start); holds = empty; were_asked = λ text f. absurd cc }
 
 module _ (text : List ℕ) (start old : List (List ℕ)) (built : Built) (asked : List (List ℕ)) (far : HasAsked start old built asked) where
   -- the text was asked for before
@@ -144,14 +138,34 @@ module _ (text : List ℕ) (start old : List (List ℕ)) (built : Built) (asked 
       known key e true f = with_same asked text key f
       known key e false f = with_taken asked text key (far.were_asked key (sym (with_other far.refused text key f) ∙ e))
 
--- the texts of a rule, one after the other
-pub asked_on : (start now : List (List ℕ)) (built : Built) (asked texts : List (List ℕ)) (i : ℕ) (text d : List ℕ) → take (i + 1) texts ≡ take i texts ++ text ∷ [] → HasAsked start now built ((asked ++ take i texts) ++ text ∷ []) → HasAsked start now built (asked ++ take (i + 1) texts)
-asked_on start now built asked texts i text d e h =
-    let P : List (List ℕ) → Type 0 = λ ts. HasAsked start now built ts in
-    subst P (append_assoc asked (take i texts) (text ∷ []) ∙ ap (λ (ts : List (List ℕ)). asked ++ ts) (sym e)) h
+-- ---- the texts of rules
 
 pub asked_as : (start now : List (List ℕ)) (built : Built) (asked more : List (List ℕ)) → asked ≡ more → HasAsked start now built asked → HasAsked start now built more
 asked_as start now built asked more e h = let P : List (List ℕ) → Type 0 = λ ts. HasAsked start now built ts in subst P e h
+
+-- one text more of a rule
+pub texts_on : {X : Type 0} (asked texts : List X) (i : ℕ) (s t : X) → i < length texts → t ≡ get_or texts i t → s ≡ t → (asked ++ take i texts) ++ s ∷ [] ≡ asked ++ take (i + 1) texts
+texts_on {X} asked texts i s t lt is e =
+    append_assoc asked (take i texts) (s ∷ []) ∙ ap (λ (ts : List X). asked ++ ts) (ap (λ (x : X). take i texts ++ x ∷ []) (e ∙ is) ∙ sym (take_more texts i t lt))
+
+-- the texts of one rule more
+pub rules_on : (entries : List Entry) (i : ℕ) (e : Entry) (texts : List (List ℕ)) → i < length entries → e ≡ get_or entries i e → texts ≡ e.rule.now.texts
+    → texts_of (map said (take i entries)) ++ texts ≡ texts_of (map said (take (i + 1) entries))
+rules_on entries i e texts lt is same =
+    let f : Stated → List (List ℕ) = λ s. s.rule.texts in
+    let old = map said (take i entries) in
+    ap (λ (ts : List (List ℕ)). texts_of old ++ ts) (same ∙ sym (append-nil e.rule.now.texts)) ∙ sym (flat_map-append f old (said e ∷ []))
+    ∙ ap texts_of (sym (map-append said (take i entries) (e ∷ []))) ∙ ap (λ (es : List Entry). texts_of (map said es)) (ap (λ (x : Entry). take i entries ++ x ∷ []) is ∙ sym (take_more entries i e lt))
+
+-- a text that is given to the builder is one of all
+pub one_within : (texts : List (List ℕ)) (s t : List ℕ) → s ≡ t → Among texts t → (text : List ℕ) → Among (s ∷ []) text → Among texts text
+one_within texts s t e h text (inl f) = let P : List ℕ → Type 0 = λ x. Among texts x in subst P (sym e ∙ f) h
+one_within texts s t e h text (inr k) = absurd k
+
+pub rule_within : (entries : List Entry) (e : Entry) (texts : List (List ℕ)) → texts ≡ e.rule.now.texts → Among entries e → (text : List ℕ) → Among texts text → Among (texts_of (map said entries)) text
+rule_within entries e texts same h text k =
+    let P : List (List ℕ) → Type 0 = λ ts. Among ts text in
+    flat_among (λ (s : Stated). s.rule.texts) (map said entries) (said e) text (among_map said entries e h) (subst P same k)
 
 -- ---- what is held in the end
 
@@ -170,17 +184,30 @@ holds_rest built refused left s ss e all text h =
     let P : List Stated → Type 0 = λ l. Among (texts_of l) text in
     all text (subst P (sym e) (among_right s.rule.texts (texts_of ss) text h))
 
--- a text with a regular expression isn't refused, and that is its own
-pub was_built : (refused : List (List ℕ)) (text rx : List ℕ) → Some rx ≡ came_to refused text → (is_refused refused text ≡ false) × (rx ≡ text)
-was_built refused text rx = at (is_refused refused text)
-  where
-    at : (b : Bool) → Some rx ≡ (if b then None else Some text) → (b ≡ false) × (rx ≡ text)
-    at true e = absurd cc
-    at false e = (refl, cc)
+-- ---- what is taken from it
 
-pub was_refused : (refused : List (List ℕ)) (text : List ℕ) → None ≡ came_to refused text → is_refused refused text ≡ true
-was_refused refused text = at (is_refused refused text)
+-- a text whose regular expression is there isn't refused, and that is its own
+pub is_built : (refused : List (List ℕ)) (text rx : List ℕ) (o : Option (Bor (List ℕ))) (b : Bor (List ℕ)) → o ≡ Some b → b.now ≡ rx → option_copied o ≡ came_to refused text → (is_refused refused text ≡ false) × (rx ≡ text)
+is_built refused text rx o b e f h = at (is_refused refused text) (sym (ap (λ (p : Option (Bor (List ℕ))). option_copied p) e) ∙ h)
   where
-    at : (b : Bool) → None ≡ (if b then None else Some text) → b ≡ true
-    at true e = refl
-    at false e = absurd cc
+    at : (u : Bool) → Some b.now ≡ (if u then None else Some text) → (u ≡ false) × (rx ≡ text)
+    at true g = absurd cc
+    at false g = (refl, let k : b.now ≡ text = cc in sym f ∙ k)
+
+-- a text whose regular expression isn't there is refused
+pub is_unbuilt_text : (refused : List (List ℕ)) (text : List ℕ) (o : Option (Bor (List ℕ))) → ((b : Bor (List ℕ)) → o ≡ Some b → ⊥) → option_copied o ≡ came_to refused text → is_refused refused text ≡ true
+is_unbuilt_text refused text (Some b) none h = absurd (none b refl)
+is_unbuilt_text refused text None none h = at (is_refused refused text) h
+  where
+    at : (u : Bool) → None ≡ (if u then None else Some text) → u ≡ true
+    at true g = refl
+    at false g = absurd cc
+
+-- where one of the texts is refused there are no regular expressions
+pub none_of : (texts : List (List ℕ)) (b : Bool) → b ≡ true → None ≡ (if b then None else Some texts)
+none_of texts b e = ap (λ (u : Bool). if u then None else Some texts) (sym e)
+
+-- regular expressions of texts are theirs
+pub are_those : (texts rx : List (List ℕ)) (o : Option (List (List ℕ))) (b : Bool) → o ≡ Some rx → o ≡ (if b then None else Some texts) → rx ≡ texts
+are_those texts rx o true e f = let g = sym e ∙ f in absurd cc
+are_those texts rx o false e f = let g = sym e ∙ f in cc

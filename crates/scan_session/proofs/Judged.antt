@@ -179,7 +179,8 @@ module _ (path : List ℕ) (lang : Lang) (text : List ℕ) (tree : Node) (rules 
           let same = one_there rules x.number n j.rule rule j.at at e in
           let P : Rule → Type 0 = λ r. Among r.parts j.finds.part in
           let Q : Rule → Type 0 = λ r. Allows r path in
-          (adds x).1 (inr (subst Q same j.finds.allows, record { number_is = e; part = j.finds.part; has = subst P same j.finds.has; looks = j.finds.looks; finds = j.finds.finds }))
+          let R : Rule → Type 0 = λ r. PartFindsIn r.texts text tree j.finds.part x.found in
+          (adds x).1 (inr (subst Q same j.finds.allows, record { number_is = e; part = j.finds.part; has = subst P same j.finds.has; looks = j.finds.looks; finds = subst R same j.finds.finds }))
           )
     ],
   )

@@ -1,10 +1,9 @@
 -- Items of lists, and what loops add to them.
 use Rattle.std.proofs.Common.{◌≡◌, ◌⊎◌, inl, inr, ◌↔◌, ℕ, zero, suc, ◌+◌, ◌<◌, List, [], ◌∷◌, ◌++◌, length, map, reverse, drop, get_or, refl, sym, ap, ◌∙◌, subst, Some, Ok, append_assoc, append-nil, arith}
-use Rattle.std.specs.Prelude.{Option, Result, Err, OnOk, slice_get}
+use Rattle.std.specs.Prelude.{Result, Err, OnOk, slice_get}
 use Rattle.std.specs.List.{flat_map}
-use Rattle.std.specs.Option.{option_map}
-use Rattle.std.proofs.lemmas.List.{reverse-append, length-map}
-use Rattle.std.proofs.lemmas.Option.{slice_get_within, slice_get-map, slice_get_read, slice_get_cases}
+use Rattle.std.proofs.lemmas.List.{reverse-append}
+use Rattle.std.proofs.lemmas.Option.{slice_get_within, slice_get_read, slice_get_cases}
 use Rattle.meta_bind.proofs.Lookups.{opened}
 use Rattle.tree_match.specs.Sets.{Among, Adds}
 
@@ -22,6 +21,11 @@ module _ {X : Type 0} where
   among_either [] ys x h = inr h
   among_either (z ∷ zs) ys x (inl e) = inl (inl e)
   among_either (z ∷ zs) ys x (inr h) = elim (among_either zs ys x h) [ inl a ↦ inl (inr a) | inr b ↦ inr b ]
+
+  pub among_map : {Y : Type 0} (f : X → Y) (xs : List X) (x : X) → Among xs x → Among (map f xs) (f x)
+  among_map f [] x h = absurd h
+  among_map f (z ∷ zs) x (inl e) = inl (ap f e)
+  among_map f (z ∷ zs) x (inr h) = inr (among_map f zs x h)
 
   pub get_among : (xs : List X) (i : ℕ) (x : X) → slice_get xs i ≡ Some x → Among xs x
   get_among [] i x e = absurd cc
@@ -90,13 +94,6 @@ pub turned : {X : Type 0} (from from' to to' : List X) (x : X) (W : List X) → 
 turned {X} from from' to to' x W from-is to-is h =
     ap (λ (l : List X). from' ++ reverse l) to-is ∙ ap (λ (l : List X). from' ++ l) (reverse-append to (x ∷ [])) ∙ sym (append_assoc from' (x ∷ []) (reverse to))
     ∙ ap (λ (l : List X). l ++ reverse to) (sym from-is) ∙ h
-
--- a place that a list has by way of another
-pub place_within : {X Y : Type 0} (f : X → Y) (xs : List X) (i : ℕ) (y : Y) → slice_get (map f xs) i ≡ Some y → i < length xs
-place_within f xs i y e = let lt = slice_get_within (map f xs) i y e in omega (arith, lt, length-map xs f)
-
-pub place_read : {X Y : Type 0} (f : X → Y) (xs : List X) (i : ℕ) (x : X) → i < length xs → x ≡ get_or xs i x → slice_get (map f xs) i ≡ Some (f x)
-place_read {X} {Y} f xs i x lt is = slice_get-map f xs i ∙ ap (λ (o : Option X). option_map f o) (slice_get_read xs (length xs) i x refl lt is)
 
 -- what is read at a place of a list is what the same list has there
 pub read_there : {X : Type 0} (xs ys : List X) (i : ℕ) (x y : X) → xs ≡ ys → x ≡ get_or xs i x → slice_get ys i ≡ Some y → x ≡ y

@@ -1,8 +1,8 @@
 -- Rules that are taken up one after the other.
-use Rattle.std.proofs.Common.{◌≡◌, ◌↔◌, ℕ, suc, ◌+◌, Bool, true, false, cond, not, List, [], ◌∷◌, ◌++◌, map, nat_cmp, refl, sym, ap, ◌∙◌, subst, append_assoc, append-nil, add-one}
-use Rattle.std.specs.Prelude.{if◌then◌else◌, ◌||◌}
+use Rattle.std.proofs.Common.{◌≡◌, ℕ, suc, ◌+◌, Bool, true, false, cond, not, List, [], ◌∷◌, ◌++◌, nat_cmp, refl, sym, ap, ◌∙◌, subst, append_assoc, append-nil, add-one}
+use Rattle.std.specs.Prelude.{if◌then◌else◌, ◌||◌, Result, IfOk}
 use Rattle.std.specs.Borrow.{Bor}
-use Rattle.std.specs.List.{list_any}
+use Rattle.std.specs.List.{list_any, flat_map}
 use Rattle.std.specs.Ordering.{is_eq}
 use Rattle.std.specs.Str.{bytes_eq}
 use Rattle.std.specs.BTreeSet.{BTreeSet, contains}
@@ -13,7 +13,7 @@ use Rattle.rule_read.specs.declared.fault.RuleOutcome.{RuleOutcome}
 use Rattle.fix_apply.specs.declared.notice.Notice.{Notice}
 use Rattle.scan_session.specs.declared.rule_file.RuleFile.{RuleFile}
 use Rattle.scan_session.specs.RuleFiles.{outcomes_of}
-use Rattle.scan_session.specs.Running.{Stated, stated_at, stated_from, stated, texts_of, is_taken, is_unbuilt, has_refused, is_out, built, firsts, stated_notices, first_notices, repeat_notice}
+use Rattle.scan_session.specs.Running.{Stated, stated_at, stated_from, stated, texts_of, is_taken, is_out, built, firsts, stated_notices, first_notices, repeat_notice, file_notices, rule_notices}
 use Rattle.scan_session.specs.Building.{Built, HoldsAll}
 use Rattle.scan_session.specs.Taking.{HasJust, ids_after, run_of, rules_at, notices_at}
 
@@ -133,18 +133,6 @@ takes refused all before taken taken' rules rules' notices notices' left s ss fa
       ∙ ap (λ (ns : List Notice). notices ++ ns) (sym (next_notices refused far.ids s ss)) ∙ ap (λ (l : List Stated). notices ++ stated_notices refused far.ids l) (sym left-is) ∙ far.notices_are;
 }
 
-pub takes_none : (store : Built) (all left : List Stated) (before : List Notice) (taken : Ids) (rules : List Rule) → HasJust taken [] → rules ≡ [] → left ≡ all → TakesUp store all before taken rules before left
-takes_none store all left before taken rules just e f refused holds =
-    let P : List Stated → Type 0 = λ l. HoldsAll store refused (texts_of l) in (
-      record {
-        ids = [];
-        just = just;
-        rules_are = ap (λ (rs : List Rule). rs ++ built refused (firsts [] left)) e ∙ ap (λ (l : List Stated). built refused (firsts [] l)) f;
-        notices_are = ap (λ (l : List Stated). before ++ stated_notices refused [] l) f;
-      },
-      subst P (sym f) holds,
-    )
-
 pub all_rules : (refused : List (List ℕ)) (all : List Stated) (before : List Notice) (taken : Ids) (rules : List Rule) (notices : List Notice) (left : List Stated) → SoFar refused all before taken rules notices left → left ≡ []
     → (rules ≡ built refused (firsts [] all)) × (notices ≡ before ++ stated_notices refused [] all)
 all_rules refused all before taken rules notices left far e = (
@@ -152,41 +140,26 @@ all_rules refused all before taken rules notices left far e = (
   sym (ap (λ (l : List Stated). notices ++ stated_notices refused far.ids l) e ∙ append-nil notices) ∙ far.notices_are,
 )
 
--- ---- what one rule gives
+-- ---- all rules
 
-module _ (refused ids : List (List ℕ)) (s : Stated) where
-  pub ids_old : is_taken ids s.rule.id ≡ true → ids_after ids s ≡ ids
-  ids_old e = ap (λ (b : Bool). if b then ids else s.rule.id ∷ ids) e
+pub runs_as : {A E : Type 0} (r : Result A E) (items : A → List Rule) (refused : List (List ℕ)) (given all : List Stated) → given ≡ all
+    → IfOk r (λ a. items a ≡ built refused (firsts [] given)) → IfOk r (λ a. items a ≡ built refused (firsts [] all))
+runs_as r items refused given all e h = let P : List Stated → Type 0 = λ ss. IfOk r (λ a. items a ≡ built refused (firsts [] ss)) in subst P e h
 
-  pub ids_new : is_taken ids s.rule.id ≡ false → ids_after ids s ≡ s.rule.id ∷ ids
-  ids_new e = ap (λ (b : Bool). if b then ids else s.rule.id ∷ ids) e
+pub all_noted : (refused : List (List ℕ)) (old mid new : List Notice) (files : List RuleFile) (given : List Stated) → mid ≡ old ++ flat_map file_notices files → given ≡ stated files
+    → new ≡ mid ++ stated_notices refused [] given → new ≡ old ++ rule_notices refused files
+all_noted refused old mid new files given e f h =
+    h ∙ ap (λ (ss : List Stated). mid ++ stated_notices refused [] ss) f ∙ ap (λ (ns : List Notice). ns ++ stated_notices refused [] (stated files)) e
+    ∙ append_assoc old (flat_map file_notices files) (stated_notices refused [] (stated files))
 
-  pub rules_old : is_taken ids s.rule.id ≡ true → rules_at refused ids s ≡ []
-  rules_old e = ap (λ (b : Bool). if b then [] else run_of refused s.rule) e
+-- ---- ids that are taken
 
-  pub rules_new : is_taken ids s.rule.id ≡ false → rules_at refused ids s ≡ run_of refused s.rule
-  rules_new e = ap (λ (b : Bool). if b then [] else run_of refused s.rule) e
-
-  pub notices_old : is_taken ids s.rule.id ≡ true → notices_at refused ids s ≡ repeat_notice s ∷ []
-  notices_old e = ap (λ (b : Bool). if b then repeat_notice s ∷ [] else first_notices refused s) e
-
-  pub notices_new : is_taken ids s.rule.id ≡ false → notices_at refused ids s ≡ first_notices refused s
-  notices_new e = ap (λ (b : Bool). if b then repeat_notice s ∷ [] else first_notices refused s) e
-
--- what a rule gives that runs, or doesn't
-module _ (refused : List (List ℕ)) (rule : Rule) where
-  pub unbuilt_out : is_unbuilt rule ≡ true → run_of refused rule ≡ []
-  unbuilt_out e = ap (λ (b : Bool). if (b || has_refused refused rule) then [] else rule ∷ []) e
-
-  pub built_out : is_unbuilt rule ≡ false → has_refused refused rule ≡ true → run_of refused rule ≡ []
-  built_out e f = ap (λ (b : Bool). if (b || has_refused refused rule) then [] else rule ∷ []) e ∙ ap (λ (b : Bool). if b then [] else rule ∷ []) f
-
-  pub built_in : is_unbuilt rule ≡ false → has_refused refused rule ≡ false → run_of refused rule ≡ rule ∷ []
-  built_in e f = ap (λ (b : Bool). if (b || has_refused refused rule) then [] else rule ∷ []) e ∙ ap (λ (b : Bool). if b then [] else rule ∷ []) f
+ids_new : (ids : List (List ℕ)) (s : Stated) → is_taken ids s.rule.id ≡ false → ids_after ids s ≡ s.rule.id ∷ ids
+ids_new ids s e = ap (λ (b : Bool). if b then ids else s.rule.id ∷ ids) e
 
 -- the ids that are taken once that of the rule is put among them
 pub ids_grown : (ids : List (List ℕ)) (s : Stated) (id : Bor (List ℕ)) → id.now ≡ s.rule.id → (old new : Ids) → HasJust old ids → ((key : Bor (List ℕ)) → has new key ≡ cond (is_eq (slice_cmp nat_cmp id.now key.now)) true (has old key)) → not (has old id) ≡ true → HasJust new (ids_after ids s)
 ids_grown ids s id id-is old new just updates added =
     let fresh : is_taken ids s.rule.id ≡ false = ap (is_taken ids) (sym id-is) ∙ is_fresh ids id old new just updates added in
     let P : List (List ℕ) → Type 0 = HasJust new in
-    subst P (ap (λ (i : List ℕ). i ∷ ids) id-is ∙ sym (ids_new [] ids s fresh)) (with_id ids id old new just updates)
+    subst P (ap (λ (i : List ℕ). i ∷ ids) id-is ∙ sym (ids_new ids s fresh)) (with_id ids id old new just updates)

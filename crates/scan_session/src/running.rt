@@ -226,6 +226,7 @@ fn add_runner<'r>(
     built: &Built<'_>,
     running: &mut Vec<Runner<'r>>,
 ) -> Result<(), Memory>
+    requires { (refused : list (list ℕ)) × HoldsAll built.now refused rule.now.texts }
     ensures { (refused : list (list ℕ)) → HoldsAll built.now refused rule.now.texts → OnOk result (running.new.items ≡ running.old.items ++ taking.run_of refused rule.now) }
 {
     if is_unbuilt(rule) {
@@ -247,6 +248,7 @@ fn take_rule<'r>(
     running: &mut Vec<Runner<'r>>,
     notices: &mut Vec<Noted>,
 ) -> Result<(), Memory>
+    requires { (refused : list (list ℕ)) × HoldsAll built.now refused entry.rule.now.texts }
     ensures ids { (ids : list (list ℕ)) → taking.HasJust taken.old ids → OnOk result (taking.HasJust taken.new (taking.ids_after ids (taking.said entry.entry))) }
     ensures rules { (refused ids : list (list ℕ)) → HoldsAll built.now refused entry.entry.rule.now.texts → taking.HasJust taken.old ids → OnOk result (running.new.items ≡ running.old.items ++ taking.rules_at refused ids (taking.said entry.entry)) }
     ensures notices { (refused ids : list (list ℕ)) → HoldsAll built.now refused entry.entry.rule.now.texts → taking.HasJust taken.old ids → OnOk result (notices.new.items ≡ notices.old.items ++ taking.notices_at refused ids (taking.said entry.entry)) }
@@ -266,6 +268,7 @@ fn take_rules<'r>(
     built: &Built<'_>,
     notices: &mut Vec<Noted>,
 ) -> Result<Vec<Runner<'r>>, Memory>
+    requires { (refused : list (list ℕ)) × HoldsAll built.now refused (spec.texts_of (map taking.said entries.now)) }
     ensures rules { (refused : list (list ℕ)) → HoldsAll built.now refused (spec.texts_of (map taking.said entries.now)) → IfOk result (λ running. running.items ≡ spec.built refused (spec.firsts [] (map taking.said entries.now))) }
     ensures notices { (refused : list (list ℕ)) → HoldsAll built.now refused (spec.texts_of (map taking.said entries.now)) → OnOk result (notices.new.items ≡ notices.old.items ++ spec.stated_notices refused [] (map taking.said entries.now)) }
 {
@@ -389,7 +392,8 @@ pub fn take_files<'r, P: Patterns>(
     ensures notices { OnOk result (notices.new.items ≡ notices.old.items ++ spec.rule_notices (gained (P.refusals patterns.old) (P.refusals patterns.new)) files.now) }
 {
     note_files(alloc, files.as_slice(), notices)?;
-    let entries = good_rules(alloc, files.as_slice())?;
-    let built = build_all(alloc, entries.as_slice(), patterns)?;
-    take_rules(alloc, entries.as_slice(), &built, notices)
+    let rules = good_rules(alloc, files.as_slice())?;
+    let entries = rules.as_slice();
+    let built = build_all(alloc, entries, patterns)?;
+    take_rules(alloc, entries, &built, notices)
 }

@@ -1,4 +1,4 @@
-use Rattle.std.proofs.Common.{sym, ap, ◌∙◌}
+use Rattle.std.proofs.Common.{sym, ◌∙◌}
 use Rattle.scan_session.specs.Taking.{said, HasJust, ids_after}
 use Rattle.scan_session.proofs.Members.{on_ok}
 use Rattle.scan_session.proofs.Taking.{ids_grown}

@@ -6,6 +6,16 @@ use Rattle.scan_session.proofs.Asking.{holds_first, holds_rest}
 use Rattle.scan_session.proofs.Taking.{takes, all_rules}
 use Rattle.scan_session.proofs.running.take_rules.Goals as goal
 
+pub take_rule-requires : goal.take_rule-requires
+take_rule-requires c =
+    let i = c.loop-entry.entry-index in
+    let es = c.args.entries.now in
+    let e = c.entry-item.result in
+    let refused = c.requires.0 in (
+      refused,
+      holds_first c.args.built.now refused (map said (drop i es)) (said e) (map said (drop (i + 1) es)) (ap (map said) (opened es i e c.loop-entry-test.true c.entry-item.is)) (c.loop-entry.invariant refused c.requires.1).1,
+    )
+
 pub loop-entry-preserved : goal.loop-entry-preserved
 loop-entry-preserved c refused holds =
     let i = c.loop-entry.entry-index in

@@ -29,6 +29,24 @@ scan_all-requires-clause-apart g c =
 pub scan_all-requires-clause-ordered : goal.scan_all-requires-clause-ordered
 scan_all-requires-clause-ordered g c = let P : List File → Type 0 = IsAscending file_cmp in subst P (sym c.as_slice.ensures) c.requires
 
+pub returns-in_err-running-clause-grows : goal.returns-in_err-running-clause-grows
+returns-in_err-running-clause-grows g c = gains (texts_of (stated c.args.rules.now)) (g.P.Patterns.refusals c.args.patterns.now) (g.P.Patterns.refusals c.take_files.new.patterns) c.take_files.ensures.grows
+
+pub returns-in_err-running-clause-asked : goal.returns-in_err-running-clause-asked
+returns-in_err-running-clause-asked g c = gained_of (texts_of (stated c.args.rules.now)) (g.P.Patterns.refusals c.args.patterns.now) (g.P.Patterns.refusals c.take_files.new.patterns) c.take_files.ensures.grows
+
+pub returns-in_err-results-clause-grows : goal.returns-in_err-results-clause-grows
+returns-in_err-results-clause-grows g c = gains (texts_of (stated c.args.rules.now)) (g.P.Patterns.refusals c.args.patterns.now) (g.P.Patterns.refusals c.take_files.new.patterns) c.take_files.ensures.grows
+
+pub returns-in_err-results-clause-asked : goal.returns-in_err-results-clause-asked
+returns-in_err-results-clause-asked g c = gained_of (texts_of (stated c.args.rules.now)) (g.P.Patterns.refusals c.args.patterns.now) (g.P.Patterns.refusals c.take_files.new.patterns) c.take_files.ensures.grows
+
+pub returns-in_err-notices-clause-grows : goal.returns-in_err-notices-clause-grows
+returns-in_err-notices-clause-grows g c = gains (texts_of (stated c.args.rules.now)) (g.P.Patterns.refusals c.args.patterns.now) (g.P.Patterns.refusals c.take_files.new.patterns) c.take_files.ensures.grows
+
+pub returns-in_err-notices-clause-asked : goal.returns-in_err-notices-clause-asked
+returns-in_err-notices-clause-asked g c = gained_of (texts_of (stated c.args.rules.now)) (g.P.Patterns.refusals c.args.patterns.now) (g.P.Patterns.refusals c.take_files.new.patterns) c.take_files.ensures.grows
+
 pub returns-clause-grows : goal.returns-clause-grows
 returns-clause-grows g c = gains (texts_of (stated c.args.rules.now)) (g.P.Patterns.refusals c.args.patterns.now) (g.P.Patterns.refusals c.take_files.new.patterns) c.take_files.ensures.grows
 
