@@ -1,9 +1,8 @@
 -- How far members reach, and that those which lie apart from a state give none with it.
 use Rattle.std.proofs.Common.{◌≡◌, ◌≢◌, ◌↔◌, ◌⊎◌, inl, inr, ℕ, zero, suc, ◌+◌, ◌-◌, ◌<◌, ◌≤◌, List, [], ◌∷◌, ◌++◌, length, take, drop, get_or, set, sym, ap, ◌∙◌, subst, arith, add-one, take-append-drop, get_or-set_same, get_or-set_other}
 use Rattle.std.specs.Prelude.{max, min, slice_index}
-use Rattle.std.proofs.lemmas.List.{take_more, drop_all, get_or_append_left, get_or_push, length_push, length-set}
+use Rattle.std.proofs.lemmas.List.{take_more, get_or_append_left, get_or_push, length_push, length-set}
 use Rattle.meta_bind.proofs.Lookups.{opened}
-use Rattle.tree_match.specs.Sets.{Among}
 use Rattle.tree_match.specs.Members.{Member}
 use Rattle.range_algebra.specs.declared.state.State.{State}
 use Rattle.range_algebra.specs.declared.operand.Operand.{Operand}
@@ -68,13 +67,6 @@ pub record StartsFrom (members : List Member) (i : ℕ) (starts : List ℕ) (fir
   pub reached : Each (λ (m : Member). first ≤ m.0.from) (drop i members)
   pub each : (k : ℕ) → i ≤ k → k < length members → Each (λ (m : Member). slice_index starts k ≤ m.0.from) (drop k members)
 
-pub starts_none : (members : List Member) (i : ℕ) (starts : List ℕ) (first : ℕ) → length starts ≡ length members → i ≡ length members → StartsFrom members i starts first
-starts_none members i starts first many all = record {
-  many = many;
-  reached = λ m h. (let P : List Member → Type 0 = λ xs. Among xs m in elim (subst P (drop_all i members (omega (arith, all))) h) [ ]);
-  each = λ k from lt. absurd (omega (arith, all, from, lt));
-}
-
 pub starts_more : (members : List Member) (i : ℕ) (m : Member) (starts new : List ℕ) (first less : ℕ) → 0 < i → i ≤ length members → m ≡ get_or members (i - 1) m → less ≡ min m.0.from first → new ≡ set starts (i - 1) less → StartsFrom members i starts first
     → StartsFrom members (i - 1) new less
 starts_more members i m starts new first less some within is e f h = record {
@@ -102,9 +94,6 @@ starts_more members i m starts new first less some within is e f h = record {
         let other : k ≢ i - 1 = omega arith in
         let same : slice_index new k ≡ slice_index starts k = ap (λ (xs : List ℕ). slice_index xs k) f ∙ get_or-set_other starts (i - 1) k less 0 other in
         λ x a. let le = h.each k past lt x a in omega (arith, same, le)
-
-pub starts_all : (members : List Member) (i : ℕ) (starts : List ℕ) (first : ℕ) → i ≡ 0 → StartsFrom members i starts first → AreStarts members starts
-starts_all members i starts first none h = (h.many, λ k lt. h.each k (omega (arith, none)) lt)
 
 -- ---- members that lie apart from a state
 
@@ -139,7 +128,3 @@ module _ (role : Role) (b : State) (members : List Member) (later : List Operand
   -- the members from which on all begin after the state
   pub rest_passed : (starts : List ℕ) (i : ℕ) → AreStarts members starts → i < length members → b.range.to < slice_index starts i → (IsJoinedFrom role b (drop i members) s × IsNeeded later s) → ⊥
   rest_passed starts i are lt past h = let le = are.1 i lt h.0.0 h.0.1 in begun_after h.0.0 (omega (arith, past, le)) h.0.2 h.1
-
--- the same of what is left
-pub left_as : (A P Q : Type 0) → (P ↔ Q) → (A ⊎ P) ↔ (A ⊎ Q)
-left_as A P Q same = (λ h. elim h [ inl a ↦ inl a | inr p ↦ inr (same.0 p) ], λ h. elim h [ inl a ↦ inl a | inr q ↦ inr (same.1 q) ])

@@ -1,12 +1,12 @@
 use Rattle.std.proofs.Common.{arith}
-use Rattle.tree_match.proofs.Sets.{gathered, gathered_all}
+use Rattle.tree_match.proofs.Sets.{gathered, gathered_all, plus_as}
 use Rattle.range_algebra.specs.Joins.{IsJoinedWith, IsNeeded}
 use Rattle.range_algebra.proofs.Searches.{any_split, any_none}
-use Rattle.range_algebra.proofs.Spreads.{front_passed, rest_passed, left_as}
+use Rattle.range_algebra.proofs.Spreads.{front_passed, rest_passed}
 use Rattle.range_algebra.proofs.join.add_joined.Goals as goal
 
 pub loop-i-init : goal.loop-i-init
-loop-i-init c s = left_as _ _ _ (front_passed c.args.role c.args.state.now c.args.members.now c.args.later.now s c.args.ends.now _ c.requires.ends c.ended-first.ensures.within c.ended-first.ensures.last)
+loop-i-init c s = plus_as _ _ _ _ (λ h. h, λ h. h) (front_passed c.args.role c.args.state.now c.args.members.now c.args.later.now s c.args.ends.now _ c.requires.ends c.ended-first.ensures.within c.ended-first.ensures.last)
 
 pub loop-i-preserved : goal.loop-i-preserved
 loop-i-preserved c s =
