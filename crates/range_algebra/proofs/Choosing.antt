@@ -26,7 +26,7 @@ use Rattle.range_algebra.proofs.Names.{bindings_ascend, AllAscend}
 
 -- ---- what agrees with all bindings agrees with them made one
 
-each_cons : {X : Type 0} (P : X → Type 0) (y : X) (ys : List X) → P y → Each P ys → Each P (y ∷ ys)
+pub each_cons : {X : Type 0} (P : X → Type 0) (y : X) (ys : List X) → P y → Each P ys → Each P (y ∷ ys)
 each_cons P y ys p all x (inl e) = subst P e p
 each_cons P y ys p all x (inr k) = all x k
 

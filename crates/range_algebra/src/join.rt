@@ -6,12 +6,14 @@ ghost use Rattle.tree_match.specs.Ascending.{IsAscending};
 ghost use Rattle.range_algebra.specs.Sizes.{Any};
 ghost use Rattle.range_algebra.specs.Agreements.{has_bytes as has};
 ghost use Rattle.range_algebra.specs.Joins.{joined as with_member, begun as begun_of, state_cmp, IsRangeOf, HasRange, IsNeeded, IsJoinedWith, IsJoinedFrom, IsJoined};
+ghost use Rattle.range_algebra.specs.Spreads.{AreEnds, AreStarts};
 ghost use Rattle.range_algebra.specs.declared.state.State.{State as state_value};
 
 use crate::operand::Operand;
 use crate::order::settled;
 use crate::range::{is_equal, meet, touches};
 use crate::scene::{MOST, Member, ROOM};
+use crate::spread::{ended, ends_of, starts_of};
 use crate::state::State;
 use meta_bind::Trail;
 use node_tree::{Memory, Span};
@@ -154,18 +156,28 @@ fn add_one<'t>(
     add_needed(joined(role, state, member)?, later, states)
 }
 
-// Adds the states that one state and the members of the operand give.
+// Adds the states that one state and the members of the operand give. Members before the first that reaches the state aren't
+// looked at, nor those from which on all begin after it.
 fn add_joined<'t>(
     role: Role,
     state: &State<'t>,
     members: &[Member<'t>],
+    ends: &[u32],
+    starts: &[u32],
     later: &[Operand<'_, 't>],
     states: &mut Vec<State<'t>>,
 ) -> Result<(), Memory>
+    requires ends { AreEnds members.now ends.now }
+    requires starts { AreStarts members.now starts.now }
     ensures { OnOk result (Adds states.old.items states.new.items (λ s. IsJoinedFrom role state.now members.now s × IsNeeded later.now s)) }
 {
-    for member in members {
-        add_one(role, state, member, later, states)?;
+    let first = ended(ends, state.range.from);
+    for i in first..members.len() {
+        let start = starts[i];
+        if state.range.to < start {
+            return Ok(());
+        }
+        add_one(role, state, &members[i], later, states)?;
     }
     Ok(())
 }
@@ -182,9 +194,19 @@ pub fn join<'t>(
     ensures sound { IfOk result (λ v. (s : state_value) → Among v.items s → IsJoined role before.now members.now s × IsNeeded later.now s) }
     ensures whole { IfOk result (λ v. count_by (λ (s : state_value). has s.range) v.items ≤ 10000 → (s : state_value) → IsJoined role before.now members.now s → IsNeeded later.now s → Among v.items s) }
 {
+    let ends = ends_of(alloc, members)?;
+    let starts = starts_of(alloc, members)?;
     let mut states = Vec::new(alloc);
     for state in before {
-        add_joined(role, state, members, later, &mut states)?;
+        add_joined(
+            role,
+            state,
+            members,
+            ends.as_slice(),
+            starts.as_slice(),
+            later,
+            &mut states,
+        )?;
         if states.len() > ROOM {
             states = settled(alloc, states)?;
             if count(states.as_slice()) > MOST {

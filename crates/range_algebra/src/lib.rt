@@ -16,6 +16,7 @@ mod range;
 mod scene;
 mod search;
 mod set;
+mod spread;
 mod state;
 
 pub use answer::eval;

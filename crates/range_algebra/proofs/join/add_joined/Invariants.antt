@@ -4,6 +4,6 @@ use Rattle.range_algebra.specs.declared.state.State.{State}
 use Rattle.range_algebra.specs.Joins.{IsJoinedFrom, IsNeeded}
 use Rattle.range_algebra.proofs.join.add_joined.Given as goal
 
-abbrev pub invariant-loop-member : goal.invariant-loop-member
-invariant-loop-member l =
-    (s : State) → (Among l.states.items s ⊎ (IsJoinedFrom l.role l.state (drop l.member-index l.members) s × IsNeeded l.later s)) ↔ (Among l.initial.states.items s ⊎ (IsJoinedFrom l.role l.state l.members s × IsNeeded l.later s))
+abbrev pub invariant-loop-i : goal.invariant-loop-i
+invariant-loop-i l =
+    (s : State) → (Among l.states.items s ⊎ (IsJoinedFrom l.role l.state (drop l.i l.members) s × IsNeeded l.later s)) ↔ (Among l.initial.states.items s ⊎ (IsJoinedFrom l.role l.state l.members s × IsNeeded l.later s))
