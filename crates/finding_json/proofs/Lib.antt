@@ -1,2 +1,2 @@
-pub mod Metavars
 pub mod Floats
+pub mod Sent

@@ -1,7 +1,10 @@
 -- What a report says, as a JSON value with the keys of each object in order.
-use Rattle.std.specs.Prelude.{ℕ, List, [], ◌∷◌, map, codes, Option, None, Some}
+use Rattle.std.specs.Prelude.{ℕ, ◌+◌, List, [], ◌∷◌, map, codes, Option, None, Some}
 use Rattle.serde_json.specs.Data.{Data, number, unsigned, string, array, object, item, no_items, Members, member, no_members, put}
 use Rattle.serde_json.specs.View.{items_of}
+use Rattle.serde_json.specs.Events.{SendsValue}
+use Rattle.serde.specs.Event.{Log, Logs, field_key}
+use Rattle.serde.specs.declared.name.Case.TheVariants.{AsIs}
 use Rattle.node_tree.specs.declared.place.Place.{Place}
 use Rattle.node_tree.specs.declared.span.Span.{Span}
 use Rattle.meta_bind.specs.declared.bound.Bound.{Bound}
@@ -66,3 +69,18 @@ notice_data n =
 abbrev pub report_data : Report → Data
 report_data r =
     object (member (codes "notices") (array (items_of (map notice_data r.notices))) (member (codes "results") (array (items_of (map result_data r.results))) no_members))
+
+-- ---- for private clauses
+
+-- one for a value that is there
+abbrev pub one_if : {A : Type 0} → Option A → ℕ
+one_if None = 0
+one_if (Some x) = 1
+
+-- how many members are said of a finding beside its place
+abbrev pub extra_len : Reported → ℕ
+extra_len r = 3 + one_if r.fix + one_if r.finding.source
+
+-- a member is sent
+abbrev pub SendsMember : List ℕ → Data → Log → Log → Type 0
+SendsMember k d old new = (named : Log) × Logs old named (field_key k AsIs) × SendsValue d named new

@@ -1,29 +1,61 @@
-//! The parts of a report as JSON values.
+//! The parts of a report as they are sent to a writer.
 
-ghost use Rattle.std.specs.Prelude.{◌≡◌, IfOk, map};
-ghost use Rattle.serde_json.specs.View.{view, members_view};
-ghost use Rattle.meta_bind.specs.Bounds.{seen, NamesAscend};
-ghost use Rattle.finding_json.specs.Reports.{place_data, range_data, metavar_members, source_members, extra_data, result_data, notice_data, severity_word, with_fix};
+ghost use Rattle.std.specs.Prelude.{◌≡◌, OnOk, MatchOption, map, codes};
+ghost use Rattle.serde_json.specs.Data.{object, string};
+ghost use Rattle.serde_json.specs.Events.{SendsValue};
+ghost use Rattle.meta_bind.specs.Bounds.{seen};
+ghost use Rattle.finding_json.specs.Reports.{number_data, place_data, range_data, metavar_members, extra_data, extra_len as members_of_extra, result_data, notice_data, severity_word, SendsMember};
 
 use fix_apply::{Notice, Reported};
 use meta_bind::Bound;
 use node_tree::{Place, Span, Text};
 use rule_form::Severity;
-use serde_json::{Map, Value, json, put};
-use std::alloc::{AllocError, Global};
+use serde::Serializer;
 
-// A place by its line, its column and its offset.
-fn place_value(alloc: Global, place: Place) -> Result<Value, AllocError>
-    ensures { IfOk result (λ v. view v ≡ place_data place) }
+// A number by its key.
+fn send_number<S: Serializer>(key: &str, number: u32, out: &mut S) -> Result<(), S::Error>
+    ensures { OnOk result (SendsMember key.now (number_data number) (S.written out.old) (S.written out.new)) }
 {
-    json!(in alloc; {"col": place.col, "line": place.line, "offset": place.offset})
+    out.key(key)?;
+    out.u64(u64::from(number))
 }
 
-// A range by its two ends.
-fn range_value(alloc: Global, span: Span) -> Result<Value, AllocError>
-    ensures { IfOk result (λ v. view v ≡ range_data span) }
+// A word by its key.
+fn send_word<S: Serializer>(key: &str, word: &str, out: &mut S) -> Result<(), S::Error>
+    ensures { OnOk result (SendsMember key.now (string word.now) (S.written out.old) (S.written out.new)) }
 {
-    json!(in alloc; [span.from, span.to])
+    out.key(key)?;
+    out.str(word)
+}
+
+// A text by its key.
+fn send_text<S: Serializer>(key: &str, text: &Text, out: &mut S) -> Result<(), S::Error>
+    ensures { OnOk result (SendsMember key.now (string text.now) (S.written out.old) (S.written out.new)) }
+{
+    send_word(key, text.as_str(), out)
+}
+
+// A place by its key: its line, its column and its offset.
+fn send_place<S: Serializer>(key: &str, place: Place, out: &mut S) -> Result<(), S::Error>
+    ensures { OnOk result (SendsMember key.now (place_data place) (S.written out.old) (S.written out.new)) }
+{
+    out.key(key)?;
+    out.begin_map(Some(3))?;
+    send_number("col", place.col, out)?;
+    send_number("line", place.line, out)?;
+    send_number("offset", place.offset, out)?;
+    out.end_map()
+}
+
+// A range by its key: its two ends.
+fn send_range<S: Serializer>(key: &str, span: Span, out: &mut S) -> Result<(), S::Error>
+    ensures { OnOk result (SendsMember key.now (range_data span) (S.written out.old) (S.written out.new)) }
+{
+    out.key(key)?;
+    out.begin_seq(Some(2))?;
+    out.u64(u64::from(span.from))?;
+    out.u64(u64::from(span.to))?;
+    out.end_seq()
 }
 
 // The word of a severity.
@@ -42,95 +74,81 @@ fn word_of(severity: Severity) -> &'static str
 }
 
 // The range of each metavariable by its name.
-fn metavar_map(alloc: Global, bounds: &[Bound]) -> Result<Map<String, Value>, AllocError>
-    requires { NamesAscend (map seen bounds.now) }
-    ensures { IfOk result (λ m. members_view m.entries ≡ metavar_members (map seen bounds.now)) }
+fn send_metavars<S: Serializer>(bounds: &[Bound], out: &mut S) -> Result<(), S::Error>
+    ensures { OnOk result (SendsMember (codes "metavars") (object (metavar_members (map seen bounds.now))) (S.written out.old) (S.written out.new)) }
 {
-    let mut members = Map::new(alloc);
-    let mut left = bounds;
-    while let Some((last, front)) = left.split_last() {
-        put(
-            &mut members,
-            alloc,
-            last.name.as_str(),
-            range_value(alloc, last.span)?,
-        )?;
-        left = front;
+    out.key("metavars")?;
+    out.begin_map(Some(bounds.len()))?;
+    for bound in bounds {
+        send_range(bound.name.as_str(), bound.span, out)?;
     }
-    Ok(members)
+    out.end_map()
+}
+
+// The fix, where there is one.
+fn send_fix<S: Serializer>(fix: &Option<Text>, out: &mut S) -> Result<(), S::Error>
+    ensures { OnOk result (MatchOption fix.now (S.written out.new ≡ S.written out.old)
+        (λ text. SendsMember (codes "fix") (string text) (S.written out.old) (S.written out.new))) }
+{
+    match fix {
+        Some(text) => send_text("fix", text, out),
+        None => Ok(()),
+    }
 }
 
 // The range that taint comes from, where there is one.
-fn source_map(alloc: Global, source: Option<Span>) -> Result<Map<String, Value>, AllocError>
-    ensures { IfOk result (λ m. members_view m.entries ≡ source_members source) }
+fn send_source<S: Serializer>(source: Option<Span>, out: &mut S) -> Result<(), S::Error>
+    ensures { OnOk result (MatchOption source (S.written out.new ≡ S.written out.old)
+        (λ span. SendsMember (codes "source") (range_data span) (S.written out.old) (S.written out.new))) }
 {
-    let mut members = Map::new(alloc);
-    if let Some(span) = source {
-        put(&mut members, alloc, "source", range_value(alloc, span)?)?;
+    match source {
+        Some(span) => send_range("source", span, out),
+        None => Ok(()),
     }
-    Ok(members)
 }
 
-// Adds the fix, where there is one.
-fn add_fix(
-    alloc: Global,
-    mut members: Map<String, Value>,
-    fix: &Option<Text>,
-) -> Result<Map<String, Value>, AllocError>
-    ensures { IfOk result (λ m. members_view m.entries ≡ with_fix fix.now (members_view members.entries)) }
+// How many members are said of a finding beside its place.
+fn extra_len(reported: &Reported) -> usize
+    ensures { result ≡ members_of_extra reported.now }
 {
-    if let Some(text) = fix {
-        put(
-            &mut members,
-            alloc,
-            "fix",
-            Value::try_from_str(alloc, text.as_str())?,
-        )?;
-    }
-    Ok(members)
+    3 + usize::from(reported.fix.is_some()) + usize::from(reported.finding.source.is_some())
 }
 
 // What is said of a finding beside its place.
-fn extra_value(alloc: Global, reported: &Reported) -> Result<Value, AllocError>
-    ensures { IfOk result (λ v. view v ≡ extra_data reported.now) }
+fn send_extra<S: Serializer>(reported: &Reported, out: &mut S) -> Result<(), S::Error>
+    ensures { OnOk result (SendsMember (codes "extra") (extra_data reported.now) (S.written out.old) (S.written out.new)) }
 {
-    let mut members = source_map(alloc, reported.finding.source)?;
-    let metavars = metavar_map(alloc, reported.finding.binding.bounds())?;
-    put(
-        &mut members,
-        alloc,
-        "severity",
-        Value::try_from_str(alloc, word_of(reported.severity))?,
-    )?;
-    put(&mut members, alloc, "metavars", Value::Object(metavars))?;
-    put(
-        &mut members,
-        alloc,
-        "message",
-        Value::try_from_str(alloc, reported.message.as_str())?,
-    )?;
-    let members = add_fix(alloc, members, &reported.fix)?;
-    Ok(Value::Object(members))
+    out.key("extra")?;
+    out.begin_map(Some(extra_len(reported)))?;
+    send_fix(&reported.fix, out)?;
+    send_text("message", &reported.message, out)?;
+    send_metavars(reported.finding.binding.bounds(), out)?;
+    send_word("severity", word_of(reported.severity), out)?;
+    send_source(reported.finding.source, out)?;
+    out.end_map()
 }
 
-/// A result as a JSON value.
-pub fn result_value(alloc: Global, reported: &Reported) -> Result<Value, AllocError>
-    ensures { IfOk result (λ v. view v ≡ result_data reported.now) }
+/// Sends a result.
+pub fn send_result<S: Serializer>(reported: &Reported, out: &mut S) -> Result<(), S::Error>
+    ensures { OnOk result (SendsValue (result_data reported.now) (S.written out.old) (S.written out.new)) }
 {
-    let end = place_value(alloc, reported.end)?;
-    let extra = extra_value(alloc, reported)?;
-    let start = place_value(alloc, reported.start)?;
-    json!(in alloc; {"check_id": reported.id.as_str(), "end": end, "extra": extra, "path": reported.path.as_str(), "start": start})
+    out.begin_map(Some(5))?;
+    send_text("check_id", &reported.id, out)?;
+    send_place("end", reported.end, out)?;
+    send_extra(reported, out)?;
+    send_text("path", &reported.path, out)?;
+    send_place("start", reported.start, out)?;
+    out.end_map()
 }
 
-/// A notice as a JSON value.
-pub fn notice_value(alloc: Global, notice: &Notice) -> Result<Value, AllocError>
-    ensures { IfOk result (λ v. view v ≡ notice_data notice.now) }
+/// Sends a notice.
+pub fn send_notice<S: Serializer>(notice: &Notice, out: &mut S) -> Result<(), S::Error>
+    ensures { OnOk result (SendsValue (notice_data notice.now) (S.written out.old) (S.written out.new)) }
 {
-    json!(in alloc; {
-        "detail": notice.detail.as_str(),
-        "kind": notice.kind.word(),
-        "path": notice.path.as_str(),
-        "rule": notice.rule_id.as_str()
-    })
+    out.begin_map(Some(4))?;
+    send_text("detail", &notice.detail, out)?;
+    send_word("kind", notice.kind.word(), out)?;
+    send_text("path", &notice.path, out)?;
+    send_text("rule", &notice.rule_id, out)?;
+    out.end_map()
 }

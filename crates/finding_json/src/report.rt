@@ -1,53 +1,70 @@
 //! The line of a report.
 
-ghost use Rattle.std.specs.Prelude.{◌≡◌, [], ◌∷◌, ◌++◌, IfOk, map};
+ghost use Rattle.std.specs.Prelude.{◌≡◌, [], ◌∷◌, ◌++◌, IfOk, OnOk, map};
+ghost use Rattle.serde_json.specs.Data.{array};
+ghost use Rattle.serde_json.specs.Events.{SendsValue};
+ghost use Rattle.serde_json.specs.View.{items_of};
 ghost use Rattle.serde_json.specs.Written.{compact_text};
-ghost use Rattle.serde_json.specs.View.{view, items_of, items_view};
 ghost use Rattle.finding_json.specs.Reports.{report_data, result_data, notice_data};
 
-use crate::parts::{notice_value, result_value};
+use crate::parts::{send_notice, send_result};
 use fix_apply::{Notice, Report, Reported};
 use node_tree::{Bytes, Memory};
-use serde_json::{Value, json};
-use std::alloc::{AllocError, Global};
+use serde::{Described, Serialize, Serializer};
+use std::alloc::Global;
 
-// The results in order.
-fn result_list(alloc: Global, results: &[Reported]) -> Result<Vec<Value>, AllocError>
-    ensures { IfOk result (λ v. items_view v.items ≡ items_of (map result_data results.now)) }
-{
-    let mut values = Vec::new(alloc);
-    for reported in results {
-        values.push(result_value(alloc, reported)?)?;
+// A report that is to be written.
+#[derive(Clone, Copy)]
+struct Line<'r> {
+    report: &'r Report,
+}
+
+impl<'r> Described for Line<'r> {
+    ghost writes = { λ line. SendsValue (report_data line.report.now) };
+}
+
+impl<'r> Serialize for Line<'r> {
+    fn serialize<S: Serializer>(&self, out: &mut S) -> Result<(), S::Error> {
+        out.begin_map(Some(2))?;
+        out.key("notices")?;
+        send_notices(self.report.notices.as_slice(), out)?;
+        out.key("results")?;
+        send_results(self.report.results.as_slice(), out)?;
+        out.end_map()
     }
-    Ok(values)
 }
 
 // The notices in order.
-fn notice_list(alloc: Global, notices: &[Notice]) -> Result<Vec<Value>, AllocError>
-    ensures { IfOk result (λ v. items_view v.items ≡ items_of (map notice_data notices.now)) }
+fn send_notices<S: Serializer>(notices: &[Notice], out: &mut S) -> Result<(), S::Error>
+    ensures { OnOk result (SendsValue (array (items_of (map notice_data notices.now))) (S.written out.old) (S.written out.new)) }
 {
-    let mut values = Vec::new(alloc);
+    out.begin_seq(Some(notices.len()))?;
     for notice in notices {
-        values.push(notice_value(alloc, notice)?)?;
+        send_notice(notice, out)?;
     }
-    Ok(values)
+    out.end_seq()
 }
 
-// A report as a JSON value.
-fn report_value(alloc: Global, report: &Report) -> Result<Value, AllocError>
-    ensures { IfOk result (λ v. view v ≡ report_data report.now) }
+// The results in order.
+fn send_results<S: Serializer>(results: &[Reported], out: &mut S) -> Result<(), S::Error>
+    ensures { OnOk result (SendsValue (array (items_of (map result_data results.now))) (S.written out.old) (S.written out.new)) }
 {
-    let notices = notice_list(alloc, report.notices.as_slice())?;
-    let results = result_list(alloc, report.results.as_slice())?;
-    json!(in alloc; {"notices": notices, "results": results})
+    out.begin_seq(Some(results.len()))?;
+    for reported in results {
+        send_result(reported, out)?;
+    }
+    out.end_seq()
 }
 
 /// The line of a report: its JSON text without blanks, with the keys in order, and a line feed.
 pub fn report_text(alloc: Global, report: &Report) -> Result<Bytes, Memory>
     ensures { IfOk result (λ line. line ≡ compact_text (report_data report.now) ++ 10 ∷ []) }
 {
-    let text = report_value(alloc, report)?.to_string(alloc)?;
-    let mut line = Bytes::from_vec(text.into_bytes());
+    // JSON takes all that a report has, so that the writer fails only for want of memory.
+    let Ok(text) = serde_json::to_vec(alloc, &Line { report }) else {
+        return Err(Memory);
+    };
+    let mut line = Bytes::from_vec(text);
     line.push(b'\n')?;
     Ok(line)
 }
