@@ -1,6 +1,7 @@
 //! Reports as lines of JSON.
 //!
-//! What a report says is a JSON value (`specs/Reports.antt`), and its line is the compact text of that value.
+//! What a report says is a JSON value (`specs/Reports.antt`), and its line is the compact text of that value. No such value is
+//! built: its members go to the writer one by one.
 #![tactic(auto)]
 
 mod parts;
