@@ -12,7 +12,7 @@ loop-member-preserved c =
     let k = c.widened-hull.result in
     let e = c.widened-hull.ensures in
     let name = ap (λ n. n.now) e.name ∙ c.loop-member.invariant.0 in
-    (name, each_more (IsHullOf h) (IsHullOf k) _ _ c.member-item.result c.loop-member-test.true c.member-item.is (λ m is. hull_wider h k m e.name e.same is) (hull_here k _ _ _ name c.in_ok-held-2.ensures e.more) c.loop-member.invariant.1)
+    (name, each_more (IsHullOf h) (IsHullOf k) _ _ c.member-item.result c.loop-member-test.true c.member-item.is (λ m is. hull_wider h k m e.name e.same is) (hull_here k _ c.member-item.result _ name c.in_ok-held-2.ensures e.more) c.loop-member.invariant.1)
 
 pub returns : goal.returns
 returns c = each_all (IsHullOf c.loop-member.hull) (IsHullOf c.loop-member.hull) _ _ c.loop-member-test.false c.loop-member.invariant.1

@@ -6,7 +6,7 @@ use Rattle.range_algebra.proofs.Searches.{any_split, any_none}
 use Rattle.range_algebra.proofs.join.add_joined.Goals as goal
 
 pub add_block-requires : goal.add_block-requires
-add_block-requires c = c.requires.blocks _ (among_at _ _ _ c.loop-block-test.true c.block-item.is)
+add_block-requires c = record { block = c.requires.blocks _ (among_at _ _ _ c.loop-block-test.true c.block-item.is) }
 
 pub loop-block-preserved : goal.loop-block-preserved
 loop-block-preserved c s =
