@@ -20,7 +20,7 @@ use Rattle.range_algebra.specs.Trees.{Branch, Branches, no_branches, branch_then
 use Rattle.range_algebra.specs.Meets.{Meets, IsChosen, Allowed, IsShown, IsShownAt, IsShownAmong}
 use Rattle.range_algebra.specs.Shown.{Shows, IsShownOfSome}
 use Rattle.range_algebra.proofs.Openings.{branches_left, none_left, by_layer, branch_at}
-use Rattle.range_algebra.proofs.Searches.{any_parted, any_end}
+use Rattle.range_algebra.proofs.Searches.{any_parted, any_end, any_joined}
 use Rattle.range_algebra.proofs.Layers.{branch_focus}
 
 -- ---- clauses of answers
@@ -70,23 +70,6 @@ in_focus bs c m seen = shown (has is_focus bs) seen
     shown : (y : Bool) → y ≡ true → IsShownAmong (focused bs) c m ↔ MatchBool y (IsShownAmong (focused bs) c m) (m ≡ c)
     shown true f = (λ x. x, λ x. x)
     shown false f = absurd (cc)
-
-pub any_joined : {X : Type 0} (P : X → Type 0) (xs ys : List X) → Any P (xs ++ ys) ↔ (Any P xs ⊎ Any P ys)
-any_joined {X} P xs ys = (λ a. to xs a.0 a.1 a.2, λ h. elim h [ inl a ↦ (a.0, left xs a.0 a.1, a.2) | inr a ↦ (a.0, right xs a.0 a.1, a.2) ])
-  where
-    to : (zs : List X) (x : X) → Among (zs ++ ys) x → P x → Any P zs ⊎ Any P ys
-    to [] x a p = inr (x, a, p)
-    to (z ∷ zs) x (inl e) p = inl (x, inl e, p)
-    to (z ∷ zs) x (inr a) p = elim (to zs x a p) [ inl h ↦ inl (h.0, inr h.1, h.2) | inr h ↦ inr h ]
-
-    left : (zs : List X) (x : X) → Among zs x → Among (zs ++ ys) x
-    left [] x a = absurd a
-    left (z ∷ zs) x (inl e) = inl e
-    left (z ∷ zs) x (inr a) = inr (left zs x a)
-
-    right : (zs : List X) (x : X) → Among ys x → Among (zs ++ ys) x
-    right [] x a = a
-    right (z ∷ zs) x a = inr (right zs x a)
 
 -- what the children that are left show
 pub focus_left : (cs : List Child) (i : ℕ) (child : Child) (c m : Member) → i < length cs → child ≡ get_or cs i child

@@ -22,7 +22,7 @@ use Rattle.range_algebra.specs.Orders.{member_total}
 use Rattle.range_algebra.specs.Sizes.{Any, Each}
 use Rattle.range_algebra.specs.Conditions.{IsEqualTo, IsAround}
 use Rattle.range_algebra.specs.Halves.{IsBefore, IsBetween, IsFrom}
-use Rattle.range_algebra.proofs.Gathering.{any_joined}
+use Rattle.range_algebra.proofs.Searches.{any_joined}
 use Rattle.range_algebra.proofs.Limits.{below_all, after_first}
 
 -- ---- an item above one

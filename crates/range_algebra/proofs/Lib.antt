@@ -24,4 +24,4 @@ pub mod Firsts
 pub mod LeafNames
 pub mod Halving
 pub mod Placed
-pub mod Spreads
+pub mod Blocks

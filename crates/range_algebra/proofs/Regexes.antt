@@ -25,7 +25,7 @@ use Rattle.range_algebra.specs.Regexes.{unbound, matches_of, matches_bound, IsMa
 use Rattle.range_algebra.specs.Sizes.{Each, Any}
 use Rattle.range_algebra.specs.Trees.{regex}
 use Rattle.range_algebra.specs.Parts.{IsSetOf}
-use Rattle.range_algebra.proofs.Gathering.{any_joined}
+use Rattle.range_algebra.proofs.Searches.{any_joined}
 
 -- ---- matches with nothing bound
 

@@ -1,5 +1,5 @@
 -- Loops that look for an item.
-use Rattle.std.proofs.Common.{◌≡◌, ◌↔◌, ◌⊎◌, inl, inr, ℕ, ◌+◌, ◌<◌, ◌≤◌, List, [], ◌∷◌, length, drop, get_or, refl, sym, ap, ◌∙◌, subst, Bool, true, false}
+use Rattle.std.proofs.Common.{◌≡◌, ◌↔◌, ◌⊎◌, inl, inr, ℕ, ◌+◌, ◌<◌, ◌≤◌, List, [], ◌∷◌, ◌++◌, length, drop, get_or, refl, sym, ap, ◌∙◌, subst, Bool, true, false}
 use Rattle.std.specs.Prelude.{IsTrue}
 use Rattle.std.proofs.lemmas.List.{drop_all}
 use Rattle.node_tree.specs.declared.span.Span.{Span}
@@ -17,6 +17,23 @@ any_cons {X} P x xs = (to, from)
     from : P x ⊎ Any P xs → Any P (x ∷ xs)
     from (inl p) = (x, inl refl, p)
     from (inr (y, h, p)) = (y, inr h, p)
+
+pub any_joined : {X : Type 0} (P : X → Type 0) (xs ys : List X) → Any P (xs ++ ys) ↔ (Any P xs ⊎ Any P ys)
+any_joined {X} P xs ys = (λ a. to xs a.0 a.1 a.2, λ h. elim h [ inl a ↦ (a.0, left xs a.0 a.1, a.2) | inr a ↦ (a.0, right xs a.0 a.1, a.2) ])
+  where
+    to : (zs : List X) (x : X) → Among (zs ++ ys) x → P x → Any P zs ⊎ Any P ys
+    to [] x a p = inr (x, a, p)
+    to (z ∷ zs) x (inl e) p = inl (x, inl e, p)
+    to (z ∷ zs) x (inr a) p = elim (to zs x a p) [ inl h ↦ inl (h.0, inr h.1, h.2) | inr h ↦ inr h ]
+
+    left : (zs : List X) (x : X) → Among zs x → Among (zs ++ ys) x
+    left [] x a = absurd a
+    left (z ∷ zs) x (inl e) = inl e
+    left (z ∷ zs) x (inr a) = inr (left zs x a)
+
+    right : (zs : List X) (x : X) → Among ys x → Among (zs ++ ys) x
+    right [] x a = a
+    right (z ∷ zs) x a = inr (right zs x a)
 
 module _ {X : Type 0} (P : X → Type 0) (xs : List X) (i : ℕ) where
   -- the item at i is such

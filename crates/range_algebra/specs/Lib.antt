@@ -15,4 +15,4 @@ pub mod Shown
 pub mod Faults
 pub mod Operands
 pub mod Halves
-pub mod Spreads
+pub mod Blocks

@@ -6,14 +6,15 @@ ghost use Rattle.tree_match.specs.Ascending.{IsAscending};
 ghost use Rattle.range_algebra.specs.Sizes.{Any};
 ghost use Rattle.range_algebra.specs.Agreements.{has_bytes as has};
 ghost use Rattle.range_algebra.specs.Joins.{joined as with_member, begun as begun_of, state_cmp, IsRangeOf, HasRange, IsNeeded, IsJoinedWith, IsJoinedFrom, IsJoined};
-ghost use Rattle.range_algebra.specs.Spreads.{AreEnds, AreStarts};
+ghost use Rattle.range_algebra.specs.Sizes.{Each};
+ghost use Rattle.range_algebra.specs.Blocks.{IsBlock, IsJoinedIn, IsJoinedToBlocks};
 ghost use Rattle.range_algebra.specs.declared.state.State.{State as state_value};
 
+use crate::block::{Block, blocks_of, may_meet, shared_names, sorted};
 use crate::operand::Operand;
 use crate::order::settled;
 use crate::range::{is_equal, meet, touches};
 use crate::scene::{MOST, Member, ROOM};
-use crate::spread::{ended, ends_of, starts_of};
 use crate::state::State;
 use meta_bind::Trail;
 use node_tree::{Memory, Span};
@@ -156,30 +157,67 @@ fn add_one<'t>(
     add_needed(joined(role, state, member)?, later, states)
 }
 
-// Adds the states that one state and the members of the operand give. Members before the first that reaches the state aren't
-// looked at, nor those from which on all begin after it.
-fn add_joined<'t>(
+// Adds the states that one state and the members of a block give.
+fn add_block<'t>(
     role: Role,
     state: &State<'t>,
-    members: &[Member<'t>],
-    ends: &[u32],
-    starts: &[u32],
+    block: &Block<'_, 't>,
     later: &[Operand<'_, 't>],
     states: &mut Vec<State<'t>>,
 ) -> Result<(), Memory>
-    requires ends { AreEnds members.now ends.now }
-    requires starts { AreStarts members.now starts.now }
-    ensures { OnOk result (Adds states.old.items states.new.items (λ s. IsJoinedFrom role state.now members.now s × IsNeeded later.now s)) }
+    requires block { IsBlock block.now }
+    ensures { OnOk result (Adds states.old.items states.new.items (λ s. IsJoinedIn role state.now s block.now × IsNeeded later.now s)) }
 {
-    let first = ended(ends, state.range.from);
-    for i in first..members.len() {
-        let start = starts[i];
-        if state.range.to < start {
-            return Ok(());
-        }
-        add_one(role, state, &members[i], later, states)?;
+    if !may_meet(block, state) {
+        return Ok(());
+    }
+    for member in block.members {
+        add_one(role, state, member, later, states)?;
     }
     Ok(())
+}
+
+// Adds the states that one state and the members of the operand give, of which each is in a block.
+fn add_joined<'t>(
+    role: Role,
+    state: &State<'t>,
+    blocks: &[Block<'_, 't>],
+    later: &[Operand<'_, 't>],
+    states: &mut Vec<State<'t>>,
+) -> Result<(), Memory>
+    requires blocks { Each IsBlock blocks.now }
+    ensures { OnOk result (Adds states.old.items states.new.items (λ s. Any (IsJoinedIn role state.now s) blocks.now × IsNeeded later.now s)) }
+{
+    for block in blocks {
+        add_block(role, state, block, later, states)?;
+    }
+    Ok(())
+}
+
+// The states with one operand more, whose members are in these blocks. It stops once more than 10,000 of the states have a byte.
+fn join_blocks<'t>(
+    alloc: Global,
+    role: Role,
+    before: &[State<'t>],
+    blocks: &[Block<'_, 't>],
+    later: &[Operand<'_, 't>],
+) -> Result<Vec<State<'t>>, Memory>
+    requires blocks { Each IsBlock blocks.now }
+    ensures ordered { IfOk result (λ v. IsAscending state_cmp v.items) }
+    ensures sound { IfOk result (λ v. (s : state_value) → Among v.items s → IsJoinedToBlocks role before.now blocks.now s × IsNeeded later.now s) }
+    ensures whole { IfOk result (λ v. count_by (λ (s : state_value). has s.range) v.items ≤ 10000 → (s : state_value) → IsJoinedToBlocks role before.now blocks.now s → IsNeeded later.now s → Among v.items s) }
+{
+    let mut states = Vec::new(alloc);
+    for state in before {
+        add_joined(role, state, blocks, later, &mut states)?;
+        if states.len() > ROOM {
+            states = settled(alloc, states)?;
+            if count(states.as_slice()) > MOST {
+                return Ok(states);
+            }
+        }
+    }
+    settled(alloc, states)
 }
 
 /// The states with one operand more. It stops once more than 10,000 of them have a byte in their range.
@@ -194,25 +232,8 @@ pub fn join<'t>(
     ensures sound { IfOk result (λ v. (s : state_value) → Among v.items s → IsJoined role before.now members.now s × IsNeeded later.now s) }
     ensures whole { IfOk result (λ v. count_by (λ (s : state_value). has s.range) v.items ≤ 10000 → (s : state_value) → IsJoined role before.now members.now s → IsNeeded later.now s → Among v.items s) }
 {
-    let ends = ends_of(alloc, members)?;
-    let starts = starts_of(alloc, members)?;
-    let mut states = Vec::new(alloc);
-    for state in before {
-        add_joined(
-            role,
-            state,
-            members,
-            ends.as_slice(),
-            starts.as_slice(),
-            later,
-            &mut states,
-        )?;
-        if states.len() > ROOM {
-            states = settled(alloc, states)?;
-            if count(states.as_slice()) > MOST {
-                return Ok(states);
-            }
-        }
-    }
-    settled(alloc, states)
+    let names = shared_names(alloc, before, members)?;
+    let sorted = sorted(alloc, names.as_slice(), members)?;
+    let blocks = blocks_of(alloc, names.as_slice(), sorted.as_slice())?;
+    join_blocks(alloc, role, before, blocks.as_slice(), later)
 }

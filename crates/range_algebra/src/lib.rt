@@ -3,6 +3,7 @@
 
 mod all;
 mod answer;
+mod block;
 mod choice;
 mod condition;
 mod evaluate;
@@ -16,7 +17,6 @@ mod range;
 mod scene;
 mod search;
 mod set;
-mod spread;
 mod state;
 
 pub use answer::eval;

@@ -350,3 +350,36 @@ fn matches_count(rt: HostRuntime) -> Result<(), Fail> {
     assert!(rt; letters(alloc, 10001, Child::NotRegex(0))?.is_empty());
     Ok(())
 }
+
+#[test]
+fn an_inside_around_all_hides_none(rt: HostRuntime) -> Result<(), Fail> {
+    let alloc = rt.alloc();
+    let mut text = String::from_str(alloc, "[[1]")?;
+    for _ in 1..70 {
+        text.push_str(",[1]")?;
+    }
+    text.push_str("]")?;
+    let mut children = positives(alloc, &[0])?;
+    children.push(Child::Inside(Formula::Leaf(1)))?;
+    let inside = answer(alloc, text.as_str(), &["1", "[..., $Y, ...]"], children)?;
+    assert!(rt; inside.as_str().lines().count() == 4970);
+    Ok(())
+}
+
+#[test]
+fn contents_in_another_order_than_ranges_meet(rt: HostRuntime) -> Result<(), Fail> {
+    let alloc = rt.alloc();
+    let mut text = String::from_str(alloc, "[")?;
+    for number in (101_u32..171).rev() {
+        let first = if number % 2 == 0 { number } else { 0 };
+        text.push_str(format!(in alloc; "[{number},[{first},5]],")?.as_str())?;
+    }
+    text.push_str("0]")?;
+    let mut children = positives(alloc, &[0])?;
+    children.push(Child::Inside(Formula::Leaf(1)))?;
+    let patterns = ["[$X, 5]", "[$X, [...]]"];
+    let inside = answer(alloc, text.as_str(), &patterns, children)?;
+    assert!(rt; inside.as_str().lines().count() == 35);
+    assert!(rt; inside.as_str().starts_with("6..13 $X=7..10\n"));
+    Ok(())
+}

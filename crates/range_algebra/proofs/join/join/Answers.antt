@@ -1,23 +1,29 @@
-use Rattle.std.proofs.Common.{ap}
+use Rattle.std.proofs.Common.{◌≤◌, count_by}
 use Rattle.std.specs.Prelude.{Vec}
 use Rattle.std.specs.declared.alloc.Global.{Global}
-use Rattle.tree_match.proofs.Sets.{gathered}
+use Rattle.std.proofs.lemmas.Result.{IfOk-weaker}
+use Rattle.tree_match.specs.Sets.{Among}
 use Rattle.range_algebra.specs.declared.state.State.{State}
-use Rattle.range_algebra.specs.Joins.{IsJoinedFrom, IsNeeded}
-use Rattle.range_algebra.proofs.Searches.{any_split}
-use Rattle.range_algebra.proofs.Added.{gathered_as, ordered_sound}
-use Rattle.range_algebra.proofs.join.join.Goals.{then-len-gt-ROOM+in_ok-states+else-count-gt-MOST, else-len-gt-ROOM}
+use Rattle.range_algebra.specs.Agreements.{has_bytes}
+use Rattle.range_algebra.specs.Blocks.{IsJoinedToBlocks}
+use Rattle.range_algebra.specs.Joins.{IsJoined, IsNeeded}
+use Rattle.range_algebra.proofs.Blocks.{in_blocks}
 use Rattle.range_algebra.proofs.join.join.Goals as goal
 
-pub returns-then-count-gt-MOST-clause-sound : goal.returns-then-count-gt-MOST-clause-sound
-returns-then-count-gt-MOST-clause-sound c s =
-    ordered_sound _ _ _ _ (c.in_ok-states.ensures.same s)
-    (gathered _ _ _ _ _ _ (c.in_ok-add_joined.ensures s) (any_split (λ (b : State). IsJoinedFrom c.args.role b c.args.members.now s) _ _ (IsNeeded c.args.later.now s) _ c.loop-state-test.true c.state-item.is) (c.loop-state.invariant s))
+pub returns-clause-sound : goal.returns-clause-sound
+returns-clause-sound c =
+    let blocks = c.as_slice-4.result.now in
+    IfOk-weaker c.join_blocks.result
+    (λ (v : Vec State Global). (s : State) → Among v.items s → IsJoinedToBlocks c.args.role c.args.before.now blocks s × IsNeeded c.args.later.now s)
+    (λ (v : Vec State Global). (s : State) → Among v.items s → IsJoined c.args.role c.args.before.now c.args.members.now s × IsNeeded c.args.later.now s)
+    (λ v h s a. ((in_blocks c.args.role c.args.before.now c.args.members.now _ _ _ blocks s c.as_slice-3.ensures.value c.as_slice-4.ensures.value c.in_ok-sorted.ensures c.in_ok-blocks.ensures.whole).0 (h s a).0, (h s a).1))
+    c.join_blocks.ensures.sound
 
-pub loop-state-preserved : goal.loop-state-preserved
-loop-state-preserved c s =
-    let more = gathered _ _ _ _ _ _ (c.in_ok-add_joined.ensures s) (any_split (λ (b : State). IsJoinedFrom c.args.role b c.args.members.now s) _ _ (IsNeeded c.args.later.now s) _ c.loop-state-test.true c.state-item.is) (c.loop-state.invariant s) in
-    elim c.if-len-gt-ROOM.branch [
-      | then-len-gt-ROOM+in_ok-states+else-count-gt-MOST w ↦ gathered_as _ _ s _ _ (let e = ap (λ (v : Vec State Global). v.items) w.states-is in let f = w.in_ok-states.ensures.same s in rw e f) more
-      | else-len-gt-ROOM w ↦ gathered_as _ _ s _ _ (let e = ap (λ (v : Vec State Global). v.items) w.states-is in rw e (λ a. a, λ a. a)) more
-    ]
+pub returns-clause-whole : goal.returns-clause-whole
+returns-clause-whole c =
+    let blocks = c.as_slice-4.result.now in
+    IfOk-weaker c.join_blocks.result
+    (λ (v : Vec State Global). count_by (λ (s : State). has_bytes s.range) v.items ≤ 10000 → (s : State) → IsJoinedToBlocks c.args.role c.args.before.now blocks s → IsNeeded c.args.later.now s → Among v.items s)
+    (λ (v : Vec State Global). count_by (λ (s : State). has_bytes s.range) v.items ≤ 10000 → (s : State) → IsJoined c.args.role c.args.before.now c.args.members.now s → IsNeeded c.args.later.now s → Among v.items s)
+    (λ v h few s j n. h few s ((in_blocks c.args.role c.args.before.now c.args.members.now _ _ _ blocks s c.as_slice-3.ensures.value c.as_slice-4.ensures.value c.in_ok-sorted.ensures c.in_ok-blocks.ensures.whole).1 j) n)
+    c.join_blocks.ensures.whole
