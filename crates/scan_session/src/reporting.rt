@@ -71,8 +71,8 @@ fn reported(
     })
 }
 
-/// The findings as they are reported, in the same order.
-pub fn report_rows(
+// The findings as they are reported, in the same order, by where the lines of the file are.
+fn placed_rows(
     alloc: Global,
     path: &str,
     view: &FileView,
@@ -90,6 +90,24 @@ pub fn report_rows(
         results.push(reported(alloc, path, view, &places, rule, row.finding())?)?;
     }
     Ok(results)
+}
+
+/// The findings as they are reported, in the same order. Where the lines of the file are is not looked for without a finding.
+pub fn report_rows(
+    alloc: Global,
+    path: &str,
+    view: &FileView,
+    running: &[Runner<'_>],
+    rows: &[Row<'_, '_>],
+) -> Result<List<Reported>, Memory>
+    requires numbered { AreNumberedHits running.now rows.now }
+    requires placed { ArePlacedHits view.now.bytes rows.now }
+    ensures { IfOk result (AreReported path.now view.now.bytes running.now rows.now) }
+{
+    if rows.is_empty() {
+        return Ok(List::new(alloc));
+    }
+    placed_rows(alloc, path, view, running, rows)
 }
 
 // Adds the notice of what the rule with that id finds in the file at that path, if there is one.

@@ -8,7 +8,7 @@ use Rattle.tree_match.proofs.Ascents.{among_at}
 use Rattle.fix_apply.specs.declared.report.Reported.{Reported}
 use Rattle.scan_session.specs.Reports.{reported}
 use Rattle.scan_session.proofs.Hits.{reports_start, reports_on, reports_end}
-use Rattle.scan_session.proofs.reporting.report_rows.Goals as goal
+use Rattle.scan_session.proofs.reporting.placed_rows.Goals as goal
 
 pub loop-row-init : goal.loop-row-init
 loop-row-init c = let hs = c.args.rows.now in reports_start c.args.path.now c.args.view.now.bytes c.args.running.now hs (drop 0 hs) c.new-results.result c.new-results.ensures refl
