@@ -103,12 +103,6 @@ pub reach_all : (members : List Member) (i : ℕ) (range : Span) → length memb
 reach_all members i range le h = let R : List Member → Type 0 = IsReach range in subst R (take_all i members le) h
 
 module _ (block : Block) (s : State) (is : IsBlock block) where
-  pub ends_before : block.range.to < s.range.from → Each (IsApart s) block.members.now
-  ends_before lt m k touch agree = let le = is.reach.ends m k in omega (arith, lt, le, touch)
-
-  pub begins_after : s.range.to < block.range.from → Each (IsApart s) block.members.now
-  begins_after lt m k touch agree = let le = is.reach.begins m k in omega (arith, lt, le, touch)
-
   -- the state binds a name to what lies outside of its hull
   pub bound_outside : (h : Hull) → Among block.hulls.items h → ((m : Member) → IsHullOf h m → AgreesWith s.plain s.inside m.1 → ⊥) → Each (IsApart s) block.members.now
   bound_outside h at out m k touch agree = out m (is.hulls h at m k) agree

@@ -1,6 +1,6 @@
 //! Members in blocks, so that those that can't meet a state aren't looked at.
 
-ghost use Rattle.std.specs.Prelude.{◌≡◌, ◌↔◌, ◌≤◌, false, true, map, IfOk, IfSome, IsTrue, List as list};
+ghost use Rattle.std.specs.Prelude.{◌≡◌, ◌↔◌, false, true, map, IfOk, IfSome, List as list};
 ghost use Rattle.std.specs.Ordering.{is_lt};
 ghost use Rattle.node_tree.specs.declared.node.Node.{Node as node_value};
 ghost use Rattle.node_tree.specs.Tree.{content_of};

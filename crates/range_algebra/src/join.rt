@@ -3,10 +3,9 @@
 ghost use Rattle.std.specs.Prelude.{◌≡◌, ◌↔◌, ◌≤◌, IsTrue, OnOk, IfOk, count_by};
 ghost use Rattle.tree_match.specs.Sets.{Among, Adds};
 ghost use Rattle.tree_match.specs.Ascending.{IsAscending};
-ghost use Rattle.range_algebra.specs.Sizes.{Any};
+ghost use Rattle.range_algebra.specs.Sizes.{Each, Any};
 ghost use Rattle.range_algebra.specs.Agreements.{has_bytes as has};
-ghost use Rattle.range_algebra.specs.Joins.{joined as with_member, begun as begun_of, state_cmp, IsRangeOf, HasRange, IsNeeded, IsJoinedWith, IsJoinedFrom, IsJoined};
-ghost use Rattle.range_algebra.specs.Sizes.{Each};
+ghost use Rattle.range_algebra.specs.Joins.{joined as with_member, begun as begun_of, state_cmp, IsRangeOf, HasRange, IsNeeded, IsJoinedWith, IsJoined};
 ghost use Rattle.range_algebra.specs.Blocks.{IsBlock, IsJoinedIn, IsJoinedToBlocks};
 ghost use Rattle.range_algebra.specs.declared.state.State.{State as state_value};
 
