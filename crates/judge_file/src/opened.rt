@@ -1,8 +1,9 @@
 //! From bytes to files.
 
 ghost use Rattle.std.specs.Prelude.{◌≡◌, ◌+◌, ◌≤◌, length, IfOk};
+ghost use Rattle.std.specs.Str.{IsUtf8};
 ghost use Rattle.node_tree.specs.Spans.{SpansLieIn};
-ghost use Rattle.judge_file.specs.Opening.{IsView, IsOpened, HasOnlyTree};
+ghost use Rattle.judge_file.specs.Opening.{IsView, IsTextTree, HasOnlyTextTree, IsPlaced, IsOpened, HasOnlyTree};
 
 use crate::reading::{plain_tree, read_tree};
 use node_tree::{Bytes, FileView, Lang, List, Memory, Node, ReadFault, Steps};
@@ -26,56 +27,77 @@ pub enum Opened {
     Read(FileView),
 }
 
-// The file of a text and its tree.
-fn view_of(alloc: Global, lang: Lang, text: &str, tree: Node) -> Result<FileView, Memory>
-    requires small { length text.now ≤ 1000000 }
-    requires placed { SpansLieIn text.now tree }
-    ensures { IfOk result (IsView lang text.now tree) }
-{
-    Ok(FileView {
-        lang,
-        bytes: Bytes::from_slice(alloc, text.as_bytes())?,
-        tree,
-        known: List::new(alloc),
-    })
+// The tree of a text.
+#[derive(Drop)]
+enum TextTree {
+    // The text has this one in the language.
+    Read(Node),
+    // It has none. This is that of a text that is only searched.
+    Plain(Node),
 }
 
-// What a text that isn't too large is.
-fn open_text(alloc: Global, lang: Lang, text: &str) -> Result<Opened, Memory>
+// The tree of a text in the language, or else the one by which it can be searched.
+fn tree_of(alloc: Global, lang: Lang, text: &str) -> Result<TextTree, Memory>
     requires { length text.now ≤ 1000000 }
-    ensures opened { IfOk result (IsOpened lang text.now) }
-    ensures only { IfOk result (HasOnlyTree lang text.now) }
+    ensures tree { IfOk result (IsTextTree lang text.now) }
+    ensures only { IfOk result (HasOnlyTextTree lang text.now) }
+    ensures placed { IfOk result (IsPlaced text.now) }
 {
     match read_tree(alloc, lang, text) {
-        Ok(tree) => Ok(Opened::Read(view_of(alloc, lang, text, tree)?)),
-        Err(ReadFault::NoTree) => {
-            let tree = plain_tree(alloc, text);
-            Ok(Opened::NoTree(view_of(alloc, Lang::Regex, text, tree)?))
-        }
+        Ok(tree) => Ok(TextTree::Read(tree)),
+        Err(ReadFault::NoTree) => Ok(TextTree::Plain(plain_tree(alloc, text))),
         Err(ReadFault::Memory) => Err(Memory),
+    }
+}
+
+// The file of these bytes and a tree.
+fn view_of(alloc: Global, lang: Lang, bytes: Bytes, tree: Node) -> FileView
+    requires utf8 { ∥ IsUtf8 bytes ∥₁ }
+    requires small { length bytes ≤ 1000000 }
+    requires placed { SpansLieIn bytes tree }
+    ensures { IsView lang bytes tree result }
+{
+    FileView {
+        lang,
+        bytes,
+        tree,
+        known: List::new(alloc),
+    }
+}
+
+// What bytes are that aren't too many.
+fn open_bytes(alloc: Global, lang: Lang, bytes: Bytes) -> Result<Opened, Memory>
+    requires { length bytes ≤ 1000000 }
+    ensures opened { IfOk result (IsOpened lang bytes) }
+    ensures only { IfOk result (HasOnlyTree lang bytes) }
+{
+    let tree = match str::from_utf8(bytes.as_slice()) {
+        Ok(text) => tree_of(alloc, lang, text)?,
+        Err(_) => return Ok(Opened::NotUtf8),
+    };
+    match tree {
+        TextTree::Read(tree) => Ok(Opened::Read(view_of(alloc, lang, bytes, tree))),
+        TextTree::Plain(tree) => Ok(Opened::NoTree(view_of(alloc, Lang::Regex, bytes, tree))),
     }
 }
 
 /// What the bytes of a file are in the language. TooLarge comes exactly where there are more than 1,000,000, else NotUtf8
 /// exactly where they are no UTF-8, else NoTree exactly where the text has no tree in the language. A text of the language
-/// `Regex` always has one: a `Root` without kids that spans all of it. It is one step, whatever it answers. So far no name of
-/// a file is known to hold a literal.
+/// `Regex` always has one: a `Root` without kids that spans all of it. It is one step, whatever it answers. The bytes become
+/// those of the file, so none is copied. So far no name of a file is known to hold a literal.
 pub fn open_file<L: Ledger>(
     alloc: Global,
     lang: Lang,
-    bytes: &[u8],
+    bytes: Bytes,
     steps: &mut Steps<L>,
 ) -> Result<Opened, Memory>
-    ensures opened { IfOk result (IsOpened lang bytes.now) }
-    ensures only { IfOk result (HasOnlyTree lang bytes.now) }
+    ensures opened { IfOk result (IsOpened lang bytes) }
+    ensures only { IfOk result (HasOnlyTree lang bytes) }
     ensures one_step { steps.new ≡ steps.old + 1 }
 {
     steps.tick();
     if bytes.len() > MOST {
         return Ok(Opened::TooLarge);
     }
-    match str::from_utf8(bytes) {
-        Ok(text) => open_text(alloc, lang, text),
-        Err(_) => Ok(Opened::NotUtf8),
-    }
+    open_bytes(alloc, lang, bytes)
 }

@@ -25,6 +25,7 @@ fn opened<L: Ledger>(
     requires some { 0 < L.parts }
 {
     let mut steps = Steps::<L>::new(blank);
+    let bytes = Bytes::from_slice(alloc, bytes)?;
     open_file(alloc, lang, bytes, &mut steps)
 }
 
@@ -195,6 +196,7 @@ fn judged<L: Ledger>(
     requires some { 0 < L.parts }
 {
     let mut steps = Steps::<L>::new(blank);
+    let bytes = Bytes::from_slice(alloc, bytes)?;
     let Opened::Read(view) = open_file(alloc, lang, bytes, &mut steps)? else {
         return Ok(None);
     };

@@ -83,6 +83,11 @@ module _ {X : Type 0} (R : X → X → Ordering) (o : IsTotalOrder R) where
   before_below (z ∷ zs) y ys x up (inr h) = before_below zs y ys x (tail_ascends z (zs ++ y ∷ ys) up) h
 
 -- two lists in order, all of the one below all of the other
+pub ascends_front : {X : Type 0} (R : X → X → Ordering) (xs ys : List X) → IsAscending R (xs ++ ys) → IsAscending R xs
+ascends_front R [] ys up = tt
+ascends_front R (x ∷ []) ys up = tt
+ascends_front R (x ∷ z ∷ zs) ys up = (up.0, ascends_front R (z ∷ zs) ys up.1)
+
 pub ascends_on : {X : Type 0} (R : X → X → Ordering) (xs ys : List X) → IsAscending R xs → IsAscending R ys → ((x y : X) → Among xs x → Among ys y → R x y ≡ Less) → IsAscending R (xs ++ ys)
 ascends_on R [] ys up up' below = up'
 ascends_on R (x ∷ []) [] up up' below = tt

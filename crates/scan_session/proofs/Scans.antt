@@ -1,7 +1,9 @@
 -- Files, one after the other.
-use Rattle.std.proofs.Common.{◌≡◌, ◌⊎◌, inl, inr, ◌↔◌, ℕ, ◌<◌, ◌≤◌, List, [], ◌∷◌, ◌++◌, length, refl, sym, ap, ◌∙◌, subst, append_assoc, append-nil, arith}
+use Rattle.std.proofs.Common.{◌≡◌, ◌⊎◌, inl, inr, ◌↔◌, ℕ, Bool, false, ◌<◌, List, [], ◌∷◌, ◌++◌, length, refl, sym, ap, ◌∙◌, subst, append_assoc, arith}
+use Rattle.std.specs.Prelude.{IsTrue}
 use Rattle.std.specs.declared.cmp.Ordering.TheVariants.{Less}
 use Rattle.std.specs.Cmp.{IsTotalOrder}
+use Rattle.std.proofs.lemmas.Bool.{cases_lt, false≢true}
 use Rattle.std.proofs.lemmas.Cmp.{on_total}
 use Rattle.std.specs.Ordering.{ordering_then}
 use Rattle.node_tree.specs.declared.node.Node.{Node}
@@ -16,14 +18,18 @@ use Rattle.judge_file.specs.Opening.{IsOpened, HasOnlyTree}
 use Rattle.fix_apply.specs.declared.notice.Notice.{Notice}
 use Rattle.fix_apply.specs.declared.report.Reported.{Reported}
 use Rattle.scan_session.specs.declared.rule_file.RuleFile.{RuleFile}
-use Rattle.scan_session.specs.Sets.{IsExactly, HasMore}
+use Rattle.scan_session.specs.declared.scanner.Scanner.{Scanner}
+use Rattle.scan_session.specs.Sets.{IsExactly}
 use Rattle.scan_session.specs.Notes.{notice_cmp}
 use Rattle.scan_session.specs.NoteOrder.{name_total}
-use Rattle.scan_session.specs.Running.{running, rule_notices}
+use Rattle.scan_session.specs.Running.{stated, running, rule_notices}
+use Rattle.scan_session.specs.Judging.{AreApart}
 use Rattle.scan_session.specs.Reports.{reported_cmp, bound_cmp}
 use Rattle.scan_session.specs.Fresh.{File, file_cmp, lang_at, Shows, InView, opened_notices, IsFoundIn, IsNotedIn, IsResultIn, IsNoticeIn, IsResult, IsFileNotice, IsFresh}
+use Rattle.scan_session.specs.Scans.{AreAll, AreTooMany, HasScanned, Scans}
+use Rattle.scan_session.proofs.Ids.{are_apart}
 use Rattle.scan_session.proofs.Members.{among_left, among_right, among_either, appended, adds_both}
-use Rattle.scan_session.proofs.Orders.{before_below, ascends_on, first_decides}
+use Rattle.scan_session.proofs.Orders.{before_below, ascends_front, ascends_on, first_decides}
 use Rattle.scan_session.proofs.Views.{shows_one, notes_one}
 
 -- ---- one file
@@ -99,25 +105,6 @@ file_total = on_total (λ (f : File). f.0) name_total
 path_of : (rules : List Rule) (file : File) (r : Reported) → IsResultIn rules file r → r.path ≡ file.0
 path_of rules file r h = ap (λ (x : Reported). x.path) h.2.3.is
 
--- what was found in the files up to here, and what is left
-pub record SoFar (rules : List Rule) (most : ℕ) (files : List File) (before notices : List Notice) (results : List Reported) (left : List File) : Type 0 where
-  pub done : List File
-  pub files_are : files ≡ done ++ left
-  pub results_are : IsExactly reported_cmp (IsResult rules done) results
-  pub notices_are : Adds before notices (IsFileNotice rules done)
-  pub few : length results ≤ most
-
-pub start : (rules : List Rule) (most : ℕ) (files left : List File) (before : List Notice) (results : List Reported) → left ≡ files → results ≡ [] → SoFar rules most files before before results left
-start rules most files left before results e f =
-    let P : List Reported → Type 0 = λ rs. SoFar rules most files before before rs left in
-    subst P (sym f) (record {
-      done = [];
-      files_are = sym e;
-      results_are = record { exact = λ r. (λ k. absurd k, λ k. absurd k.1); ordered = tt };
-      notices_are = λ n. (λ a. inl a, λ h. elim h [ inl a ↦ a | inr k ↦ absurd k.1 ]);
-      few = omega arith;
-    })
-
 -- what holds of a file before or of this one
 one_file : {X : Type 0} (P : File → X → Type 0) (done : List File) (f : File) (x : X) → (((g : File) × Among done g × P g x) ⊎ P f x) ↔ ((g : File) × Among (done ++ f ∷ []) g × P g x)
 one_file {X} P done f x = (
@@ -128,76 +115,106 @@ one_file {X} P done f x = (
   ],
 )
 
-module _ (rules : List Rule) (most : ℕ) (files : List File) (before : List Notice) (up : IsAscending file_cmp files)
-    (left rest : List File) (f : File) (old new : List Notice) (results found results' : List Reported)
-    (far : SoFar rules most files before old results left) (left-is : left ≡ f ∷ rest) (finds : IsExactly reported_cmp (IsResultIn rules f) found) (adds : Adds old new (IsNoticeIn rules f)) (results-are : results' ≡ results ++ found) where
-  abbrev Done : List File
-  Done = far.done ++ f ∷ []
+-- before the first file
+pub none_yet : (rules : List Rule) (before : List Notice) (most : ℕ) (results : List Reported) (notices : List Notice) → results ≡ [] → notices ≡ before → AreAll rules before most [] results notices
+none_yet rules before most results notices e f =
+    let P : List Reported → List Notice → Type 0 = λ rs ns. AreAll rules before most [] rs ns in
+    subst (λ (ns : List Notice). P results ns) (sym f) (subst (λ (rs : List Reported). P rs before) (sym e) (record {
+      few = omega arith;
+      findings = record { exact = λ r. (λ k. absurd k, λ k. absurd k.1); ordered = tt };
+      noted = λ n. (λ a. inl a, λ h. elim h [ inl a ↦ a | inr k ↦ absurd k.1 ]);
+    }))
 
-  here : files ≡ far.done ++ f ∷ rest
-  here = far.files_are ∙ ap (λ (fs : List File). far.done ++ fs) left-is
+-- where there are too many findings already, there are with more files
+pub still_more : (rules : List Rule) (most : ℕ) (files more : List File) (results : List Reported) → AreTooMany rules most files results → AreTooMany rules most (files ++ more) results
+still_more rules most files more results h = record {
+  many = h.many;
+  more = record {
+    some = h.more.some;
+    members = λ r k. let m = h.more.members r k in (m.0, among_left files more m.0 m.1, m.2);
+    ordered = h.more.ordered;
+    more = h.more.more;
+  };
+}
 
+module _ (rules : List Rule) (before : List Notice) (most : ℕ) (files : List File) (f : File) (up : IsAscending file_cmp (files ++ f ∷ []))
+    (old new : List Notice) (results found results' : List Reported)
+    (far : AreAll rules before most files results old) (finds : IsExactly reported_cmp (IsResultIn rules f) found) (adds : Adds old new (IsNoticeIn rules f)) (results-are : results' ≡ results ++ found) where
   earlier : (x y : Reported) → Among results x → Among found y → reported_cmp x y ≡ Less
   earlier x y h k =
-      let a = (far.results_are.exact x).0 h in
+      let a = (far.findings.exact x).0 h in
       let b = (finds.exact y).0 k in
-      let P : List File → Type 0 = λ fs. IsAscending file_cmp fs in
-      let less = before_below file_cmp file_total far.done f rest a.0 (subst P here up) a.1 in
+      let less = before_below file_cmp file_total files f [] a.0 up a.1 in
       let e : name_cmp x.path y.path ≡ name_cmp a.0.0 f.0 = ap (λ (p : List ℕ). name_cmp p y.path) (path_of rules a.0 x a.2) ∙ ap (λ (p : List ℕ). name_cmp a.0.0 p) (path_of rules f y b) in
       first_decides (name_cmp x.path y.path) (ordering_then (span_cmp x.finding.span y.finding.span) (ordering_then (name_cmp x.id y.id) (bound_cmp x.finding y.finding))) (e ∙ less)
 
-  more_results : IsExactly reported_cmp (IsResult rules Done) results'
+  more_results : IsExactly reported_cmp (IsResult rules (files ++ f ∷ [])) results'
   more_results =
-      let P : List Reported → Type 0 = λ rs. IsExactly reported_cmp (IsResult rules Done) rs in
+      let P : List Reported → Type 0 = λ rs. IsExactly reported_cmp (IsResult rules (files ++ f ∷ [])) rs in
       subst P (sym results-are) (record {
         exact = λ r.
-            let one = one_file (λ g x. IsResultIn rules g x) far.done f r in (
-              λ h. one.0 (elim (among_either results found r h) [ inl a ↦ inl ((far.results_are.exact r).0 a) | inr b ↦ inr ((finds.exact r).0 b) ]),
-              λ h. elim (one.1 h) [ inl a ↦ among_left results found r ((far.results_are.exact r).1 a) | inr b ↦ among_right results found r ((finds.exact r).1 b) ],
+            let one = one_file (λ g x. IsResultIn rules g x) files f r in (
+              λ h. one.0 (elim (among_either results found r h) [ inl a ↦ inl ((far.findings.exact r).0 a) | inr b ↦ inr ((finds.exact r).0 b) ]),
+              λ h. elim (one.1 h) [ inl a ↦ among_left results found r ((far.findings.exact r).1 a) | inr b ↦ among_right results found r ((finds.exact r).1 b) ],
             );
-        ordered = ascends_on reported_cmp results found far.results_are.ordered finds.ordered earlier;
+        ordered = ascends_on reported_cmp results found far.findings.ordered finds.ordered earlier;
       })
 
-  pub goes_on : length results' ≤ most → SoFar rules most files before new results' rest
-  goes_on few = record {
-    done = Done;
-    files_are = here ∙ sym (append_assoc far.done (f ∷ []) rest);
-    results_are = more_results;
-    notices_are = adds_both before old new (IsFileNotice rules far.done) (IsNoticeIn rules f) (IsFileNotice rules Done) far.notices_are adds (λ n. one_file (λ g x. IsNoticeIn rules g x) far.done f n);
-    few = few;
-  }
+  pub one_more : AreAll rules before most (files ++ f ∷ []) results' new ⊎ AreTooMany rules most (files ++ f ∷ []) results'
+  one_more = elim (cases_lt most (length results')) [
+    | inl many ↦ inr (record { many = many; more = record { some = results'; members = λ r h. (more_results.exact r).0 h; ordered = more_results.ordered; more = many } })
+    | inr few ↦ inl (record {
+      few = few;
+      findings = more_results;
+      noted = adds_both before old new (IsFileNotice rules files) (IsNoticeIn rules f) (IsFileNotice rules (files ++ f ∷ [])) far.noted adds (λ n. one_file (λ g x. IsNoticeIn rules g x) files f n);
+    })
+  ]
 
-  pub has_more : most < length results' → HasMore reported_cmp (IsResult rules files) most
-  has_more many = record {
-    some = results';
-    members = λ r h.
-        let k = (more_results.exact r).0 h in
-        let P : List File → Type 0 = λ fs. Among fs k.0 in
-        (k.0, subst P (sym (here ∙ sym (append_assoc far.done (f ∷ []) rest))) (among_left Done rest k.0 k.1), k.2);
-    ordered = more_results.ordered;
-    more = many;
-  }
+-- ---- what a scan holds
 
-module _ (rules : List Rule) (most : ℕ) (files left : List File) (before notices : List Notice) (results : List Reported) (far : SoFar rules most files before notices results left) (left-is : left ≡ []) where
-  all_done : far.done ≡ files
-  all_done = sym (far.files_are ∙ ap (λ (fs : List File). far.done ++ fs) left-is ∙ append-nil far.done)
+-- a test that fails shows that there are not too many findings
+pub not_over : (s : Scanner) (b : Bool) → (IsTrue b ↔ s.most < length s.results) → b ≡ false → s.most < length s.results → ⊥
+not_over s b test e many = false≢true (sym e ∙ test.1 many)
 
-  pub all_results : IsExactly reported_cmp (IsResult rules files) results
-  all_results = let P : List File → Type 0 = λ fs. IsExactly reported_cmp (IsResult rules fs) results in subst P all_done far.results_are
+module _ (refused : List (List ℕ)) (rule_files : List RuleFile) (most : ℕ) (files : List File) (s : Scanner) (h : HasScanned refused rule_files most files s) where
+  pub whole : (s.most < length s.results → ⊥) → AreAll (running refused rule_files) (rule_notices refused rule_files) most files s.results s.notices.items
+  whole few = elim h.found [ inl all ↦ all | inr more ↦ absurd (few (omega (arith, h.limit, more.many))) ]
 
-  pub all_notices : Adds before notices (IsFileNotice rules files)
-  all_notices = let P : List File → Type 0 = λ fs. Adds before notices (IsFileNotice rules fs) in subst P all_done far.notices_are
+  pub over : s.most < length s.results → AreTooMany (running refused rule_files) most files s.results
+  over many = elim h.found [ inl all ↦ absurd (omega (arith, h.limit, many, all.few)) | inr more ↦ more ]
+
+  pub passed_over : (more : List File) → s.most < length s.results → HasScanned refused rule_files most (files ++ more) s
+  passed_over more many = record { limit = h.limit; rules = h.rules; found = inr (still_more (running refused rule_files) most files more s.results (over many)) }
+
+  -- the rules that run have ids of their own
+  pub apart : (rules : List Rule) → rules ≡ s.running.items → AreApart rules
+  apart rules e = let P : List Rule → Type 0 = AreApart in subst P (sym (e ∙ h.rules)) (are_apart refused (stated rule_files))
+
+  pub found_more : (f : File) (rules : List Rule) (new : List Notice) (found results' : List Reported) → IsAscending file_cmp (files ++ f ∷ []) → rules ≡ s.running.items → (s.most < length s.results → ⊥)
+      → IsExactly reported_cmp (IsResultIn rules f) found → Adds s.notices.items new (IsNoticeIn rules f) → results' ≡ s.results ++ found
+      → AreAll (running refused rule_files) (rule_notices refused rule_files) most (files ++ f ∷ []) results' new ⊎ AreTooMany (running refused rule_files) most (files ++ f ∷ []) results'
+  found_more f rules new found results' up e few finds adds put =
+      let P : List Rule → Type 0 = λ rs. IsExactly reported_cmp (IsResultIn rs f) found in
+      let Q : List Rule → Type 0 = λ rs. Adds s.notices.items new (IsNoticeIn rs f) in
+      one_more (running refused rule_files) (rule_notices refused rule_files) most files f up s.notices.items new s.results found results' (whole few) (subst P (e ∙ h.rules) finds) (subst Q (e ∙ h.rules) adds) put
+
+-- ---- scans of some files after others
+
+pub scans_then : (xs ys : List File) (a b c : Scanner) → Scans xs a b → Scans ys b c → Scans (xs ++ ys) a c
+scans_then xs ys a b c first second refused rule_files most files up h =
+    let e : files ++ (xs ++ ys) ≡ (files ++ xs) ++ ys = sym (append_assoc files xs ys) in
+    let P : List File → Type 0 = λ fs. HasScanned refused rule_files most fs c in
+    let Q : List File → Type 0 = λ fs. IsAscending file_cmp fs in
+    let up' = subst Q e up in
+    subst P (sym e) (second refused rule_files most (files ++ xs) up' (first refused rule_files most files (ascends_front file_cmp (files ++ xs) ys up') h))
 
 -- ---- the report
 
-pub is_fresh : (refused : List (List ℕ)) (files : List File) (rule_files : List RuleFile) (rules : List Rule) (results : List Reported) (before notices listed : List Notice) → rules ≡ running refused rule_files → before ≡ rule_notices refused rule_files
-    → IsExactly reported_cmp (IsResult rules files) results → Adds before notices (IsFileNotice rules files) → IsAscending notice_cmp listed → ((n : Notice) → Among listed n ↔ Among notices n)
-    → IsFresh refused files rule_files (record { results = results; notices = listed })
-is_fresh refused files rule_files rules results before notices listed e f whole adds up same = record {
-  results = let P : List Rule → Type 0 = λ rs. IsExactly reported_cmp (IsResult rs files) results in subst P e whole;
-  notices =
-      let P : List Rule → Type 0 = λ rs. Adds before notices (IsFileNotice rs files) in
-      let Q : List Notice → Type 0 = λ ns. Adds ns notices (IsFileNotice (running refused rule_files) files) in
-      let added = subst Q f (subst P e adds) in
-      record { exact = λ n. (λ h. (added n).0 ((same n).0 h), λ h. (same n).1 ((added n).1 h)); ordered = up };
-}
+pub is_fresh : (refused : List (List ℕ)) (rule_files : List RuleFile) (most : ℕ) (files : List File) (s : Scanner) (listed : List Notice) → HasScanned refused rule_files most files s → (s.most < length s.results → ⊥)
+    → IsAscending notice_cmp listed → ((n : Notice) → Among listed n ↔ Among s.notices.items n) → IsFresh refused files rule_files (record { results = s.results; notices = listed })
+is_fresh refused rule_files most files s listed h few up same =
+    let all = whole refused rule_files most files s h few in
+    record {
+      results = all.findings;
+      notices = record { exact = λ n. (λ k. (all.noted n).0 ((same n).0 k), λ k. (same n).1 ((all.noted n).1 k)); ordered = up };
+    }

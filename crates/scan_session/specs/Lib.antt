@@ -13,3 +13,4 @@ pub mod HitOrder
 pub mod Judging
 pub mod Fresh
 pub mod Others
+pub mod Scans

@@ -10,8 +10,9 @@ mod row;
 mod rule_file;
 mod runner;
 mod running;
+mod scanner;
 mod scanning;
 
 pub use fault::ScanFault;
 pub use rule_file::{RuleContent, RuleFile, read_rule_file};
-pub use scanning::scan_files;
+pub use scanner::Scanner;

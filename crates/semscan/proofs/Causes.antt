@@ -1,25 +1,10 @@
 -- What the end of a scan says of the counts.
 use Rattle.std.proofs.Common.{◌≡◌, ℕ, subst}
-use Rattle.scan_world.specs.Faults.{Rose}
 use Rattle.semscan.specs.declared.status.Status.{Status}
 use Rattle.semscan.specs.declared.status.Status.TheVariants as statuses
-use Rattle.semscan.specs.Status.{IsAnswer, IsFinished, HasReadingCause, HasConfigCause, IsOfReport}
+use Rattle.semscan.specs.Status.{IsAnswer, IsFinished, HasReadingCause, HasConfigCause}
 
 module _ (f f' : ℕ) where
-  pub reading_kept : (s : Status) → HasReadingCause f f' s → IsAnswer s → f' ≡ f
-  reading_kept (statuses.OverLimit kind n) h a = h
-  reading_kept statuses.Memory h a = absurd a
-  reading_kept statuses.TreeFault h a = absurd a
-  reading_kept statuses.Done h a = absurd h
-  reading_kept statuses.Findings h a = absurd h
-  reading_kept statuses.Usage h a = absurd h
-  reading_kept statuses.InputFault h a = absurd h
-  reading_kept statuses.OutputFault h a = absurd h
-  reading_kept (statuses.TooMany n) h a = absurd h
-  reading_kept statuses.NoSuchPath h a = absurd h
-  reading_kept statuses.BadTarget h a = absurd h
-  reading_kept statuses.BadPattern h a = absurd h
-
   pub reading_unfinished : (s : Status) → HasReadingCause f f' s → IsFinished s → ⊥
   reading_unfinished (statuses.OverLimit kind n) h d = d
   reading_unfinished statuses.Memory h d = d
@@ -33,10 +18,6 @@ module _ (f f' : ℕ) where
   reading_unfinished statuses.NoSuchPath h d = d
   reading_unfinished statuses.BadTarget h d = d
   reading_unfinished statuses.BadPattern h d = d
-
-  -- what is said of the status that it is
-  pub reading_at : (s t : Status) → HasReadingCause f f' s → s ≡ t → HasReadingCause f f' t
-  reading_at s t h e = subst (λ (x : Status). HasReadingCause f f' x) e h
 
   module _ (a a' : ℕ) where
     pub config_kept : (s : Status) → HasConfigCause f f' a a' s → IsAnswer s → f' ≡ f
@@ -53,12 +34,6 @@ module _ (f f' : ℕ) where
     config_kept statuses.BadTarget h w = absurd h
     config_kept statuses.BadPattern h w = absurd h
 
+    -- what is said of the status that it is
     pub config_at : (s t : Status) → HasConfigCause f f' a a' s → s ≡ t → HasConfigCause f f' a a' t
     config_at s t h e = subst (λ (x : Status). HasConfigCause f f' a a' x) e h
-
-pub report_at : (s t : Status) → IsOfReport s → s ≡ t → IsOfReport t
-report_at s t h e = subst (λ (x : Status). IsOfReport x) e h
-
--- a count that stands before as it does at the start rose since then
-pub rose_since : (before start now : ℕ) → before ≡ start → Rose before now → Rose start now
-rose_since before start now e h = subst (λ (n : ℕ). Rose n now) e h

@@ -1,19 +1,23 @@
 -- Files that are taken and read, one after the other.
-use Rattle.std.proofs.Common.{◌≡◌, ◌⊎◌, ◌↔◌, inl, inr, Bool, true, false, Ok, Err, ℕ, ◌+◌, ◌<◌, ◌≤◌, List, [], ◌∷◌, ◌++◌, length, take, drop, get_or, refl, sym, ap, ◌∙◌, subst, append_assoc, arith}
-use Rattle.std.specs.Prelude.{Option, Some, None, Result, IsTrue, IfOk, IfErr}
+use Rattle.std.proofs.Common.{◌≡◌, ◌↔◌, inl, inr, Bool, true, false, Ok, Err, ℕ, ◌+◌, ◌<◌, ◌≤◌, List, [], ◌∷◌, ◌++◌, length, take, drop, get_or, length-append, refl, sym, ap, ◌∙◌, subst, append_assoc, arith}
+use Rattle.std.specs.Prelude.{Option, Some, None, Result, IsTrue, IfErr, OnOk}
 use Rattle.std.proofs.lemmas.Bool.{false≢true}
-use Rattle.std.proofs.lemmas.List.{append-nil, take_more, take-append-drop, length-take}
+use Rattle.std.proofs.lemmas.List.{append-nil, take_all, take_more, take-append-drop, length-take}
 use Rattle.std.specs.declared.cmp.Ordering.TheVariants.{Less}
 use Rattle.tree_match.specs.Ascending.{IsAscending}
 use Rattle.scan_world.specs.Files.{Files, file_at, path_cmp, PathsAscend}
 use Rattle.scan_world.specs.Trees.{KeepsFiles, LacksFile, HasFront, HasPaths, IsListing, HasTreeCause}
 use Rattle.scan_world.specs.declared.tree.TreeFault.{TreeFault}
 use Rattle.scan_world.specs.declared.tree.TreeFault.TheVariants.{Absent}
+use Rattle.scan_session.specs.declared.scanner.Scanner.{Scanner}
 use Rattle.scan_session.specs.Fresh.{file_cmp}
+use Rattle.scan_session.specs.Scans.{Scans}
+use Rattle.scan_session.proofs.Scans.{scans_then}
 use Rattle.semscan.specs.declared.status.Status.{Status}
 use Rattle.semscan.specs.Taking.{File, IsTaken, AreTaken, IsKept, AreRead, AreFiles, limit_end, IsOver, ReadingEnds, FilesEnd}
 use Rattle.semscan.specs.Status.{IsAnswer}
-use Rattle.semscan.proofs.Limits.{bytes_of, limit_after}
+use Rattle.semscan.specs.Scanned.{ScansRead, ScansFiles}
+use Rattle.semscan.proofs.Limits.{bytes_of, limit_after, count_more}
 use Rattle.semscan.specs.Config.{IsConfig}
 use Rattle.semscan.proofs.Paths.{Below, tail_ascends, first_below, ascends_on, one_list}
 
@@ -148,27 +152,14 @@ module _ (told now : Option Files) (kept : KeepsFiles told now) (paths : List Pa
     is_kept : IsKept told x bytes
     is_kept = record { few = few; front = front_before told now x 1000001 bytes kept (subst (λ (p : Path). HasFront now p 1000001 bytes) e front) }
 
-    pub step_read : (new : List File) (copy : Path) → copy ≡ x → new ≡ files ++ (copy, bytes) ∷ [] → AreRead told (take (i + 1) paths) new
-    step_read new copy same put =
-        let P : List File → Type 0 = λ l. AreRead told (take (i + 1) paths) l in
-        subst P (sym (put ∙ ap (λ (p : Path). files ++ (p, bytes) ∷ []) same)) (one_read told paths files i x x lt is so_far bytes is_kept)
+    pub step_read : AreRead told (take (i + 1) paths) (files ++ (asked, bytes) ∷ [])
+    step_read =
+        let P : Path → Type 0 = λ p. AreRead told (take (i + 1) paths) (files ++ (p, bytes) ∷ []) in
+        subst P (sym e) (one_read told paths files i x x lt is so_far bytes is_kept)
 
     pub step_over : (n total size : ℕ) (status : Status) → n ≡ length files → total ≡ bytes_of files → limit_end 0 0 files ≡ None → length bytes ≡ size → IsOver n total size status → ReadingEnds told paths status
     step_over n total size status en et h es over =
         reading_ends told paths files i x x lt is so_far bytes status is_kept (λ others. limit_after files ((x, bytes) ∷ others) n total en et h ∙ over x bytes es others)
-
--- the files that were read are those under the prefix
-module _ (told now : Option Files) (kept : KeepsFiles told now) (prefix : Path) (paths taken : List Path) (listed : IsListing prefix told paths) (are : AreTaken paths taken) where
-  all_files : (files : List File) → AreRead now taken files → AreFiles told prefix files
-  all_files files r = record { paths = paths; listed = listed; taken = taken; are_taken = are; are_read = read_before told now taken files kept r }
-
-  pub result_files : (r : Result (List File) Status) → IfOk r (AreRead now taken) → IfOk r (AreFiles told prefix)
-  result_files (Ok files) h = all_files files h
-  result_files (Err s) h = tt
-
-  pub result_ends : (r : Result (List File) Status) → IfErr r (λ s. IsAnswer s → ReadingEnds now taken s) → IfErr r (λ s. IsAnswer s → FilesEnd told prefix s)
-  result_ends (Ok files) h = tt
-  result_ends (Err s) h = λ a. let e = h a in (e.0, all_files e.0 e.1, e.2)
 
 -- ---- files in order of their paths
 
@@ -205,8 +196,71 @@ read_ascend told (p ∷ ps) fs up (inl (bytes, rest, e, kept, r)) =
     subst P (sym e) (file_first (p, bytes) rest (read_below told p ps rest (first_below p ps up) r) (read_ascend told ps rest (tail_ascends p ps up) r))
 read_ascend told (p ∷ ps) fs up (inr (lacks, r)) = read_ascend told ps fs (tail_ascends p ps up) r
 
-pub files_ascend : (told : Option Files) (prefix : Path) (files : List File) → AreFiles told prefix files → IsAscending file_cmp files
+files_ascend : (told : Option Files) (prefix : Path) (files : List File) → AreFiles told prefix files → IsAscending file_cmp files
 files_ascend told prefix files f = read_ascend told f.taken files (taken_ascend f.paths f.taken f.listed.ordered f.are_taken) f.are_read
+
+-- ---- files that were read, each scanned as it was
+
+-- the files at these paths, so many with so many bytes in all, were scanned
+pub record Far (told : Option Files) (paths : List Path) (count total : ℕ) (old new : Scanner) : Type 0 where
+  pub files : List File
+  pub are_read : AreRead told paths files
+  pub counted : count ≡ length files
+  pub few : count ≤ 10000
+  pub summed : total ≡ bytes_of files
+  pub small : total ≤ 33554432
+  pub within : limit_end 0 0 files ≡ None
+  pub scans : Scans files old new
+
+module _ (told now : Option Files) (kept : KeepsFiles told now) (paths : List Path) (count total : ℕ) (old mid : Scanner) (i : ℕ) (x asked : Path) (lt : i < length paths) (is : x ≡ get_or paths i x) (far : Far told (take i paths) count total old mid) (e : asked ≡ x) where
+  pub far_absent : LacksFile now asked → Far told (take (i + 1) paths) count total old mid
+  far_absent lacks = record {
+    files = far.files;
+    are_read = step_absent told now kept paths far.files i x asked lt is far.are_read e lacks;
+    counted = far.counted;
+    few = far.few;
+    summed = far.summed;
+    small = far.small;
+    within = far.within;
+    scans = far.scans;
+  }
+
+  module _ (bytes : List ℕ) (short : length bytes ≤ 1000001) (front : HasFront now asked 1000001 bytes) where
+    pub far_read : (size all : ℕ) (new : Scanner) → size ≡ length bytes → count + 1 ≤ 10000 → all ≤ 33554432 → all ≡ total + size → Scans ((asked, bytes) ∷ []) mid new → Far told (take (i + 1) paths) (count + 1) all old new
+    far_read size all new es few small ea scans =
+        let f : File = (asked, bytes) in
+        let c = count_more far.files f count total size all far.counted far.summed far.within es few small ea in
+        record {
+          files = far.files ++ f ∷ [];
+          are_read = step_read told now kept paths far.files i x asked lt is far.are_read e bytes short front;
+          counted = omega (arith, far.counted, length-append far.files (f ∷ []));
+          few = few;
+          summed = c.counted;
+          small = small;
+          within = c.within;
+          scans = scans_then far.files (f ∷ []) old mid new far.scans scans;
+        }
+
+    pub far_over : (size : ℕ) (status : Status) → length bytes ≡ size → IsOver count total size status → ReadingEnds told paths status
+    far_over size status es over = step_over told now kept paths far.files i x asked lt is far.are_read e bytes short front count total size status far.counted far.summed far.within es over
+
+pub far_all : (told : Option Files) (paths : List Path) (i count total : ℕ) (old new : Scanner) → length paths ≤ i → Far told (take i paths) count total old new → ScansRead told paths old new
+far_all told paths i count total old new end far =
+    let P : List Path → Type 0 = λ ps. AreRead told ps far.files in
+    record { files = far.files; are_read = subst P (take_all i paths end) far.are_read; within = far.within; scans = far.scans }
+
+-- the files that were read are those under the prefix
+module _ (told now : Option Files) (kept : KeepsFiles told now) (prefix : Path) (paths taken : List Path) (listed : IsListing prefix told paths) (are : AreTaken paths taken) where
+  all_files : (files : List File) → AreRead now taken files → AreFiles told prefix files
+  all_files files r = record { paths = paths; listed = listed; taken = taken; are_taken = are; are_read = read_before told now taken files kept r }
+
+  pub all_scanned : {A : Type 0} (r : Result A Status) (old new : Scanner) → OnOk r (ScansRead now taken old new) → OnOk r (ScansFiles told prefix old new)
+  all_scanned (Ok u) old new h = let are = all_files h.files h.are_read in record { files = h.files; are = are; ascend = files_ascend told prefix h.files are; within = h.within; scans = h.scans }
+  all_scanned (Err s) old new h = tt
+
+  pub all_end : {A : Type 0} (r : Result A Status) → IfErr r (λ s. IsAnswer s → ReadingEnds now taken s) → IfErr r (λ s. IsAnswer s → FilesEnd told prefix s)
+  all_end (Ok u) h = tt
+  all_end (Err s) h = λ a. let e = h a in (e.0, all_files e.0 e.1, e.2)
 
 -- ---- a tree that tells its files has one list of them under a prefix
 
@@ -249,10 +303,6 @@ config_once map path None None h k = refl
 config_once map path None (Some b) h k = absurd (front_or_lack map path 262145 b k.1 h)
 config_once map path (Some a) None h k = absurd (front_or_lack map path 262145 a h.1 k)
 config_once map path (Some a) (Some b) h k = ap (λ (l : List ℕ). Some l) (front_once map path 262145 a b h.1 k.1)
-
-pub result_ascends : (told : Option Files) (prefix : Path) (r : Result (List File) Status) → IfOk r (AreFiles told prefix) → IfOk r (IsAscending file_cmp)
-result_ascends told prefix (Ok files) h = files_ascend told prefix files h
-result_ascends told prefix (Err s) h = tt
 
 -- a file that is absent is no fault
 pub absent_kept : (f f' a a' : ℕ) (e : TreeFault) → e ≡ Absent → HasTreeCause {T = List ℕ} f f' a a' (Err e) → f' ≡ f

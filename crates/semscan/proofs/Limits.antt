@@ -1,5 +1,5 @@
 -- The limits on files that are read.
-use Rattle.std.proofs.Common.{◌≡◌, ℕ, ◌+◌, ◌<◌, ◌≤◌, Bool, true, false, List, [], ◌∷◌, ◌++◌, length, refl, sym, ap, ◌∙◌, subst, arith, add-zero, length-append}
+use Rattle.std.proofs.Common.{◌≡◌, ℕ, ◌+◌, ◌<◌, ◌≤◌, Bool, true, false, List, [], ◌∷◌, ◌++◌, length, refl, sym, ap, ◌∙◌, arith, add-zero}
 use Rattle.std.specs.Prelude.{Option, Some, None, nat_lt, if◌then◌else◌}
 use Rattle.std.proofs.lemmas.Bool.{cond-true, cond-false}
 use Rattle.std.proofs.lemmas.Bool.Decides.{nat_tests}
@@ -73,16 +73,12 @@ over_bytes n b size all few more is name kept e others =
     ∙ cond-true (nat_lt 33554432 (b + length kept)) (Some (large b (name, kept))) (limit_end (n + 1) (b + length kept) others) y ∙ ap (λ (m : ℕ). Some (OverLimit kinds.FileBytes m)) same
 
 -- with one file more
-pub record Counted (new : List File) (total : ℕ) : Type 0 where
-  pub within : limit_end 0 0 new ≡ None
-  pub few : length new ≤ 10000
-  pub counted : total ≡ bytes_of new
+pub record Counted (files : List File) (total : ℕ) : Type 0 where
+  pub within : limit_end 0 0 files ≡ None
+  pub counted : total ≡ bytes_of files
 
-pub count_more : (files new : List File) (f : File) (n total size all : ℕ) → n ≡ length files → total ≡ bytes_of files → limit_end 0 0 files ≡ None → size ≡ length f.1 → n + 1 ≤ 10000 → all ≤ 33554432 → all ≡ total + size → new ≡ files ++ f ∷ [] → Counted new all
-count_more files new f n total size all en et h es few small ea is =
-    let P : List File → Type 0 = λ l. Counted l all in
-    subst P (sym is) (record {
-      within = limit_after files (f ∷ []) n total en et h ∙ within_limits n total f few (omega arith);
-      few = omega (arith, length-append files (f ∷ []));
-      counted = omega (arith, bytes_more files f);
-    })
+pub count_more : (files : List File) (f : File) (n total size all : ℕ) → n ≡ length files → total ≡ bytes_of files → limit_end 0 0 files ≡ None → size ≡ length f.1 → n + 1 ≤ 10000 → all ≤ 33554432 → all ≡ total + size → Counted (files ++ f ∷ []) all
+count_more files f n total size all en et h es few small ea = record {
+  within = limit_after files (f ∷ []) n total en et h ∙ within_limits n total f few (omega arith);
+  counted = omega (arith, bytes_more files f);
+}

@@ -9,17 +9,17 @@ use Rattle.scan_world.specs.Streams.{AppendsFront}
 use Rattle.fix_apply.specs.declared.report.Report.{Report}
 use Rattle.fix_apply.specs.declared.report.Reported.{Reported}
 use Rattle.scan_session.specs.declared.rule_file.RuleFile.{RuleFile}
-use Rattle.scan_session.specs.Sets.{HasMore}
-use Rattle.scan_session.specs.Reports.{reported_cmp}
-use Rattle.scan_session.specs.Running.{running}
-use Rattle.scan_session.specs.Fresh.{IsResult, IsFresh}
+use Rattle.scan_session.specs.declared.scanner.Scanner.{Scanner}
+use Rattle.scan_session.specs.Fresh.{IsFresh}
+use Rattle.scan_session.specs.Scans.{HasScanned}
 use Rattle.scan_session.proofs.Laws.{exclusive}
 use Rattle.wire_words.specs.Commands.{Task}
 use Rattle.semscan.specs.declared.status.Status.{Status}
 use Rattle.semscan.specs.declared.status.Status.TheVariants.{Done, Findings, TooMany}
 use Rattle.semscan.specs.Status.{IsFinished, IsOfReport}
-use Rattle.semscan.specs.Ways.{Ways, Printed, PrintedFront, IsOnlyEnd}
+use Rattle.semscan.specs.Ways.{Printed, PrintedFront, IsOnlyEnd}
 use Rattle.semscan.specs.Taking.{File, AreFiles, limit_end, FilesEnd}
+use Rattle.semscan.specs.Scanned.{ScansFiles}
 use Rattle.semscan.specs.Config.{IsConfig, IsRules, ConfigEnds, IsOneFile, HasRules, HasConfigEnd}
 use Rattle.semscan.specs.Scan.{report_line, status_of, HasMoreFindings, ReportEnds, too_many, reported, ScanEnds, over_limit, searched, Scans, no_rules, with_rules, IsOneReport}
 use Rattle.semscan.proofs.Streaming.{nothing_written}
@@ -78,19 +78,15 @@ module _ (flag : Bool) (most : ℕ) (refused : List (List ℕ)) (files : List Fi
           printed = subst Q (sym (append-nil (report_line report))) put;
         }
 
--- ---- by the rule files that were handed over, which are one
+-- ---- by the scan of the files
 
-module _ (refused : List (List ℕ)) (files : List File) (rules : RuleFile) (all : List RuleFile) (is : all ≡ rules ∷ []) where
-  pub fresh_of_one : (report : Report) → IsFresh refused files all report → IsFresh refused files (rules ∷ []) report
-  fresh_of_one report h = subst (λ (l : List RuleFile). IsFresh refused files l report) is h
+-- the scan has looked at the files, by the rule file that is the only one
+pub has_scanned : (refused : List (List ℕ)) (rules : RuleFile) (all : List RuleFile) (most : ℕ) (told : Option Files) (prefix : List ℕ) (old new : Scanner) (h : ScansFiles told prefix old new) → all ≡ rules ∷ [] → HasScanned refused all most [] old → HasScanned refused (rules ∷ []) most h.files new
+has_scanned refused rules all most told prefix old new h e begun = let P : List RuleFile → Type 0 = λ l. HasScanned refused l most [] old in h.scans refused (rules ∷ []) most [] h.ascend (subst P e begun)
 
-  pub more_of_one : (most : ℕ) → HasMore reported_cmp (IsResult (running refused all) files) most → HasMoreFindings refused files rules most
-  more_of_one most h = subst (λ (l : List RuleFile). HasMore reported_cmp (IsResult (running refused l) files) most) is h
-
-  pub one_report : (report : Report) → ((r : Report) → IsFresh refused files all r → r ≡ report) → IsOneReport refused files rules
-  one_report report only a b x y =
-      let P : List RuleFile → Report → Type 0 = λ l r. IsFresh refused files l r in
-      only a (subst (λ (l : List RuleFile). P l a) (sym is) x) ∙ sym (only b (subst (λ (l : List RuleFile). P l b) (sym is) y))
+-- two reports are one where each is this one
+pub one_report : (refused : List (List ℕ)) (files : List File) (rules : RuleFile) (report : Report) → ((r : Report) → IsFresh refused files (rules ∷ []) r → r ≡ report) → IsOneReport refused files rules
+one_report refused files rules report only a b x y = only a x ∙ sym (only b y)
 
 -- how a scan ends whose report was printed is no fault
 pub of_report : (flag : Bool) (results : List Reported) (s : Status) → s ≡ status_of flag results → IsOfReport s

@@ -12,7 +12,7 @@ use crate::input::{InputError, MOST, read_input};
 use crate::output::{OutputError, print_all};
 use crate::status::{LimitKind, Status};
 use judge_file::{Opened, open_file};
-use node_tree::{FileView, Lang, Pattern, Steps};
+use node_tree::{Bytes, FileView, Lang, Pattern, Steps};
 use pattern_read::{PatternFault, read_pattern};
 use scan_world::{Sink, Source};
 use std::alloc::Global;
@@ -84,7 +84,7 @@ pub fn run_match<S: Source, K: Sink, L: Ledger>(
     if bytes.len() == MOST {
         return Status::OverLimit(LimitKind::Target, MOST as u64);
     }
-    let Ok(opened) = open_file(alloc, lang, bytes.as_slice(), steps) else {
+    let Ok(opened) = open_file(alloc, lang, Bytes::from_vec(bytes), steps) else {
         return Status::Memory;
     };
     let Opened::Read(file) = opened else {

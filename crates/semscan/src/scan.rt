@@ -3,21 +3,20 @@
 ghost use Rattle.std.specs.Prelude.{◌≡◌, [], ◌∷◌, IfOk, IsSome};
 ghost use Rattle.scan_world.specs.Faults.{Rose};
 ghost use Rattle.scan_world.specs.Trees.{KeepsFiles};
-ghost use Rattle.tree_match.specs.Ascending.{IsAscending};
 ghost use Rattle.wire_words.specs.Commands.{task_of};
-ghost use Rattle.scan_session.specs.Fresh.{file_cmp};
 ghost use Rattle.scan_session.specs.Refused.{Gains, gained};
 ghost use Rattle.semscan.specs.Status.{IsAnswer, IsFinished, IsOfReport};
 ghost use Rattle.semscan.specs.Ways.{Printed, PrintedFront, IsOnlyEnd};
 ghost use Rattle.semscan.specs.Scan.{status_of, ReportEnds, IsOneReport, Scans};
+ghost use Rattle.semscan.specs.Scanned.{AfterScanBy};
 
 use crate::config::read_config;
 use crate::status::Status;
-use crate::taking::read_files;
+use crate::taking::scan_files;
 use finding_json::{Report, report_text};
-use node_tree::{Bytes, List, Memory, Steps, Text};
+use node_tree::{List, Memory, Steps};
 use rx_text::Patterns;
-use scan_session::{RuleFile, ScanFault, scan_files};
+use scan_session::{RuleFile, ScanFault, Scanner};
 use scan_world::{Sink, Tree};
 use std::alloc::Global;
 use std::sync::ledger::Ledger;
@@ -43,39 +42,26 @@ fn one_file(alloc: Global, rules: RuleFile) -> Result<List<RuleFile>, Memory>
     Ok(all)
 }
 
-// Prints the report of a scan of these files, in one write.
-fn print_report<K: Sink, P: Patterns, L: Ledger>(
-    alloc: Global,
-    job: &Job<'_>,
-    files: &List<(Text, Bytes)>,
-    rules: RuleFile,
-    out: &mut K,
-    patterns: &mut P,
-    steps: &mut Steps<L>,
-) -> Status
-    requires { IsAscending file_cmp files.now }
-    ensures ends { IsAnswer result → Printed (ReportEnds job.now.flag job.now.most (gained (P.refusals patterns.old) (P.refusals patterns.new)) files.now rules) (K.written out.old) (K.written out.new) result }
-    ensures one_report { IsFinished result → IsOneReport (gained (P.refusals patterns.old) (P.refusals patterns.new)) files.now rules }
+// Prints the report of a scan, in one write.
+fn print_report<K: Sink>(alloc: Global, flag: bool, scanner: Scanner<'_>, out: &mut K) -> Status
+    ensures ends { IsAnswer result → AfterScanBy scanner.entry (λ refused rules most files. Printed (ReportEnds flag most refused files rules) (K.written out.old) (K.written out.new) result) }
+    ensures one_report { IsFinished result → AfterScanBy scanner.entry (λ refused rules most files. IsOneReport refused files rules) }
     ensures cause { IsOfReport result }
     ensures unwritten { result ≡ Status.Memory → K.written out.new ≡ K.written out.old }
     ensures output_kept { IsAnswer result → K.faults out.new ≡ K.faults out.old }
     ensures output_fault { result ≡ Status.OutputFault → Rose (K.faults out.old) (K.faults out.new) }
-    ensures front_written { result ≡ Status.OutputFault → PrintedFront (ReportEnds job.now.flag job.now.most (gained (P.refusals patterns.old) (P.refusals patterns.new)) files.now rules) (K.written out.old) (K.written out.new) }
-    ensures patterns_grow { Gains (P.refusals patterns.old) (P.refusals patterns.new) }
+    ensures front_written { result ≡ Status.OutputFault → AfterScanBy scanner.entry (λ refused rules most files. PrintedFront (ReportEnds flag most refused files rules) (K.written out.old) (K.written out.new)) }
 {
-    let Ok(all) = one_file(alloc, rules) else {
-        return Status::Memory;
-    };
-    let report = match scan_files(alloc, files, &all, job.most, patterns, steps) {
+    let report = match scanner.report(alloc) {
         Ok(report) => report,
         Err(ScanFault::Memory) => return Status::Memory,
-        Err(ScanFault::TooMany(_)) => return Status::TooMany(job.most),
+        Err(ScanFault::TooMany(most)) => return Status::TooMany(most),
     };
     let Ok(line) = report_text(alloc, &report) else {
         return Status::Memory;
     };
     match out.write(line.as_slice()) {
-        Ok(()) => end_of(job.flag, &report),
+        Ok(()) => end_of(flag, &report),
         Err(_) => Status::OutputFault,
     }
 }
@@ -108,9 +94,14 @@ pub fn run_scan<T: Tree, K: Sink, P: Patterns, L: Ledger>(
         Ok(rules) => rules,
         Err(status) => return status,
     };
-    let files = match read_files(alloc, tree, job.prefix) {
-        Ok(files) => files,
-        Err(status) => return status,
+    let Ok(all) = one_file(alloc, rules) else {
+        return Status::Memory;
     };
-    print_report(alloc, job, &files, rules, out, patterns, steps)
+    let Ok(mut scanner) = Scanner::of(alloc, &all, job.most, patterns) else {
+        return Status::Memory;
+    };
+    match scan_files(alloc, tree, job.prefix, &mut scanner, steps) {
+        Ok(()) => print_report(alloc, job.flag, scanner, out),
+        Err(status) => status,
+    }
 }

@@ -1,17 +1,18 @@
-//! Which files are scanned, and reading them.
+//! Which files are scanned, and scanning them as they are read.
 
-ghost use Rattle.std.specs.Prelude.{◌≡◌, ◌↔◌, ◌+◌, ◌≤◌, ◌<◌, length, IsTrue, IfOk, IfErr, OnOk, None};
-ghost use Rattle.tree_match.specs.Ascending.{IsAscending};
-ghost use Rattle.scan_session.specs.Fresh.{file_cmp};
-ghost use Rattle.scan_world.specs.Trees.{KeepsFiles, IsListing};
+ghost use Rattle.std.specs.Prelude.{◌≡◌, ◌↔◌, ◌+◌, ◌≤◌, ◌<◌, IsTrue, IfOk, IfErr, OnOk};
+ghost use Rattle.scan_world.specs.Trees.{KeepsFiles};
 ghost use Rattle.semscan.specs.Status.{IsAnswer, IsOfLimit, HasReadingCause};
-ghost use Rattle.semscan.specs.Taking.{IsTaken, AreTaken, AreRead, AreFiles, limit_end, IsOver, ReadingEnds, FilesEnd};
+ghost use Rattle.semscan.specs.Taking.{IsTaken, AreTaken, IsOver, ReadingEnds, FilesEnd};
+ghost use Rattle.semscan.specs.Scanned.{ScansRead, ScansFiles};
 
 use crate::status::{LimitKind, Status};
-use node_tree::{Bytes, List, Memory, Text, Twin};
+use node_tree::{List, Memory, Steps, Text, Twin};
 use path_glob::{has_hidden, lang_of, path_ok};
+use scan_session::Scanner;
 use scan_world::{Tree, TreeFault};
 use std::alloc::Global;
+use std::sync::ledger::Ledger;
 
 // The most files of a scan.
 const MOST_FILES: usize = 10_000;
@@ -61,44 +62,46 @@ fn count_file(files: usize, total: usize, bytes: usize) -> Result<usize, Status>
     Ok(all)
 }
 
-// Reads the files at these paths, one after the other.
-fn read_all<T: Tree>(
+// Scans the files at these paths, each as it is read.
+fn scan_all<T: Tree, L: Ledger>(
     alloc: Global,
     tree: &mut T,
     paths: &List<Text>,
-) -> Result<List<(Text, Bytes)>, Status>
-    ensures read { IfOk result (AreRead (T.files tree.old) paths.now) }
-    ensures within { IfOk result (λ files. limit_end 0 0 files ≡ None) }
+    scanner: &mut Scanner<'_>,
+    steps: &mut Steps<L>,
+) -> Result<(), Status>
+    ensures scanned { OnOk result (ScansRead (T.files tree.old) paths.now scanner.old scanner.new) }
     ensures ended { IfErr result (λ status. IsAnswer status → ReadingEnds (T.files tree.old) paths.now status) }
     ensures kept { KeepsFiles (T.files tree.old) (T.files tree.new) }
     ensures unfailed { OnOk result (T.faults tree.new ≡ T.faults tree.old) }
     ensures cause { IfErr result (HasReadingCause (T.faults tree.old) (T.faults tree.new)) }
 {
-    let mut files = List::new(alloc);
-    let mut total = 0;
+    let (mut files, mut total) = (0, 0);
     for path in paths.as_slice() {
-        let bytes = match tree.read(path.as_str(), MOST) {
+        let name = path.as_str();
+        let bytes = match tree.read(name, MOST) {
             Ok(bytes) => bytes,
             Err(TreeFault::Absent) => continue,
             Err(TreeFault::Memory) => return Err(Status::Memory),
             Err(TreeFault::Failed) => return Err(Status::TreeFault),
         };
-        total = count_file(files.len(), total, bytes.len())?;
-        files.push((path.copy()?, bytes))?;
+        total = count_file(files, total, bytes.len())?;
+        files += 1;
+        scanner.scan(alloc, name, bytes, steps)?;
     }
-    Ok(files)
+    Ok(())
 }
 
-/// The files under the prefix that are scanned, in order of path, each with at most its first 1,000,001 bytes. It ends with
-/// OverLimit at the first file with which there are more than 10,000 files or 33,554,432 bytes.
-pub fn read_files<T: Tree>(
+/// Scans the files under the prefix that are taken, in order of path, each with at most its first 1,000,001 bytes. No file is
+/// kept. It ends with OverLimit at the first file with which there are more than 10,000 files or 33,554,432 bytes.
+pub fn scan_files<T: Tree, L: Ledger>(
     alloc: Global,
     tree: &mut T,
     prefix: &str,
-) -> Result<List<(Text, Bytes)>, Status>
-    ensures files { IfOk result (AreFiles (T.files tree.old) prefix.now) }
-    ensures ascend { IfOk result (IsAscending file_cmp) }
-    ensures within { IfOk result (λ files. limit_end 0 0 files ≡ None) }
+    scanner: &mut Scanner<'_>,
+    steps: &mut Steps<L>,
+) -> Result<(), Status>
+    ensures scanned { OnOk result (ScansFiles (T.files tree.old) prefix.now scanner.old scanner.new) }
     ensures ended { IfErr result (λ status. IsAnswer status → FilesEnd (T.files tree.old) prefix.now status) }
     ensures kept { KeepsFiles (T.files tree.old) (T.files tree.new) }
     ensures unfailed { OnOk result (T.faults tree.new ≡ T.faults tree.old) }
@@ -110,5 +113,5 @@ pub fn read_files<T: Tree>(
         Err(_) => return Err(Status::Memory),
     };
     let taken = taken_paths(alloc, &paths)?;
-    read_all(alloc, tree, &taken)
+    scan_all(alloc, tree, &taken, scanner, steps)
 }

@@ -13,9 +13,9 @@ use Rattle.scan_session.proofs.Scans.{opened_as, only_as, no_results, own_notice
 use Rattle.scan_session.proofs.scanning.scan_file.Goals as goal
 
 pub returns-in_ok-add_notice-in-TooLarge-clause-results : goal.returns-in_ok-add_notice-in-TooLarge-clause-results
-returns-in_ok-add_notice-in-TooLarge-clause-results g c =
+returns-in_ok-add_notice-in-TooLarge-clause-results g c apart =
     let path = c.args.path.now in
-    let bytes = c.args.bytes.now in
+    let bytes = c.args.bytes in
     let e : c.unwrap_or-lang.result ≡ lang_at path = c.unwrap_or-lang.ensures ∙ ap (λ (o : Option Lang). unwrap_or o Regex) c.lang_of.ensures in
     let is = opened_as path bytes _ _ opened.TooLarge e c.in-TooLarge.is c.in_ok-opened.ensures.opened in
     let only = only_as path bytes _ _ opened.TooLarge e c.in-TooLarge.is c.in_ok-opened.ensures.only in
@@ -24,16 +24,16 @@ returns-in_ok-add_notice-in-TooLarge-clause-results g c =
 pub returns-in_ok-add_notice-in-TooLarge-clause-notices : goal.returns-in_ok-add_notice-in-TooLarge-clause-notices
 returns-in_ok-add_notice-in-TooLarge-clause-notices g c =
     let path = c.args.path.now in
-    let bytes = c.args.bytes.now in
+    let bytes = c.args.bytes in
     let e : c.unwrap_or-lang.result ≡ lang_at path = c.unwrap_or-lang.ensures ∙ ap (λ (o : Option Lang). unwrap_or o Regex) c.lang_of.ensures in
     let is = opened_as path bytes _ _ opened.TooLarge e c.in-TooLarge.is c.in_ok-opened.ensures.opened in
     let only = only_as path bytes _ _ opened.TooLarge e c.in-TooLarge.is c.in_ok-opened.ensures.only in
     own_notices c.args.running.now path bytes opened.TooLarge is only (λ l t s. s) c.args.notices.now.items c.add_notice.new.notices.items c.in_ok-add_notice-in-TooLarge.ensures
 
 pub returns-in_ok-add_notice-in-NotUtf8-clause-results : goal.returns-in_ok-add_notice-in-NotUtf8-clause-results
-returns-in_ok-add_notice-in-NotUtf8-clause-results g c =
+returns-in_ok-add_notice-in-NotUtf8-clause-results g c apart =
     let path = c.args.path.now in
-    let bytes = c.args.bytes.now in
+    let bytes = c.args.bytes in
     let e : c.unwrap_or-lang.result ≡ lang_at path = c.unwrap_or-lang.ensures ∙ ap (λ (o : Option Lang). unwrap_or o Regex) c.lang_of.ensures in
     let is = opened_as path bytes _ _ opened.NotUtf8 e c.in-NotUtf8.is c.in_ok-opened.ensures.opened in
     let only = only_as path bytes _ _ opened.NotUtf8 e c.in-NotUtf8.is c.in_ok-opened.ensures.only in
@@ -42,28 +42,28 @@ returns-in_ok-add_notice-in-NotUtf8-clause-results g c =
 pub returns-in_ok-add_notice-in-NotUtf8-clause-notices : goal.returns-in_ok-add_notice-in-NotUtf8-clause-notices
 returns-in_ok-add_notice-in-NotUtf8-clause-notices g c =
     let path = c.args.path.now in
-    let bytes = c.args.bytes.now in
+    let bytes = c.args.bytes in
     let e : c.unwrap_or-lang.result ≡ lang_at path = c.unwrap_or-lang.ensures ∙ ap (λ (o : Option Lang). unwrap_or o Regex) c.lang_of.ensures in
     let is = opened_as path bytes _ _ opened.NotUtf8 e c.in-NotUtf8.is c.in_ok-opened.ensures.opened in
     let only = only_as path bytes _ _ opened.NotUtf8 e c.in-NotUtf8.is c.in_ok-opened.ensures.only in
     own_notices c.args.running.now path bytes opened.NotUtf8 is only (λ l t s. s) c.args.notices.now.items c.add_notice-in-NotUtf8.new.notices.items c.in_ok-add_notice-in-NotUtf8.ensures
 
 pub returns-in_ok-add_notice-in-NoTree-clause-results : goal.returns-in_ok-add_notice-in-NoTree-clause-results
-returns-in_ok-add_notice-in-NoTree-clause-results g c =
+returns-in_ok-add_notice-in-NoTree-clause-results g c apart =
     let path = c.args.path.now in
-    let bytes = c.args.bytes.now in
+    let bytes = c.args.bytes in
     let rules = c.args.running.now in
     let v = c.in-NoTree.view in
     let e : c.unwrap_or-lang.result ≡ lang_at path = c.unwrap_or-lang.ensures ∙ ap (λ (o : Option Lang). unwrap_or o Regex) c.lang_of.ensures in
     let is = opened_as path bytes _ _ (opened.NoTree v) e c.in-NoTree.is c.in_ok-opened.ensures.opened in
     let only = only_as path bytes _ _ (opened.NoTree v) e c.in-NoTree.is c.in_ok-opened.ensures.only in
     if_reported (IsExactly reported_cmp (IsFoundIn rules path v.lang v.bytes v.tree)) (IsExactly reported_cmp (IsResultIn rules (path, bytes))) c.scan_view.result
-    (λ rs h. seen_results rules path bytes (opened.NoTree v) is only v.lang v.bytes v.tree (refl, refl) (λ l t s. s) is.2.bytes_are rs h) c.scan_view.ensures.results
+    (λ rs h. seen_results rules path bytes (opened.NoTree v) is only v.lang v.bytes v.tree (refl, refl) (λ l t s. s) is.2.bytes_are rs h) (c.scan_view.ensures.results apart)
 
 pub returns-in_ok-add_notice-in-NoTree-clause-notices : goal.returns-in_ok-add_notice-in-NoTree-clause-notices
 returns-in_ok-add_notice-in-NoTree-clause-notices g c =
     let path = c.args.path.now in
-    let bytes = c.args.bytes.now in
+    let bytes = c.args.bytes in
     let rules = c.args.running.now in
     let v = c.in-NoTree.view in
     let e : c.unwrap_or-lang.result ≡ lang_at path = c.unwrap_or-lang.ensures ∙ ap (λ (o : Option Lang). unwrap_or o Regex) c.lang_of.ensures in
@@ -75,21 +75,21 @@ returns-in_ok-add_notice-in-NoTree-clause-notices g c =
     on_ok_map c.scan_view.result (λ h. seen_notices rules path bytes (opened.NoTree v) is only v.lang v.bytes v.tree (refl, refl) (λ l t s. s) is.2.bytes_are old mid new c.in_ok-add_notice-in-NoTree.ensures h) c.scan_view.ensures.notices
 
 pub returns-in-Read-clause-results : goal.returns-in-Read-clause-results
-returns-in-Read-clause-results g c =
+returns-in-Read-clause-results g c apart =
     let path = c.args.path.now in
-    let bytes = c.args.bytes.now in
+    let bytes = c.args.bytes in
     let rules = c.args.running.now in
     let v = c.in-Read.view in
     let e : c.unwrap_or-lang.result ≡ lang_at path = c.unwrap_or-lang.ensures ∙ ap (λ (o : Option Lang). unwrap_or o Regex) c.lang_of.ensures in
     let is = opened_as path bytes _ _ (opened.Read v) e c.in-Read.is c.in_ok-opened.ensures.opened in
     let only = only_as path bytes _ _ (opened.Read v) e c.in-Read.is c.in_ok-opened.ensures.only in
     if_reported (IsExactly reported_cmp (IsFoundIn rules path v.lang v.bytes v.tree)) (IsExactly reported_cmp (IsResultIn rules (path, bytes))) c.scan_view-in-Read.result
-    (λ rs h. seen_results rules path bytes (opened.Read v) is only v.lang v.bytes v.tree (refl, refl) (λ l t s. s) is.2.bytes_are rs h) c.scan_view-in-Read.ensures.results
+    (λ rs h. seen_results rules path bytes (opened.Read v) is only v.lang v.bytes v.tree (refl, refl) (λ l t s. s) is.2.bytes_are rs h) (c.scan_view-in-Read.ensures.results apart)
 
 pub returns-in-Read-clause-notices : goal.returns-in-Read-clause-notices
 returns-in-Read-clause-notices g c =
     let path = c.args.path.now in
-    let bytes = c.args.bytes.now in
+    let bytes = c.args.bytes in
     let rules = c.args.running.now in
     let v = c.in-Read.view in
     let e : c.unwrap_or-lang.result ≡ lang_at path = c.unwrap_or-lang.ensures ∙ ap (λ (o : Option Lang). unwrap_or o Regex) c.lang_of.ensures in

@@ -42,7 +42,7 @@ report_rows-requires-clause-placed g c =
     hits_placed path v.lang v.bytes v.tree rules found all c.as_slice.result.now whole (subst P (sym c.as_slice-found.ensures.value) c.in_ok-judged.ensures.placed)
 
 pub returns-clause-results : goal.returns-clause-results
-returns-clause-results g c =
+returns-clause-results g c apart =
     let v = c.args.view.now in
     let path = c.args.path.now in
     let rules = c.args.running.now in
@@ -52,7 +52,7 @@ returns-clause-results g c =
     let whole = shown_all rules found c.in_ok-unsorted.unsorted.items c.in_ok-rows.rows.items shown c.as_slice.ensures.value c.in_ok-rows.ensures.same c.in_ok-unsorted.ensures in
     let P : List Hit → Type 0 = IsAscending hit_cmp in
     let up = subst P (sym c.as_slice.ensures.value) c.in_ok-rows.ensures.ordered in
-    if_reported (AreReported path v.bytes rules shown) (IsExactly reported_cmp (IsFoundIn rules path v.lang v.bytes v.tree)) c.report_rows.result (λ rs are. results_exactly path v.lang v.bytes v.tree rules found all shown whole c.requires rs are up) c.report_rows.ensures
+    if_reported (AreReported path v.bytes rules shown) (IsExactly reported_cmp (IsFoundIn rules path v.lang v.bytes v.tree)) c.report_rows.result (λ rs are. results_exactly path v.lang v.bytes v.tree rules found all shown whole apart rs are up) c.report_rows.ensures
 
 pub returns-clause-notices : goal.returns-clause-notices
 returns-clause-notices g c =

@@ -1,5 +1,5 @@
 use Rattle.std.proofs.Common.{◌≡◌, ◌++◌, length, reverse}
-use Rattle.scan_session.proofs.scanning.append.Given as goal
+use Rattle.scan_session.proofs.scanner.append.Given as goal
 
 abbrev pub decreases-loop-result : goal.decreases-loop-result
 decreases-loop-result l = length l.more

@@ -1,0 +1,27 @@
+use Rattle.std.proofs.Common.{◌++◌, List, inl, refl, ap, ◌∙◌}
+use Rattle.fix_apply.specs.declared.notice.Notice.{Notice}
+use Rattle.scan_session.specs.Refused.{gained}
+use Rattle.scan_session.specs.Running.{stated, texts_of, running, rule_notices}
+use Rattle.scan_session.proofs.Asking.{gains, gained_of}
+use Rattle.scan_session.proofs.Scans.{none_yet}
+use Rattle.scan_session.proofs.scanner.Scanner.of.Goals as goal
+
+pub returns-in_err-running-clause-grows : goal.returns-in_err-running-clause-grows
+returns-in_err-running-clause-grows g c = gains (texts_of (stated c.args.rules.now)) (g.P.Patterns.refusals c.args.patterns.now) (g.P.Patterns.refusals c.take_files.new.patterns) c.take_files.ensures.grows
+
+pub returns-in_err-running-clause-asked : goal.returns-in_err-running-clause-asked
+returns-in_err-running-clause-asked g c = gained_of (texts_of (stated c.args.rules.now)) (g.P.Patterns.refusals c.args.patterns.now) (g.P.Patterns.refusals c.take_files.new.patterns) c.take_files.ensures.grows
+
+pub returns-clause-grows : goal.returns-clause-grows
+returns-clause-grows g c = gains (texts_of (stated c.args.rules.now)) (g.P.Patterns.refusals c.args.patterns.now) (g.P.Patterns.refusals c.take_files.new.patterns) c.take_files.ensures.grows
+
+pub returns-clause-asked : goal.returns-clause-asked
+returns-clause-asked g c = gained_of (texts_of (stated c.args.rules.now)) (g.P.Patterns.refusals c.args.patterns.now) (g.P.Patterns.refusals c.take_files.new.patterns) c.take_files.ensures.grows
+
+pub returns-clause-begun : goal.returns-clause-begun
+returns-clause-begun g c =
+    let refused = gained (g.P.Patterns.refusals c.args.patterns.now) (g.P.Patterns.refusals c.take_files.new.patterns) in
+    let rules = running refused c.args.rules.now in
+    let before = rule_notices refused c.args.rules.now in
+    let noted = c.in_ok-running.ensures.notices ∙ ap (λ (ns : List Notice). ns ++ before) c.new-notices.ensures.items in
+    record { limit = refl; rules = c.in_ok-running.ensures.rules; found = inl (none_yet rules before c.args.most c.new.result c.take_files.new.notices.items c.new.ensures noted) }

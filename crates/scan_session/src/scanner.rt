@@ -1,0 +1,120 @@
+//! Scans of files that come one after the other.
+
+ghost use Rattle.std.specs.Prelude.{◌≡◌, ◌≤◌, ◌++◌, ◌∷◌, ◌<◌, ◌↔◌, [], ℕ, length, Err, IsTrue, IfOk, OnOk};
+ghost use Rattle.fix_apply.specs.declared.report.Report.{Report as a_report};
+ghost use Rattle.scan_session.specs.declared.fault.ScanFault.TheVariants.{TooMany};
+ghost use Rattle.scan_session.specs.Sets.{HasMore};
+ghost use Rattle.scan_session.specs.Reports.{reported_cmp};
+ghost use Rattle.scan_session.specs.Refused.{gained, Gains};
+ghost use Rattle.scan_session.specs.Running.{running as rules_of, AreTextsOf};
+ghost use Rattle.scan_session.specs.Fresh.{IsFresh, IsResult};
+ghost use Rattle.scan_session.specs.Others.{KeepsOtherFiles, KeepsOtherRules};
+ghost use Rattle.scan_session.specs.Scans.{HasScanned, Scans, AfterScan};
+
+use crate::fault::ScanFault;
+use crate::note::{Noted, in_order};
+use crate::rule_file::RuleFile;
+use crate::runner::Runner;
+use crate::running::take_files;
+use crate::scanning::scan_file;
+use fix_apply::{Report, Reported};
+use node_tree::{Bytes, List, Memory, Steps};
+use rx_text::Patterns;
+use std::alloc::Global;
+use std::sync::ledger::Ledger;
+
+// Adds the items at the end.
+fn append(results: &mut List<Reported>, mut more: List<Reported>) -> Result<(), Memory>
+    ensures { OnOk result (results.new ≡ results.old ++ more) }
+{
+    more.reverse();
+    while let Some(result) = more.pop() {
+        results.push(result)?;
+    }
+    Ok(())
+}
+
+/// A scan of files that come one after the other. It keeps what is to be said of them and not the files.
+#[derive(Drop)]
+pub struct Scanner<'r> {
+    running: Vec<Runner<'r>>,
+    most: u64,
+    results: List<Reported>,
+    notices: Vec<Noted>,
+}
+
+impl<'r> Scanner<'r> {
+    /// A scan by the rules of the rule files, which reports at most so many findings and has no file so far. A rule whose id an
+    /// earlier one has does not run; nor does one with a text that is refused; nor, so far, one that follows data.
+    ///
+    /// Each text of a good rule is given to `build` once, in order of rule file, entry and place. The refused ones are those
+    /// that the builder's list gained in this call, whatever it answers.
+    pub fn of<P: Patterns>(
+        alloc: Global,
+        rules: &'r List<RuleFile>,
+        most: u64,
+        patterns: &mut P,
+    ) -> Result<Scanner<'r>, Memory>
+        ensures grows { Gains (P.refusals patterns.old) (P.refusals patterns.new) }
+        ensures asked { AreTextsOf rules.now (gained (P.refusals patterns.old) (P.refusals patterns.new)) }
+        ensures begun { IfOk result (HasScanned (gained (P.refusals patterns.old) (P.refusals patterns.new)) rules.now most []) }
+    {
+        let mut notices = Vec::new(alloc);
+        let running = take_files(alloc, rules, patterns, &mut notices)?;
+        Ok(Scanner {
+            running,
+            most,
+            results: List::new(alloc),
+            notices,
+        })
+    }
+
+    // Whether there are more findings than are reported.
+    fn is_over(&self) -> bool
+        ensures { IsTrue result ↔ self.now.most < length self.now.results }
+    {
+        self.most < self.results.len() as u64
+    }
+
+    /// Scans the file at a path that comes after those of all files so far. It is opened in the language that the path's ending
+    /// names, or else in `Regex`. It is passed over where the files so far have too many findings already.
+    pub fn scan<L: Ledger>(
+        &mut self,
+        alloc: Global,
+        path: &str,
+        bytes: Bytes,
+        steps: &mut Steps<L>,
+    ) -> Result<(), Memory>
+        ensures { OnOk result (Scans ((path.now, bytes) ∷ []) self.old self.new) }
+    {
+        if self.is_over() {
+            return Ok(());
+        }
+        let running = self.running.as_slice();
+        let found = scan_file(alloc, path, bytes, running, steps, &mut self.notices)?;
+        append(&mut self.results, found)
+    }
+
+    /// What the rules find in the files, and what there is to be said of both: all findings in order of path, range, rule,
+    /// binding and source, and all notices in order of path, rule, kind and detail, each once.
+    ///
+    /// TooMany comes exactly where there are more findings than are reported. A file, whatever it holds, and an entry that is
+    /// no rule change no finding of another.
+    pub fn report(self, alloc: Global) -> Result<Report, ScanFault>
+        ensures fresh { AfterScan self.entry (λ refused rules most files. IfOk result (IsFresh refused files rules)) }
+        ensures few { AfterScan self.entry (λ refused rules most files. IfOk result (λ report. length report.results ≤ most)) }
+        ensures too_many { AfterScan self.entry (λ refused rules most files. (n : ℕ) → result ≡ Err (TooMany n) → (n ≡ most) × HasMore reported_cmp (IsResult (rules_of refused rules) files) most) }
+        ensures only { AfterScan self.entry (λ refused rules most files. IfOk result (λ report. (r : a_report) → IsFresh refused files rules r → r ≡ report)) }
+        ensures other_files { AfterScan self.entry (λ refused rules most files. IfOk result (KeepsOtherFiles refused files rules)) }
+        ensures other_rules { AfterScan self.entry (λ refused rules most files. IfOk result (KeepsOtherRules refused files rules)) }
+    {
+        if self.is_over() {
+            return Err(ScanFault::TooMany(self.most));
+        }
+        let notices = in_order(alloc, self.notices)?;
+        Ok(Report {
+            results: self.results,
+            notices,
+        })
+    }
+}
