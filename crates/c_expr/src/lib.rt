@@ -31,6 +31,3 @@ pub use part::Part;
 pub use read::{CLevel, read_c, read_level};
 pub use settle::{NAMES, SPEC_WORDS, behind_stars};
 pub use word::{Token, Word};
-
-#[cfg(test)]
-mod tests;

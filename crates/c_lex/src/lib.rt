@@ -9,6 +9,3 @@ mod token;
 
 pub use lex::c_tokens;
 pub use token::{CToken, CWord};
-
-#[cfg(test)]
-mod tests;

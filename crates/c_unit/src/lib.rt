@@ -20,6 +20,3 @@ mod whole;
 
 pub use pattern::read_c_pattern;
 pub use unit::read_unit;
-
-#[cfg(test)]
-mod tests;

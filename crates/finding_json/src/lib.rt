@@ -9,6 +9,3 @@ mod report;
 
 pub use fix_apply::{Notice, NoticeKind, Report, Reported};
 pub use report::report_text;
-
-#[cfg(test)]
-mod tests;

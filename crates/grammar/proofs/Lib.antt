@@ -17,4 +17,3 @@ pub mod Rounds
 pub mod Theorem
 pub mod Cuts
 pub mod Renamed
-pub mod sums

@@ -4,4 +4,3 @@ pub mod Reader
 pub mod Tests
 pub mod Check
 pub mod Renamed
-pub mod sums

@@ -5,10 +5,5 @@
 //! It gives exactly the closed runs of each level (`proofs/Theorem.antt`): what it gives is one, and each one is what it gives, within
 //! the grammar's limits of depth and brackets. A reader that is written by hand is proved equal to it, function by function.
 //!
-//! This crate has nothing to call but [`example`], which shows how a language is added: its table in `specs/sums`, its functions in
-//! `src/example`. `docs/GRAMMARS.md` tells the steps.
+//! This crate has nothing to call. The crate `sums` shows how a language is added, and `docs/GRAMMARS.md` tells the steps.
 #![tactic(auto)]
-
-pub mod example;
-#[cfg(test)]
-mod tests;

@@ -13,6 +13,3 @@ mod table;
 mod token;
 
 pub use read::read_json;
-
-#[cfg(test)]
-mod tests;

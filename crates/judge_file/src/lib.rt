@@ -11,6 +11,3 @@ mod reading;
 pub use found::{Found, FoundNotice};
 pub use judging::judge;
 pub use opened::{Opened, open_file};
-
-#[cfg(test)]
-mod tests;

@@ -8,6 +8,3 @@ mod word_list;
 pub use automaton::{Automaton, Piece};
 pub use mark::without_mark;
 pub use word_list::is_among;
-
-#[cfg(test)]
-mod tests;

@@ -17,6 +17,3 @@ pub use bound::Bound;
 pub use finding::Finding;
 pub use template::fill;
 pub use trail::{Held, Trail};
-
-#[cfg(test)]
-mod tests;

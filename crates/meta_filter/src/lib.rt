@@ -18,6 +18,3 @@ pub use bound_text::holds_regex;
 pub use fault::CompareFault;
 pub use holds::holds_comparison;
 pub use read::read_comparison;
-
-#[cfg(test)]
-mod tests;

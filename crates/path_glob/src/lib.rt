@@ -11,6 +11,3 @@ mod segments;
 
 pub use glob::matches;
 pub use path::{has_hidden, lang_of, path_ok};
-
-#[cfg(test)]
-mod tests;

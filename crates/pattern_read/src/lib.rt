@@ -7,6 +7,3 @@ mod read;
 
 pub use fault::PatternFault;
 pub use read::read_pattern;
-
-#[cfg(test)]
-mod tests;

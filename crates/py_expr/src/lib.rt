@@ -26,6 +26,3 @@ pub use look::{
 };
 pub use run::{read_level, read_py};
 pub use word::Word;
-
-#[cfg(test)]
-mod tests;

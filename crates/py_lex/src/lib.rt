@@ -13,6 +13,3 @@ mod token;
 
 pub use lex::tokens;
 pub use token::{FPart, PyToken, PyWord};
-
-#[cfg(test)]
-mod tests;

@@ -21,6 +21,3 @@ mod whole;
 
 pub use module::read_module;
 pub use pattern::read_py_pattern;
-
-#[cfg(test)]
-mod tests;

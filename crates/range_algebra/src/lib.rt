@@ -23,6 +23,3 @@ pub use answer::eval;
 pub use fault::EvalFault;
 pub use order::{Ordered, settled};
 pub use set::MatchSet;
-
-#[cfg(test)]
-mod tests;

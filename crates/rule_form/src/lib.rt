@@ -12,6 +12,3 @@ pub use comparison::{Amount, ArithOp, CompareOp, Comparison};
 pub use formula::{Child, Formula};
 pub use rule::{Body, Part, Propagator, Rule, Severity, TaintRule};
 pub use same::{Same, same_all};
-
-#[cfg(test)]
-mod tests;

@@ -16,6 +16,3 @@ mod value;
 
 pub use fault::{RuleFault, RuleFaultKind, RuleOutcome, RulesFault};
 pub use read::read_rules;
-
-#[cfg(test)]
-mod tests;

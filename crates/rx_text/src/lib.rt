@@ -15,6 +15,3 @@ pub use fake::FakePatterns;
 pub use patterns::{BuildFault, Patterns};
 pub use real::RealPatterns;
 pub use rx::Rx;
-
-#[cfg(test)]
-mod tests;

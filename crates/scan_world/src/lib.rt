@@ -18,6 +18,3 @@ pub use memory_tree::MemoryTree;
 pub use paths::{is_under, put_path};
 pub use streams::{Failed, Sink, Source};
 pub use tree::{Tree, TreeFault};
-
-#[cfg(test)]
-mod tests;

@@ -110,7 +110,3 @@ fn report(rt: &impl Eprint, status: Status) -> io::Result<()> {
     }
 }
 
-#[cfg(test)]
-mod scan_tests;
-#[cfg(test)]
-mod tests;

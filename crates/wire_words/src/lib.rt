@@ -16,6 +16,3 @@ mod words;
 
 pub use command::{Command, Job};
 pub use words::read_words;
-
-#[cfg(test)]
-mod tests;

@@ -18,6 +18,3 @@ pub mod scan;
 pub use fault::{Feature, YFault};
 pub use line::YLine;
 pub use read::{Head, lines, past_order_mark, read_head};
-
-#[cfg(test)]
-mod tests;

@@ -21,6 +21,3 @@ mod word;
 pub use cell::Cell;
 pub use read::read_yaml;
 pub use value::YValue;
-
-#[cfg(test)]
-mod tests;
