@@ -1,8 +1,8 @@
 //! Why a text writes no pattern.
 
 ghost use Rattle.std.specs.Prelude.{◌≡◌};
-ghost use Rattle.pattern_read.specs.declared.fault.PatternFault.TheVariants.{Memory as out_of_memory};
-ghost use Rattle.pattern_read.specs.Patterns.{fault_of};
+ghost use Rattle.code_reader.specs.declared.fault.PatternFault.TheVariants.{Memory as out_of_memory};
+ghost use Rattle.code_reader.specs.Patterns.{fault_of};
 
 use node_tree::{Memory, ReadFault};
 
