@@ -1,4 +1,4 @@
--- The sets and ranks of the table, made by tools/unit_sets.py; the check of the table shows that they are right.
+-- The sets and ranks of the table, made by tools/table_sets.py; the check of the table shows that they are right.
 use Rattle.std.specs.Prelude.{ℕ, Bool, true, false, List, [], ◌∷◌}
 use Rattle.grammar.specs.Sets.{Sets}
 use Rattle.grammar.specs.Check.{Ranks}

@@ -1,4 +1,4 @@
--- The sets and ranks of the table, which the check of the table goes by. tools/table_sets.py makes them of expressions; these are theirs, and those of statements beside them.
+-- The sets and ranks of the table, made by tools/table_sets.py over those of expressions; the check of the table shows that they are right.
 use Rattle.std.specs.Prelude.{ℕ, Bool, true, false, List, [], ◌∷◌}
 use Rattle.grammar.specs.Sets.{Sets}
 use Rattle.grammar.specs.Check.{Ranks}
