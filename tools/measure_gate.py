@@ -20,22 +20,30 @@ PAGE = os.sysconf('SC_PAGE_SIZE')
 KINDS = ('proof', 'tests', 'edits')
 
 
+def stat_of(pid):
+    """What the system says of a process, from its state on."""
+    stat = Path(f'/proc/{pid}/stat').read_text()
+    return [0] + [int(word) for word in stat[stat.rindex(')') + 4:].split()]
+
+
+def spent(pid):
+    """The session of a process, its processor seconds, and the bytes that it holds."""
+    fields = stat_of(pid)
+    return fields[3], (fields[11] + fields[12]) / TICKS, fields[21] * PAGE
+
+
 def crate_and_kind(pid):
-    """The crate that a process of the prover works at, and the kind of its work, or None for any other process."""
+    """The crate that a process of the prover works at, or its nearest ancestor does, and the kind of that work, or None."""
     words = Path(f'/proc/{pid}/cmdline').read_bytes().decode(errors='replace').split('\0')
     if '--crate-name' not in words:
-        return None
+        above = stat_of(pid)[1]
+        return crate_and_kind(above) if above > 1 else None
     name = words[words.index('--crate-name') + 1]
     if '/rt-edit-' in os.readlink(f'/proc/{pid}/cwd'):
         return name, 'edits'
     return name, 'tests' if '--test' in words else 'proof'
 
 
-def spent(pid):
-    """The session of a process, its processor seconds, and the bytes that it holds."""
-    stat = Path(f'/proc/{pid}/stat').read_text()
-    fields = stat[stat.rindex(')') + 2:].split()
-    return int(fields[3]), (int(fields[11]) + int(fields[12])) / TICKS, int(fields[21]) * PAGE
 
 
 def look(session, seconds, most):
