@@ -6,10 +6,10 @@ ghost use Rattle.c_expr.specs.Reading as e;
 ghost use Rattle.c_items.specs.Reading as reading;
 ghost use Rattle.c_items.specs.Table as table;
 
+use crate::blocks::block;
 use crate::declarations::declared;
 use crate::dots::{directive, dots_item, empty, ended};
 use crate::functions::defines;
-use crate::items::block;
 use crate::look::starts_file_item;
 use crate::make::node_one;
 use crate::parts::expression;

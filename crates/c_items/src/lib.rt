@@ -4,11 +4,11 @@
 //! files and patterns by it.
 #![tactic(auto)]
 
+mod blocks;
 mod declarations;
 mod dots;
 mod file;
 mod functions;
-mod items;
 mod look;
 mod loops;
 mod make;
@@ -16,7 +16,7 @@ mod parts;
 mod settle;
 mod statements;
 
+pub use blocks::items;
 pub use file::file_items;
-pub use items::items;
 pub use make::nodes_of;
 pub use parts::expression;

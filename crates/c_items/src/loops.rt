@@ -6,8 +6,8 @@ ghost use Rattle.c_expr.specs.Reading as e;
 ghost use Rattle.c_items.specs.Reading as reading;
 ghost use Rattle.c_items.specs.Table as table;
 
+use crate::blocks::sub;
 use crate::declarations::declaration;
-use crate::items::sub;
 use crate::make::{node, node_two};
 use crate::parts::{condition, maybe_expression};
 use crate::settle::declares;

@@ -6,8 +6,8 @@ ghost use Rattle.c_expr.specs.Reading as e;
 ghost use Rattle.c_items.specs.Reading as reading;
 ghost use Rattle.c_items.specs.Table as table;
 
+use crate::blocks::block;
 use crate::dots::{dots_item, empty};
-use crate::items::block;
 use crate::loops::{do_loop, for_loop, if_statement, switch, while_loop};
 use crate::make::{bare, node_one};
 use crate::parts::{expression, some_expression};

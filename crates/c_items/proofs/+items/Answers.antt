@@ -4,8 +4,8 @@ use Rattle.c_items.proofs.Rounds.{items_more, labelled_more}
 use Rattle.c_items.proofs.Nested.{if_read, while_read, do_read}
 use Rattle.c_items.proofs.+items.Goals as goal
 
-pub items::items-loop-turn-preserved : goal.items::items-loop-turn-preserved
-items::items-loop-turn-preserved t c = record {
+pub blocks::items-loop-turn-preserved : goal.blocks::items-loop-turn-preserved
+blocks::items-loop-turn-preserved t c = record {
   within = c.in_ok-part.ensures.within;
   turns = grind (arith, common_steps);
   rest =
@@ -14,8 +14,8 @@ items::items-loop-turn-preserved t c = record {
       c.loop-turn.invariant.rest ∙ items_more c.args.tokens.now c.args.room c.loop-turn.parts.items c.push.new.self.items c.in_ok-part.part (suc (length c.args.tokens.now) - c.loop-turn.turn) _ c.loop-turn.end c.in_ok-part.next (grind (arith, common_steps)) (sym c.if-not-starts_item.ensures) c.in_ok-part.ensures.gives more less;
 }
 
-pub items::labelled-loop-turn-preserved : goal.items::labelled-loop-turn-preserved
-items::labelled-loop-turn-preserved t c = record {
+pub blocks::labelled-loop-turn-preserved : goal.blocks::labelled-loop-turn-preserved
+blocks::labelled-loop-turn-preserved t c = record {
   within = c.in_ok-part-2.ensures.within;
   turns = grind (arith, common_steps);
   rest =

@@ -4,17 +4,17 @@ use Rattle.c_items.specs.Reading.{level, along}
 use Rattle.c_items.proofs.Steps.{rest}
 use Rattle.c_items.proofs.+items.Given as goal
 
-abbrev pub decreases-items::items : goal.decreases-items::items
-decreases-items::items l = 16 * l.room + 9
+abbrev pub decreases-blocks::items : goal.decreases-blocks::items
+decreases-blocks::items l = 16 * l.room + 9
 
-abbrev pub decreases-items::sub : goal.decreases-items::sub
-decreases-items::sub l = 16 * l.room + 8
+abbrev pub decreases-blocks::sub : goal.decreases-blocks::sub
+decreases-blocks::sub l = 16 * l.room + 8
 
-abbrev pub decreases-items::labelled : goal.decreases-items::labelled
-decreases-items::labelled l = 16 * l.room + 7
+abbrev pub decreases-blocks::labelled : goal.decreases-blocks::labelled
+decreases-blocks::labelled l = 16 * l.room + 7
 
-abbrev pub decreases-items::item : goal.decreases-items::item
-decreases-items::item l = 16 * l.room + 6
+abbrev pub decreases-blocks::item : goal.decreases-blocks::item
+decreases-blocks::item l = 16 * l.room + 6
 
 abbrev pub decreases-statements::statement : goal.decreases-statements::statement
 decreases-statements::statement l = 16 * l.room + 5
@@ -37,18 +37,18 @@ decreases-loops::for_loop l = 16 * l.room + 2
 abbrev pub decreases-loops::switch : goal.decreases-loops::switch
 decreases-loops::switch l = 16 * l.room + 2
 
-abbrev pub decreases-items::block : goal.decreases-items::block
-decreases-items::block l = 16 * l.room + 1
+abbrev pub decreases-blocks::block : goal.decreases-blocks::block
+decreases-blocks::block l = 16 * l.room + 1
 
-abbrev pub invariant-items::items-loop-turn : goal.invariant-items::items-loop-turn
-invariant-items::items-loop-turn l = record {
+abbrev pub invariant-blocks::items-loop-turn : goal.invariant-blocks::items-loop-turn
+invariant-blocks::items-loop-turn l = record {
   within : l.end ≤ length l.tokens;
   turns : l.turn ≤ suc (length l.tokens);
   rest : level l.fn.tokens l.fn.room Items l.fn.at ≡ along l.parts.items (rest l.fn.tokens l.fn.room Items (suc (length l.fn.tokens) - l.turn) l.end);
 }
 
-abbrev pub invariant-items::labelled-loop-turn : goal.invariant-items::labelled-loop-turn
-invariant-items::labelled-loop-turn l = record {
+abbrev pub invariant-blocks::labelled-loop-turn : goal.invariant-blocks::labelled-loop-turn
+invariant-blocks::labelled-loop-turn l = record {
   within : l.end ≤ length l.tokens;
   turns : l.turn ≤ suc (length l.tokens);
   rest : level l.fn.tokens l.fn.room Labelled l.fn.at ≡ along l.parts.items (rest l.fn.tokens l.fn.room Labelled (suc (length l.fn.tokens) - l.turn) l.end);
