@@ -1,0 +1,66 @@
+//! Trees as lines of text, in which tests compare them.
+//!
+//! A node is written as its kind, its text in round brackets where it has one, its span where spans are asked for, and its
+//! kids in square brackets where it has any, as in `Root 0..4[ExprStmt 3..4[Name(a) 3..4]]`.
+#![tactic(auto)]
+
+use node_tree::{Node, ReadFault};
+use std::alloc::{AllocError, Global};
+use std::fmt::Write;
+use std::slice;
+
+/// Writes trees behind what `out` holds, with a space between two.
+pub fn write_trees(out: &mut String, trees: &[Node], spans: bool) -> Result<(), AllocError> {
+    for (at, node) in trees.iter().enumerate() {
+        if at > 0 {
+            out.push(' ')?;
+        }
+        write!(out, "{:?}", node.kind)?;
+        if node.text.len() > 0 {
+            write!(out, "({})", node.text.as_str())?;
+        }
+        if spans {
+            write!(out, " {}..{}", node.span.from, node.span.to)?;
+        }
+        if !node.kids.is_empty() {
+            out.push('[')?;
+            write_trees(out, node.kids.as_slice(), spans)?;
+            out.push(']')?;
+        }
+    }
+    Ok(())
+}
+
+/// The line of the tree that a reader gave, or `none` where it found no tree.
+pub fn tree_line(
+    alloc: Global,
+    tree: Result<Node, ReadFault>,
+    spans: bool,
+) -> Result<String, ReadFault> {
+    let mut out = String::new(alloc);
+    match tree {
+        Ok(root) => write_trees(&mut out, slice::from_ref(&root), spans)?,
+        Err(ReadFault::NoTree) => out.push_str("none")?,
+        Err(ReadFault::Memory) => return Err(ReadFault::Memory),
+    }
+    Ok(out)
+}
+
+/// So many copies of a front, a middle, and so many copies of a back.
+pub fn nested(
+    alloc: Global,
+    front: &str,
+    times: u32,
+    middle: &str,
+    back: &str,
+) -> Result<String, AllocError> {
+    let mut text = String::new(alloc);
+    for _ in 0..times {
+        text.push_str(front)?;
+    }
+    text.push_str(middle)?;
+    for _ in 0..times {
+        text.push_str(back)?;
+    }
+    Ok(text)
+}
