@@ -2,7 +2,7 @@
 
 use json_tree::read_json;
 use node_tree::{Mode, ReadFault};
-use shown::{nested, tree_line};
+use shown::{repeated, tree_line};
 use std::test::Fail;
 
 // The tree of a text or of a pattern, or `none`.
@@ -140,10 +140,15 @@ fn tells_texts_with_a_tree(rt: HostRuntime) -> Result<(), Fail> {
 
 #[test]
 fn keeps_the_limits(rt: HostRuntime) -> Result<(), Fail> {
-    for (times, close, works) in [(499, "]", true), (500, "]", false), (500_000, "", false)] {
-        let text = nested(rt.alloc(), "[", times, "", close)?;
+    let rows = [
+        (&[(499, "["), (499, "]")], true),
+        (&[(500, "["), (500, "]")], false),
+        (&[(500_000, "["), (0, "")], false),
+    ];
+    for (pieces, works) in rows {
+        let text = repeated(rt.alloc(), pieces)?;
         let found = read(&rt, text.as_str(), Mode::Text, false)?;
-        assert!(rt; (found.as_str() != "none") == works, "{times}");
+        assert!(rt; (found.as_str() != "none") == works, "{pieces:?}");
     }
     Ok(())
 }

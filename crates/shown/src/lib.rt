@@ -46,21 +46,13 @@ pub fn tree_line(
     Ok(out)
 }
 
-/// So many copies of a front, a middle, and so many copies of a back.
-pub fn nested(
-    alloc: Global,
-    front: &str,
-    times: u32,
-    middle: &str,
-    back: &str,
-) -> Result<String, AllocError> {
+/// A text of pieces, each as many times as stands before it.
+pub fn repeated(alloc: Global, pieces: &[(u32, &str)]) -> Result<String, AllocError> {
     let mut text = String::new(alloc);
-    for _ in 0..times {
-        text.push_str(front)?;
-    }
-    text.push_str(middle)?;
-    for _ in 0..times {
-        text.push_str(back)?;
+    for (times, piece) in pieces {
+        for _ in 0..*times {
+            text.push_str(*piece)?;
+        }
     }
     Ok(text)
 }

@@ -1,6 +1,6 @@
 //! Texts, and their values.
 
-use shown::nested;
+use shown::repeated;
 use std::alloc::AllocError;
 use std::fmt::Write;
 use std::test::Fail;
@@ -167,20 +167,18 @@ fn reads_values_or_names_the_first_cause(rt: HostRuntime) -> Result<(), Fail> {
 #[test]
 fn bounds_the_depth(rt: HostRuntime) -> Result<(), Fail> {
     let rows = [
-        ("[", 100, "", "]", true),
-        ("[", 100, "a", "]", false),
-        ("[", 101, "", "]", false),
-        ("- ", 99, "a", "", true),
-        ("- ", 100, "a", "", false),
-        ("- ", 99, "", "", true),
-        ("- ", 100, "", "", false),
+        (&[(100, "["), (100, "]")], true),
+        (&[(101, "["), (101, "]")], false),
+        (&[(99, "- "), (1, "a")], true),
+        (&[(100, "- "), (1, "a")], false),
+        (&[(99, "- "), (0, "")], true),
+        (&[(100, "- "), (0, "")], false),
     ];
-    for (front, times, middle, back, works) in rows {
-        let text = nested(rt.alloc(), front, times, middle, back)?;
-        assert!(rt;
-            (read(&rt, text.as_str())?.as_str() != "!NoValue") == works,
-            "{times} {front}"
-        );
+    for (pieces, works) in rows {
+        let text = repeated(rt.alloc(), pieces)?;
+        assert!(rt; (read(&rt, text.as_str())?.as_str() != "!NoValue") == works, "{pieces:?}");
     }
+    let text = repeated(rt.alloc(), &[(100, "["), (1, "a"), (100, "]")])?;
+    assert_eq!(rt; read(&rt, text.as_str())?.as_str(), "!NoValue");
     Ok(())
 }
