@@ -2,71 +2,71 @@
 
 use json_tree::read_json;
 use node_tree::{Mode, ReadFault};
-use shown::{repeated, tree_line};
+use shown::{parted, repeated, same, tree_line};
+use std::alloc::Global;
 use std::test::Fail;
 
 // The tree of a text or of a pattern, or `none`.
-fn read(rt: &HostRuntime, text: &str, mode: Mode, spans: bool) -> Result<String, ReadFault> {
+fn read(alloc: Global, text: &str, mode: Mode, spans: bool) -> Result<String, ReadFault> {
     if text.len() > 1_000_000 {
         return Err(ReadFault::NoTree);
     }
-    tree_line(rt.alloc(), read_json(rt.alloc(), text, mode), spans)
+    tree_line(alloc, read_json(alloc, text, mode), spans)
+}
+
+// Rows of texts and their trees.
+fn check(alloc: Global, mode: Mode, spans: bool, rows: &[&str]) -> Result<(), Fail> {
+    for row in rows {
+        let (text, wanted) = parted(*row);
+        same(text, read(alloc, text, mode, spans)?.as_str(), wanted)?;
+    }
+    Ok(())
 }
 
 #[test]
 fn reads_trees(rt: HostRuntime) -> Result<(), Fail> {
-    let rows = [
-        (
-            Mode::Text,
-            "[1,{\"a\":1}]",
-            "Root 0..11[Array 0..11[Number(1) 1..2 Object 3..10[Member 4..9[Str(\"a) 4..7 Number(1) 8..9]]]]",
-        ),
-        // A string of dots is a string in a text.
-        (Mode::Text, "\"...\"", "Root 0..5[Str(\"...) 0..5]"),
-        (
-            Mode::Pattern,
-            "[$...A,<...$X...>,\"...\"]",
-            "Root 0..24[Array 0..24[MetaDots($...A) 1..6 Deep 7..17[Meta($X) 11..13] StrAny 18..23]]",
-        ),
-    ];
-    for (mode, text, wanted) in rows {
-        assert_eq!(rt; read(&rt, text, mode, true)?.as_str(), wanted, "{text}");
-    }
-    let patterns = [
-        ("[..., $X, ...]", "Root[Array[Dots Meta($X) Dots]]"),
-        (
-            "{\"k\": <... 1 ...>}",
-            "Root[Object[Member[Str(\"k) Deep[Number(1)]]]]",
-        ),
-        ("[$...A, 2]", "Root[Array[MetaDots($...A) Number(2)]]"),
-        ("$X", "Root[Meta($X)]"),
-        ("...", "Root[Dots]"),
-        ("{...}", "Root[Object[Dots]]"),
-        (
-            "{\"a\": ..., ...}",
-            "Root[Object[Member[Str(\"a) Dots] Dots]]",
-        ),
-        ("{\"...\": 1}", "Root[Object[Member[StrAny Number(1)]]]"),
-        (
-            "{$K: \"a...\"}",
-            "Root[Object[Member[Meta($K) Str(\"a...)]]]",
-        ),
-        ("<... ... ...>", "Root[Deep[Dots]]"),
-        ("{...: 1}", "none"),
-        ("$x", "none"),
-        ("$", "none"),
-        ("<... 1", "none"),
-        ("...>", "none"),
-        ("[...,]", "none"),
-        ("{$...A: 1}", "none"),
-    ];
-    for (text, wanted) in patterns {
-        assert_eq!(rt;
-            read(&rt, text, Mode::Pattern, false)?.as_str(),
-            wanted,
-            "{text}"
-        );
-    }
+    check(
+        rt.alloc(),
+        Mode::Text,
+        true,
+        &[
+            "[1,{\"a\":1}] ⇒ Root 0..11[Array 0..11[Number(1) 1..2 Object 3..10[Member 4..9[Str(\"a) 4..7 Number(1) 8..9]]]]",
+            // A string of dots is a string in a text.
+            "\"...\" ⇒ Root 0..5[Str(\"...) 0..5]",
+        ],
+    )?;
+    check(
+        rt.alloc(),
+        Mode::Pattern,
+        true,
+        &[
+            "[$...A,<...$X...>,\"...\"] ⇒ Root 0..24[Array 0..24[MetaDots($...A) 1..6 Deep 7..17[Meta($X) 11..13] StrAny 18..23]]",
+        ],
+    )?;
+    check(
+        rt.alloc(),
+        Mode::Pattern,
+        false,
+        &[
+            "[..., $X, ...] ⇒ Root[Array[Dots Meta($X) Dots]]",
+            "{\"k\": <... 1 ...>} ⇒ Root[Object[Member[Str(\"k) Deep[Number(1)]]]]",
+            "[$...A, 2] ⇒ Root[Array[MetaDots($...A) Number(2)]]",
+            "$X ⇒ Root[Meta($X)]",
+            "... ⇒ Root[Dots]",
+            "{...} ⇒ Root[Object[Dots]]",
+            "{\"a\": ..., ...} ⇒ Root[Object[Member[Str(\"a) Dots] Dots]]",
+            "{\"...\": 1} ⇒ Root[Object[Member[StrAny Number(1)]]]",
+            "{$K: \"a...\"} ⇒ Root[Object[Member[Meta($K) Str(\"a...)]]]",
+            "<... ... ...> ⇒ Root[Deep[Dots]]",
+            "{...: 1} ⇒ none",
+            "$x ⇒ none",
+            "$ ⇒ none",
+            "<... 1 ⇒ none",
+            "...> ⇒ none",
+            "[...,] ⇒ none",
+            "{$...A: 1} ⇒ none",
+        ],
+    )?;
     Ok(())
 }
 
@@ -93,7 +93,7 @@ fn tells_texts_with_a_tree(rt: HostRuntime) -> Result<(), Fail> {
     ];
     for text in with {
         assert!(rt;
-            read(&rt, text, Mode::Text, false)?.as_str() != "none",
+            read(rt.alloc(), text, Mode::Text, false)?.as_str() != "none",
             "{text}"
         );
     }
@@ -130,7 +130,7 @@ fn tells_texts_with_a_tree(rt: HostRuntime) -> Result<(), Fail> {
     ];
     for text in without {
         assert_eq!(rt;
-            read(&rt, text, Mode::Text, false)?.as_str(),
+            read(rt.alloc(), text, Mode::Text, false)?.as_str(),
             "none",
             "{text}"
         );
@@ -147,7 +147,7 @@ fn keeps_the_limits(rt: HostRuntime) -> Result<(), Fail> {
     ];
     for (pieces, works) in rows {
         let text = repeated(rt.alloc(), pieces)?;
-        let found = read(&rt, text.as_str(), Mode::Text, false)?;
+        let found = read(rt.alloc(), text.as_str(), Mode::Text, false)?;
         assert!(rt; (found.as_str() != "none") == works, "{pieces:?}");
     }
     Ok(())

@@ -8,6 +8,7 @@ use node_tree::{Node, ReadFault};
 use std::alloc::{AllocError, Global};
 use std::fmt::Write;
 use std::slice;
+use std::test::Fail;
 
 /// Writes trees behind what `out` holds, with a space between two.
 pub fn write_trees(out: &mut String, trees: &[Node], spans: bool) -> Result<(), AllocError> {
@@ -55,4 +56,20 @@ pub fn repeated(alloc: Global, pieces: &[(u32, &str)]) -> Result<String, AllocEr
         }
     }
     Ok(text)
+}
+
+/// The text of a row, and what is wanted of it behind ` ⇒ `.
+pub fn parted(row: &str) -> (&str, &str) {
+    match row.split_once(" ⇒ ") {
+        Some((text, wanted)) => (text, wanted),
+        None => (row, ""),
+    }
+}
+
+/// Fails, and says which row it is, where what is found is not what is wanted.
+pub fn same(text: &str, found: &str, wanted: &str) -> Result<(), Fail> {
+    if found == wanted {
+        return Ok(());
+    }
+    Err(Fail::new(format_args!("{text:?} gives {found}, and not {wanted}")))
 }
