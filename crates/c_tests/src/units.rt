@@ -280,55 +280,74 @@ fn reads_patterns(rt: HostRuntime) -> Result<(), Fail> {
     Ok(())
 }
 
+// Rows of pieces of files, and whether the file has a tree.
+fn check_limits(alloc: Global, rows: &[([(u32, &str); 4], &str)]) -> Result<(), Fail> {
+    for (pieces, wanted) in rows {
+        let text = repeated(alloc, pieces.as_slice())?;
+        let found = file(alloc, text.as_str(), false)?;
+        let told = if found.as_str() == "none" {
+            "none"
+        } else {
+            "a tree"
+        };
+        same(pieces[0].1, told, *wanted)?;
+    }
+    Ok(())
+}
+
 // A block in a function is the fourth node from the root; an `else if` stands in a block.
 #[test]
 fn keeps_the_limits(rt: HostRuntime) -> Result<(), Fail> {
-    let rows = [
-        (
-            [(1, "void f(void) {"), (497, "{"), (497, "}"), (1, "}")],
-            true,
-        ),
-        (
-            [(1, "void f(void) {"), (498, "{"), (498, "}"), (1, "}")],
-            false,
-        ),
-        (
-            [
-                (1, "void f(void) { "),
-                (247, "if (a) ; else "),
-                (1, "if (a) ;"),
-                (1, "}"),
-            ],
-            true,
-        ),
-        (
-            [
-                (1, "void f(void) { "),
-                (248, "if (a) ; else "),
-                (1, "if (a) ;"),
-                (1, "}"),
-            ],
-            false,
-        ),
-        // What is long is read, and what is far past the limits is refused without a deep tree.
-        ([(20_000, "int x;"), (0, ""), (0, ""), (0, "")], true),
-        ([(20_000, "int f() {"), (0, ""), (0, ""), (0, "")], false),
-        (
-            [(20_000, "int f() { if (a) {"), (0, ""), (0, ""), (0, "")],
-            false,
-        ),
-        (
-            [(1, "int f() {"), (20_000, "for (;;) "), (1, ";"), (1, "}")],
-            false,
-        ),
-        ([(20_000, "int f("), (0, ""), (0, ""), (0, "")], false),
-    ];
-    for (pieces, works) in rows {
-        let text = repeated(rt.alloc(), pieces.as_slice())?;
-        assert!(rt;
-            (file(rt.alloc(), text.as_str(), false)?.as_str() != "none") == works,
-            "{pieces:?}"
-        );
-    }
-    Ok(())
+    check_limits(
+        rt.alloc(),
+        &[
+            (
+                [(1, "void f(void) {"), (497, "{"), (497, "}"), (1, "}")],
+                "a tree",
+            ),
+            (
+                [(1, "void f(void) {"), (498, "{"), (498, "}"), (1, "}")],
+                "none",
+            ),
+            (
+                [
+                    (1, "void f(void) { "),
+                    (247, "if (a) ; else "),
+                    (1, "if (a) ;"),
+                    (1, "}"),
+                ],
+                "a tree",
+            ),
+            (
+                [
+                    (1, "void f(void) { "),
+                    (248, "if (a) ; else "),
+                    (1, "if (a) ;"),
+                    (1, "}"),
+                ],
+                "none",
+            ),
+        ],
+    )
+}
+
+// What is long is read, and what is far past the limits is refused without a deep tree.
+#[test]
+fn reads_and_refuses_long_texts(rt: HostRuntime) -> Result<(), Fail> {
+    check_limits(
+        rt.alloc(),
+        &[
+            ([(20_000, "int x;"), (0, ""), (0, ""), (0, "")], "a tree"),
+            ([(20_000, "int f() {"), (0, ""), (0, ""), (0, "")], "none"),
+            (
+                [(20_000, "int f() { if (a) {"), (0, ""), (0, ""), (0, "")],
+                "none",
+            ),
+            (
+                [(1, "int f() {"), (20_000, "for (;;) "), (1, ";"), (1, "}")],
+                "none",
+            ),
+            ([(20_000, "int f("), (0, ""), (0, ""), (0, "")], "none"),
+        ],
+    )
 }
