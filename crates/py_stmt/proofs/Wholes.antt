@@ -1,26 +1,19 @@
 -- What is read of all the items is the statements that they are, and the statements that they are are read.
-use Rattle.std.proofs.Common.{◌≡◌, ℕ, zero, suc, ◌+◌, ◌<◌, ◌≤◌, List, [], ◌∷◌, ◌++◌, length, refl, sym, ap, ◌∙◌, arith, add-one, eqb, cond, true, Option, Some, None}
-use Rattle.std.proofs.lemmas.List.{append-nil}
+use Rattle.std.proofs.Common.{◌≡◌, ℕ, suc, ◌<◌, ◌≤◌, List, [], ◌∷◌, length, refl, sym, ap, ◌∙◌, arith, Some, None}
 use Rattle.std.specs.Prelude.{max}
 use Rattle.node_tree.specs.declared.node.Node.{Node}
 use Rattle.node_tree.specs.Tree.{depth_of}
-use Rattle.grammar.specs.Rule.{has, opt, ref}
-use Rattle.grammar.specs.Reader.{◌>>=◌}
 use Rattle.grammar.proofs.Facts.{none_some, some_pair}
 use Rattle.grammar.proofs.Theorem.{read_piece, piece_read}
 use Rattle.py_expr.specs.declared.item.Item.{Item}
-use Rattle.py_expr.specs.declared.word.Word.TheVariants as w
-use Rattle.py_expr.specs.Words.{class}
-use Rattle.py_expr.specs.Build.{token_at}
-use Rattle.py_expr.specs.Parts.{Part, wholes, depth_nodes, depth_all}
+use Rattle.py_expr.specs.Parts.{wholes, depth_nodes, depth_all}
 use Rattle.py_expr.specs.Reading.{round_at}
-use Rattle.py_suite.specs.Table.{File, Stmts, table, grammar}
+use Rattle.py_suite.specs.Table.{File, grammar}
 use Rattle.py_suite.specs.Build.{source}
 use Rattle.py_suite.specs.Sets.{sets, ranks}
-use Rattle.py_suite.specs.Reading.{level, row}
+use Rattle.py_suite.specs.Reading.{level}
 use Rattle.py_stmt.specs.Modules.{AreStatements}
 use Rattle.py_suite.proofs.Passes.{pass}
-use Rattle.py_suite.proofs.Steps.{level_row}
 use Rattle.py_suite.proofs.Depths.{deepens}
 
 wholes_depth : (ns : List Node) → depth_all (wholes ns) ≡ depth_nodes ns
