@@ -13,8 +13,10 @@ use Rattle.rule_keys.specs.declared.stop.Stop.{Stop}
 use Rattle.rule_keys.specs.Misfits.{Fits}
 use Rattle.rule_keys.specs.Values.{Entry, required_text}
 use Rattle.rule_entries.specs.Readings.{Outcome, Reading, Only, Reads, Then, After}
-use Rattle.rule_keys.specs.Heads.{severity_of, languages, mode_of}
-use Rattle.rule_entries.specs.Bodies.{check_body, IsParts}
+use Rattle.rule_keys.specs.Heads.{severity_of, languages}
+use Rattle.rule_keys.specs.Modes.{mode_of, check_body}
+use Rattle.rule_entries.specs.Finds.{Writes}
+use Rattle.rule_entries.specs.Bodies.{IsParts}
 use Rattle.rule_keys.specs.Extras.{fix_of, paths_of, unread_of, constants_of}
 use Rattle.rule_entries.specs.Rules.{IsRule, IsMade, nothing}
 use Rattle.rule_entries.proofs.Laws.{after_goes, after_stops, then_goes, then_stops}
@@ -22,7 +24,7 @@ use Rattle.rule_entries.proofs.Laws.{after_goes, after_stops, then_goes, then_st
 abbrev same : {X : Type 0} → X → X
 same x = x
 
-module _ (id : List ℕ) (es : List Entry) where
+module _ (writes : Writes) (id : List ℕ) (es : List Entry) where
   abbrev Unread : List ℕ → Severity → List Part → Option (List ℕ) → Paths → Reading Rule
   Unread message severity parts fix paths = After (unread_of es) (IsMade id message severity parts fix paths)
 
@@ -33,7 +35,7 @@ module _ (id : List ℕ) (es : List Entry) where
   Fixed message severity parts = After (fix_of es) (Pathed message severity parts)
 
   abbrev Parted : List ℕ → Severity → List Lang → RuleMode → Reading Rule
-  Parted message severity langs mode = Then (IsParts (constants_of es) mode es langs) (Fixed message severity)
+  Parted message severity langs mode = Then (IsParts writes (constants_of es) mode es langs) (Fixed message severity)
 
   abbrev Checked : List ℕ → Severity → List Lang → RuleMode → Reading Rule
   Checked message severity langs mode = After (check_body mode es) (λ _. Parted message severity langs mode)
@@ -48,9 +50,9 @@ module _ (id : List ℕ) (es : List Entry) where
   Rated message = After (severity_of es) (Spoken message)
 
   abbrev Whole : Result Rule Stop → Type 0
-  Whole r = (t : Found) × Reads (IsRule id es) nothing r t
+  Whole r = (t : Found) × Reads (IsRule writes id es) nothing r t
 
-  begun : (m : List ℕ) (t : Found) (r : Result Rule Stop) → required_text (codes "message") es ≡ Ok m → Reads (Rated m) nothing r t → Reads (IsRule id es) nothing r t
+  begun : (m : List ℕ) (t : Found) (r : Result Rule Stop) → required_text (codes "message") es ≡ Ok m → Reads (Rated m) nothing r t → Reads (IsRule writes id es) nothing r t
   begun m t r e h = after_goes (λ (x : List ℕ). x) (required_text (codes "message") es) Rated m nothing t r e h
 
   pub no_message : (e : Stop) → Fits (λ (x : List ℕ). x) (required_text (codes "message") es) (Err e) → Whole (Err e)
@@ -61,49 +63,49 @@ module _ (id : List ℕ) (es : List Entry) where
     no_severity e h = (nothing, begun m nothing (Err e) message (after_stops (λ (x : Severity). x) (severity_of es) (Spoken m) e nothing nothing h))
 
     module _ (v : Severity) (severity : severity_of es ≡ Ok v) where
-      rated : (t : Found) (r : Result Rule Stop) → Reads (Spoken m v) nothing r t → Reads (IsRule id es) nothing r t
+      rated : (t : Found) (r : Result Rule Stop) → Reads (Spoken m v) nothing r t → Reads (IsRule writes id es) nothing r t
       rated t r h = begun m t r message (after_goes (λ (x : Severity). x) (severity_of es) (Spoken m) v nothing t r severity h)
 
       pub no_languages : (e : Stop) → Fits (λ (x : List Lang). x) (languages es) (Err e) → Whole (Err e)
       no_languages e h = (nothing, rated nothing (Err e) (after_stops (λ (x : List Lang). x) (languages es) (Moded m v) e nothing nothing h))
 
       module _ (ls : List Lang) (langs : languages es ≡ Ok ls) where
-        spoken : (t : Found) (r : Result Rule Stop) → Reads (Moded m v ls) nothing r t → Reads (IsRule id es) nothing r t
+        spoken : (t : Found) (r : Result Rule Stop) → Reads (Moded m v ls) nothing r t → Reads (IsRule writes id es) nothing r t
         spoken t r h = rated t r (after_goes (λ (x : List Lang). x) (languages es) (Moded m v) ls nothing t r langs h)
 
         pub no_mode : (e : Stop) → Fits (λ (x : RuleMode). x) (mode_of es) (Err e) → Whole (Err e)
         no_mode e h = (nothing, spoken nothing (Err e) (after_stops (λ (x : RuleMode). x) (mode_of es) (Checked m v ls) e nothing nothing h))
 
         module _ (k : RuleMode) (mode : mode_of es ≡ Ok k) where
-          moded : (t : Found) (r : Result Rule Stop) → Reads (Checked m v ls k) nothing r t → Reads (IsRule id es) nothing r t
+          moded : (t : Found) (r : Result Rule Stop) → Reads (Checked m v ls k) nothing r t → Reads (IsRule writes id es) nothing r t
           moded t r h = spoken t r (after_goes (λ (x : RuleMode). x) (mode_of es) (Checked m v ls) k nothing t r mode h)
 
           pub no_body : (e : Stop) → Fits (λ (x : Unit {0}). x) (check_body k es) (Err e) → Whole (Err e)
           no_body e h = (nothing, moded nothing (Err e) (after_stops (λ (x : Unit {0}). x) (check_body k es) (λ _. Parted m v ls k) e nothing nothing h))
 
           module _ (u : Unit {0}) (checked : check_body k es ≡ Ok u) where
-            passed : (t : Found) (r : Result Rule Stop) → Reads (Parted m v ls k) nothing r t → Reads (IsRule id es) nothing r t
+            passed : (t : Found) (r : Result Rule Stop) → Reads (Parted m v ls k) nothing r t → Reads (IsRule writes id es) nothing r t
             passed t r h = moded t r (after_goes (λ (x : Unit {0}). x) (check_body k es) (λ _. Parted m v ls k) u nothing t r checked h)
 
-            pub no_parts : (e : Stop) (t : Found) → Reads (IsParts (constants_of es) k es ls) nothing (Err e) t → Whole (Err e)
-            no_parts e t h = (t, passed t (Err e) (then_stops (IsParts (constants_of es) k es ls) (Fixed m v) e nothing t t h))
+            pub no_parts : (e : Stop) (t : Found) → Reads (IsParts writes (constants_of es) k es ls) nothing (Err e) t → Whole (Err e)
+            no_parts e t h = (t, passed t (Err e) (then_stops (IsParts writes (constants_of es) k es ls) (Fixed m v) e nothing t t h))
 
-            module _ (ps : List Part) (t : Found) (parts : Only (IsParts (constants_of es) k es ls nothing) (Ok (ps, t))) where
-              parted : (r : Result Rule Stop) → Reads (Fixed m v ps) t r t → Reads (IsRule id es) nothing r t
-              parted r h = passed t r (then_goes (IsParts (constants_of es) k es ls) (Fixed m v) ps nothing t t r parts h)
+            module _ (ps : List Part) (t : Found) (parts : Only (IsParts writes (constants_of es) k es ls nothing) (Ok (ps, t))) where
+              parted : (r : Result Rule Stop) → Reads (Fixed m v ps) t r t → Reads (IsRule writes id es) nothing r t
+              parted r h = passed t r (then_goes (IsParts writes (constants_of es) k es ls) (Fixed m v) ps nothing t t r parts h)
 
               pub no_fix : (e : Stop) → Fits (λ (x : Option (List ℕ)). x) (fix_of es) (Err e) → Whole (Err e)
               no_fix e h = (t, parted (Err e) (after_stops (λ (x : Option (List ℕ)). x) (fix_of es) (Pathed m v ps) e t t h))
 
               module _ (f : Option (List ℕ)) (fix : fix_of es ≡ Ok f) where
-                fixed : (r : Result Rule Stop) → Reads (Pathed m v ps f) t r t → Reads (IsRule id es) nothing r t
+                fixed : (r : Result Rule Stop) → Reads (Pathed m v ps f) t r t → Reads (IsRule writes id es) nothing r t
                 fixed r h = parted r (after_goes (λ (x : Option (List ℕ)). x) (fix_of es) (Pathed m v ps) f t t r fix h)
 
                 pub no_paths : (e : Stop) → Fits (λ (x : Paths). x) (paths_of es) (Err e) → Whole (Err e)
                 no_paths e h = (t, fixed (Err e) (after_stops (λ (x : Paths). x) (paths_of es) (Unread m v ps f) e t t h))
 
                 module _ (p : Paths) (paths : paths_of es ≡ Ok p) where
-                  pathed : (r : Result Rule Stop) → Reads (Unread m v ps f p) t r t → Reads (IsRule id es) nothing r t
+                  pathed : (r : Result Rule Stop) → Reads (Unread m v ps f p) t r t → Reads (IsRule writes id es) nothing r t
                   pathed r h = fixed r (after_goes (λ (x : Paths). x) (paths_of es) (Unread m v ps f) p t t r paths h)
 
                   pub no_options : (e : Stop) → Fits (λ (x : List (List ℕ)). x) (unread_of es) (Err e) → Whole (Err e)
@@ -136,20 +138,20 @@ made_id : (id message : List ℕ) (v : Severity) (ps : List Part) (f : Option (L
 made_id id message v ps f p us s t rule e = ap id_in e
 
 -- the rule of an entry has the entry's id
-pub has_id : (id : List ℕ) (es : List Entry) (s t : Found) (rule : Rule) → IsRule id es s (Ok (rule, t)) → rule.id ≡ id
-has_id id es s t rule =
-    after_has (required_text (codes "message") es) (Rated id es) s (rule, t) (λ m.
-    after_has (severity_of es) (Spoken id es m) s (rule, t) (λ v.
-    after_has (languages es) (Moded id es m v) s (rule, t) (λ ls.
-    after_has (mode_of es) (Checked id es m v ls) s (rule, t) (λ k.
-    after_has (check_body k es) (λ _. Parted id es m v ls k) s (rule, t) (λ _.
-    then_has (IsParts (constants_of es) k es ls) (Fixed id es m v) s (rule, t) (λ ps u.
-    after_has (fix_of es) (Pathed id es m v ps) u (rule, t) (λ f.
-    after_has (paths_of es) (Unread id es m v ps f) u (rule, t) (λ p.
+pub has_id : (writes : Writes) (id : List ℕ) (es : List Entry) (s t : Found) (rule : Rule) → IsRule writes id es s (Ok (rule, t)) → rule.id ≡ id
+has_id writes id es s t rule =
+    after_has (required_text (codes "message") es) (Rated writes id es) s (rule, t) (λ m.
+    after_has (severity_of es) (Spoken writes id es m) s (rule, t) (λ v.
+    after_has (languages es) (Moded writes id es m v) s (rule, t) (λ ls.
+    after_has (mode_of es) (Checked writes id es m v ls) s (rule, t) (λ k.
+    after_has (check_body k es) (λ _. Parted writes id es m v ls k) s (rule, t) (λ _.
+    then_has (IsParts writes (constants_of es) k es ls) (Fixed writes id es m v) s (rule, t) (λ ps u.
+    after_has (fix_of es) (Pathed writes id es m v ps) u (rule, t) (λ f.
+    after_has (paths_of es) (Unread writes id es m v ps f) u (rule, t) (λ p.
     after_has (unread_of es) (IsMade id m v ps f p) u (rule, t) (λ us e. made_id id m v ps f p us u t rule e)))))))))
 
 -- the parts, whatever stands for what they are read from
-pub parts_as : (k : RuleMode) (es : List Entry) (a b : Bool) (ms ls : List Lang) (s : Found) (o : Outcome (List Part)) → a ≡ b → ms ≡ ls → s ≡ nothing → Only (IsParts a k es ms s) o → Only (IsParts b k es ls nothing) o
-parts_as k es a b ms ls s o e f g h =
-    let P : Bool → List Lang → Found → Type 0 = λ x xs z. Only (IsParts x k es xs z) o in
+pub parts_as : (writes : Writes) (k : RuleMode) (es : List Entry) (a b : Bool) (ms ls : List Lang) (s : Found) (o : Outcome (List Part)) → a ≡ b → ms ≡ ls → s ≡ nothing → Only (IsParts writes a k es ms s) o → Only (IsParts writes b k es ls nothing) o
+parts_as writes k es a b ms ls s o e f g h =
+    let P : Bool → List Lang → Found → Type 0 = λ x xs z. Only (IsParts writes x k es xs z) o in
     subst (P b ls) g (subst (λ (xs : List Lang). P b xs s) f (subst (λ (x : Bool). P x ms s) e h))

@@ -9,7 +9,6 @@ use Rattle.rule_form.specs.declared.formula.Child.{Child}
 use Rattle.rule_form.specs.declared.formula.Child.TheVariants as children
 use Rattle.rule_form.specs.declared.rule.Propagator.{Propagator}
 use Rattle.rule_entries.specs.declared.found.Found.{Found}
-use Rattle.rule_entries.specs.declared.found.Setting.{Setting}
 use Rattle.rule_keys.specs.declared.key.ChildKey.{ChildKey}
 use Rattle.rule_keys.specs.declared.key.ChildKey.TheVariants as keys
 use Rattle.rule_keys.specs.declared.key.Role.TheVariants as roles
@@ -18,36 +17,36 @@ use Rattle.rule_keys.specs.Misfits.{Fits, IsUnder}
 use Rattle.rule_keys.specs.Values.{Entry, items_of, required_text, required_name}
 use Rattle.rule_keys.specs.Keys.{Counted, map_of, one_of}
 use Rattle.rule_entries.specs.Readings.{Reading, Only, Reads, Then, After, Below, Each, AtPlace, gives, tells}
-use Rattle.rule_entries.specs.Finds.{IsCompared}
+use Rattle.rule_entries.specs.Finds.{Leaf, IsCompared}
 use Rattle.rule_entries.specs.Formulas.{Inner, IsOne, IsFormulaAt, IsMapped, IsAlternative, IsEither, IsMetaCompare, IsMetaPattern, IsChildAt, IsChild, IsPatterns, IsPropagator, all_of}
 use Rattle.rule_entries.proofs.Laws.{gives_reads, tells_reads, after_goes, after_stops, then_goes, then_stops, below_reads}
 
-module _ (setting : Setting) (inner : Inner) (v : YValue) (s t : Found) where
+module _ (leaf : Leaf) (inner : Inner) (v : YValue) (s t : Found) where
   module _ (vs : List YValue) (items : items_of v ≡ Ok vs) where
     abbrev Alternatives : Reading (List Formula)
-    Alternatives = Each (AtPlace (IsAlternative setting inner)) 0 vs
+    Alternatives = Each (AtPlace (IsAlternative leaf inner)) 0 vs
 
     abbrev Children : Reading (List Child)
-    Children = Each (AtPlace (IsChild setting inner)) 0 vs
+    Children = Each (AtPlace (IsChild leaf inner)) 0 vs
 
-    pub either_stops : (e : Stop) → Reads Alternatives s (Err e) t → Reads (IsEither setting inner v) s (Err e) t
+    pub either_stops : (e : Stop) → Reads Alternatives s (Err e) t → Reads (IsEither leaf inner v) s (Err e) t
     either_stops e h =
-        after_goes (λ (l : List YValue). l) (items_of v) (λ xs. Then (Each (AtPlace (IsAlternative setting inner)) 0 xs) (λ fs. gives (formulas.Any fs))) vs s t (Err e) items
+        after_goes (λ (l : List YValue). l) (items_of v) (λ xs. Then (Each (AtPlace (IsAlternative leaf inner)) 0 xs) (λ fs. gives (formulas.Any fs))) vs s t (Err e) items
         (then_stops Alternatives (λ fs. gives (formulas.Any fs)) e s t t h)
 
-    pub either_goes : (fs : List Formula) → Only (Alternatives s) (Ok (fs, t)) → Reads (IsEither setting inner v) s (Ok (formulas.Any fs)) t
+    pub either_goes : (fs : List Formula) → Only (Alternatives s) (Ok (fs, t)) → Reads (IsEither leaf inner v) s (Ok (formulas.Any fs)) t
     either_goes fs h =
-        after_goes (λ (l : List YValue). l) (items_of v) (λ xs. Then (Each (AtPlace (IsAlternative setting inner)) 0 xs) (λ gs. gives (formulas.Any gs))) vs s t (Ok (formulas.Any fs)) items
+        after_goes (λ (l : List YValue). l) (items_of v) (λ xs. Then (Each (AtPlace (IsAlternative leaf inner)) 0 xs) (λ gs. gives (formulas.Any gs))) vs s t (Ok (formulas.Any fs)) items
         (then_goes Alternatives (λ gs. gives (formulas.Any gs)) fs s t t (Ok (formulas.Any fs)) h (gives_reads (formulas.Any fs) t))
 
-    pub patterns_stops : (bare : Bool) (e : Stop) → Reads Children s (Err e) t → Reads (IsPatterns setting inner bare v) s (Err e) t
+    pub patterns_stops : (bare : Bool) (e : Stop) → Reads Children s (Err e) t → Reads (IsPatterns leaf inner bare v) s (Err e) t
     patterns_stops bare e h =
-        after_goes (λ (l : List YValue). l) (items_of v) (λ xs. Then (Each (AtPlace (IsChild setting inner)) 0 xs) (λ cs. tells (all_of bare cs))) vs s t (Err e) items
+        after_goes (λ (l : List YValue). l) (items_of v) (λ xs. Then (Each (AtPlace (IsChild leaf inner)) 0 xs) (λ cs. tells (all_of bare cs))) vs s t (Err e) items
         (then_stops Children (λ cs. tells (all_of bare cs)) e s t t h)
 
-    pub patterns_goes : (bare : Bool) (cs : List Child) (r : Result Formula Stop) → Only (Children s) (Ok (cs, t)) → Fits (λ (f : Formula). f) (all_of bare cs) r → Reads (IsPatterns setting inner bare v) s r t
+    pub patterns_goes : (bare : Bool) (cs : List Child) (r : Result Formula Stop) → Only (Children s) (Ok (cs, t)) → Fits (λ (f : Formula). f) (all_of bare cs) r → Reads (IsPatterns leaf inner bare v) s r t
     patterns_goes bare cs r h fits =
-        after_goes (λ (l : List YValue). l) (items_of v) (λ xs. Then (Each (AtPlace (IsChild setting inner)) 0 xs) (λ ds. tells (all_of bare ds))) vs s t r items
+        after_goes (λ (l : List YValue). l) (items_of v) (λ xs. Then (Each (AtPlace (IsChild leaf inner)) 0 xs) (λ ds. tells (all_of bare ds))) vs s t r items
         (then_goes Children (λ ds. tells (all_of bare ds)) cs s t t r h (tells_reads (all_of bare cs) r t fits))
 
   pub mapped_goes : (es : List Entry) (r : Result Formula Stop) → map_of roles.Formula v ≡ Ok es → Reads (IsOne (IsFormulaAt inner false) roles.Formula es) s r t → Reads (IsMapped inner v) s r t
@@ -69,13 +68,13 @@ module _ (setting : Setting) (inner : Inner) (v : YValue) (s t : Found) where
     meta_pattern_goes f h =
         within_name (Ok (children.MetaPattern name f)) (then_goes (One es) (λ g. gives (children.MetaPattern name g)) f s t t (Ok (children.MetaPattern name f)) h (gives_reads (children.MetaPattern name f) t))
 
-  pub compare_at : (key : ChildKey) (r : Result Child Stop) → key ≡ keys.MetaCompare → Reads (IsMetaCompare v) s r t → Reads (IsChildAt setting inner key v) s r t
-  compare_at key r e h = subst (λ (k : ChildKey). Reads (IsChildAt setting inner k v) s r t) (sym e) h
+  pub compare_at : (key : ChildKey) (r : Result Child Stop) → key ≡ keys.MetaCompare → Reads (IsMetaCompare v) s r t → Reads (IsChildAt leaf inner key v) s r t
+  compare_at key r e h = subst (λ (k : ChildKey). Reads (IsChildAt leaf inner k v) s r t) (sym e) h
 
-  pub child_goes : (es : List Entry) (c : Counted) (read r : Result Child Stop) → map_of roles.Child v ≡ Ok es → one_of roles.Child es ≡ Ok c → Reads (IsChildAt setting inner c.0 c.1.1) s read t → IsUnder c.1.0 read r → Reads (IsChild setting inner v) s r t
+  pub child_goes : (es : List Entry) (c : Counted) (read r : Result Child Stop) → map_of roles.Child v ≡ Ok es → one_of roles.Child es ≡ Ok c → Reads (IsChildAt leaf inner c.0 c.1.1) s read t → IsUnder c.1.0 read r → Reads (IsChild leaf inner v) s r t
   child_goes es c read r map one h under =
-      after_goes (λ (l : List Entry). l) (map_of roles.Child v) (λ xs. After (one_of roles.Child xs) (λ d. Below d.1.0 (IsChildAt setting inner d.0 d.1.1))) es s t r map
-      (after_goes (λ (d : Counted). d) (one_of roles.Child es) (λ d. Below d.1.0 (IsChildAt setting inner d.0 d.1.1)) c s t r one (below_reads c.1.0 (IsChildAt setting inner c.0 c.1.1) s t read r h under))
+      after_goes (λ (l : List Entry). l) (map_of roles.Child v) (λ xs. After (one_of roles.Child xs) (λ d. Below d.1.0 (IsChildAt leaf inner d.0 d.1.1))) es s t r map
+      (after_goes (λ (d : Counted). d) (one_of roles.Child es) (λ d. Below d.1.0 (IsChildAt leaf inner d.0 d.1.1)) c s t r one (below_reads c.1.0 (IsChildAt leaf inner c.0 c.1.1) s t read r h under))
 
 module _ (v : YValue) (s : Found) (es : List Entry) (text : List ℕ) (map : map_of roles.MetaCompare v ≡ Ok es) (is : required_text (codes "comparison") es ≡ Ok text) where
   compares : (r : Result Child Stop) → Reads (Then (Below (codes "comparison") (IsCompared text)) (λ c. gives (children.MetaCompare c))) s r s → Reads (IsMetaCompare v) s r s

@@ -29,7 +29,8 @@ fn taint_items<'v, R: PatternReader>(
     value: &'v YValue,
     found: &mut Found<'v>,
 ) -> Result<List<Formula>, Stop>
-    ensures { Reads (spec.IsFormulas (spec.IsFormulaOf (R.writes reader.now) setting) value.now) found.old result found.new }
+    ensures { Reads (spec.IsFormulas (spec.IsFormulaOf (R.writes reader.now) setting) value.now)
+        found.old result found.new }
 {
     let items = items_of(alloc, value)?;
     each_formula(alloc, reader, setting, items, found)
@@ -42,7 +43,8 @@ fn each_formula<'v, R: PatternReader>(
     items: &'v [YValue],
     found: &mut Found<'v>,
 ) -> Result<List<Formula>, Stop>
-    ensures { Reads (Each (AtPlace (IsMapped (spec.IsFormulaOf (R.writes reader.now) setting))) 0 items.now) found.old result found.new }
+    ensures { Reads (Each (AtPlace (IsMapped (spec.IsFormulaOf (R.writes reader.now) setting))) 0 items.now)
+        found.old result found.new }
 {
     let mut formulas = List::new(alloc);
     for (place, item) in items.iter().enumerate() {
@@ -61,7 +63,8 @@ fn propagators<'v, R: PatternReader>(
     value: &'v YValue,
     found: &mut Found<'v>,
 ) -> Result<List<Propagator>, Stop>
-    ensures { Reads (spec.IsPropagators (spec.IsFormulaOf (R.writes reader.now) setting) value.now) found.old result found.new }
+    ensures { Reads (spec.IsPropagators (spec.IsFormulaOf (R.writes reader.now) setting) value.now)
+        found.old result found.new }
 {
     let items = items_of(alloc, value)?;
     each_propagator(alloc, reader, setting, items, found)
@@ -74,7 +77,8 @@ fn each_propagator<'v, R: PatternReader>(
     items: &'v [YValue],
     found: &mut Found<'v>,
 ) -> Result<List<Propagator>, Stop>
-    ensures { Reads (Each (AtPlace (IsPropagator (spec.IsFormulaOf (R.writes reader.now) setting))) 0 items.now) found.old result found.new }
+    ensures { Reads (Each (AtPlace (IsPropagator (spec.IsFormulaOf (R.writes reader.now) setting))) 0 items.now)
+        found.old result found.new }
 {
     let mut all = List::new(alloc);
     for (place, item) in items.iter().enumerate() {
@@ -125,7 +129,8 @@ fn formulas_at<'v, R: PatternReader>(
     entry: &'v Entry,
     found: &mut Found<'v>,
 ) -> Result<List<Formula>, Stop>
-    ensures { Reads (Below entry.now.0 (spec.IsFormulas (spec.IsFormulaOf (R.writes reader.now) setting) entry.now.1)) found.old result found.new }
+    ensures { Reads (Below entry.now.0 (spec.IsFormulas (spec.IsFormulaOf (R.writes reader.now) setting) entry.now.1))
+        found.old result found.new }
 {
     let all = taint_items(alloc, reader, setting, &entry.1, found);
     within(alloc, entry.0.as_str(), all)
@@ -139,7 +144,8 @@ fn propagators_at<'v, R: PatternReader>(
     entry: &'v Entry,
     found: &mut Found<'v>,
 ) -> Result<List<Propagator>, Stop>
-    ensures { Reads (Below entry.now.0 (spec.IsPropagators (spec.IsFormulaOf (R.writes reader.now) setting) entry.now.1)) found.old result found.new }
+    ensures { Reads (Below entry.now.0 (spec.IsPropagators (spec.IsFormulaOf (R.writes reader.now) setting) entry.now.1))
+        found.old result found.new }
 {
     let all = propagators(alloc, reader, setting, &entry.1, found);
     within(alloc, entry.0.as_str(), all)
@@ -155,7 +161,8 @@ fn added<'v, R: PatternReader>(
     entry: &'v Entry,
     found: &mut Found<'v>,
 ) -> Result<TaintRule, Stop>
-    ensures { Reads (spec.IsAdded (spec.IsFormulaOf (R.writes reader.now) setting) rule entry.now (Some key)) found.old result found.new }
+    ensures { Reads (spec.IsAdded (spec.IsFormulaOf (R.writes reader.now) setting) rule entry.now (Some key))
+        found.old result found.new }
 {
     match key {
         TaintKey::Sources => {
@@ -188,7 +195,8 @@ fn taint<'v, R: PatternReader>(
     entries: &'v [Entry],
     found: &mut Found<'v>,
 ) -> Result<TaintRule, Stop>
-    ensures { Reads (spec.IsTaint (spec.IsFormulaOf (R.writes reader.now) setting) spec.no_taint entries.now) found.old result found.new }
+    ensures { Reads (spec.IsTaint (spec.IsFormulaOf (R.writes reader.now) setting) spec.no_taint entries.now)
+        found.old result found.new }
 {
     let mut rule = TaintRule {
         sources: List::new(alloc),
@@ -212,7 +220,8 @@ fn search<'v, R: PatternReader>(
     entries: &'v [Entry],
     found: &mut Found<'v>,
 ) -> Result<Body, Stop>
-    ensures { Reads (spec.IsBody (spec.IsFormulaOf (R.writes reader.now) setting) RuleMode.Search entries.now) found.old result found.new }
+    ensures { Reads (spec.IsBody (spec.IsFormulaOf (R.writes reader.now) setting) RuleMode.Search entries.now)
+        found.old result found.new }
 {
     let formula = one_formula(
         alloc,
@@ -235,7 +244,8 @@ fn body<'v, R: PatternReader>(
     entries: &'v [Entry],
     found: &mut Found<'v>,
 ) -> Result<Body, Stop>
-    ensures { Reads (spec.IsBody (spec.IsFormulaOf (R.writes reader.now) setting) mode entries.now) found.old result found.new }
+    ensures { Reads (spec.IsBody (spec.IsFormulaOf (R.writes reader.now) setting) mode entries.now)
+        found.old result found.new }
 {
     match mode {
         RuleMode::Search => search(alloc, reader, setting, entries, found),

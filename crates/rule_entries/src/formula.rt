@@ -65,7 +65,8 @@ pub fn formula<'v, R: PatternReader>(
     value: &'v YValue,
     found: &mut Found<'v>,
 ) -> Result<Formula, Stop>
-    ensures { Reads (spec.IsFormula room (IsLeaf (R.writes reader.now) setting) bare key value.now) found.old result found.new }
+    ensures { Reads (spec.IsFormula room (IsLeaf (R.writes reader.now) setting) bare key value.now)
+        found.old result found.new }
 {
     if room == 0 {
         return Err(Stop::Memory);
@@ -87,7 +88,8 @@ fn either<'v, R: PatternReader>(
     value: &'v YValue,
     found: &mut Found<'v>,
 ) -> Result<Formula, Stop>
-    ensures { let leaf = IsLeaf (R.writes reader.now) setting in Reads (spec.IsEither leaf (spec.IsFormula room leaf) value.now) found.old result found.new }
+    ensures { let leaf = IsLeaf (R.writes reader.now) setting in
+        Reads (spec.IsEither leaf (spec.IsFormula room leaf) value.now) found.old result found.new }
 {
     let items = items_of(alloc, value)?;
     let formulas = alternatives(alloc, reader, setting, room, items, found)?;
@@ -103,7 +105,8 @@ fn alternatives<'v, R: PatternReader>(
     items: &'v [YValue],
     found: &mut Found<'v>,
 ) -> Result<List<Formula>, Stop>
-    ensures { let leaf = IsLeaf (R.writes reader.now) setting in Reads (Each (AtPlace (spec.IsAlternative leaf (spec.IsFormula room leaf))) 0 items.now) found.old result found.new }
+    ensures { let leaf = IsLeaf (R.writes reader.now) setting in
+        Reads (Each (AtPlace (spec.IsAlternative leaf (spec.IsFormula room leaf))) 0 items.now) found.old result found.new }
 {
     let mut formulas = List::new(alloc);
     for (place, item) in items.iter().enumerate() {
@@ -124,7 +127,8 @@ fn alternative<'v, R: PatternReader>(
     item: &'v YValue,
     found: &mut Found<'v>,
 ) -> Result<Formula, Stop>
-    ensures { let leaf = IsLeaf (R.writes reader.now) setting in Reads (spec.IsAlternative leaf (spec.IsFormula room leaf) item.now) found.old result found.new }
+    ensures { let leaf = IsLeaf (R.writes reader.now) setting in
+        Reads (spec.IsAlternative leaf (spec.IsFormula room leaf) item.now) found.old result found.new }
 {
     let entries = map_of(alloc, Role::Alternative, item)?;
     let (key, entry) = one_of(alloc, Role::Alternative, entries)?;
@@ -143,7 +147,8 @@ fn alternative_at<'v, R: PatternReader>(
     value: &'v YValue,
     found: &mut Found<'v>,
 ) -> Result<Formula, Stop>
-    ensures { let leaf = IsLeaf (R.writes reader.now) setting in Reads (spec.IsAlternativeAt leaf (spec.IsFormula room leaf) key value.now) found.old result found.new }
+    ensures { let leaf = IsLeaf (R.writes reader.now) setting in
+        Reads (spec.IsAlternativeAt leaf (spec.IsFormula room leaf) key value.now) found.old result found.new }
 {
     match key {
         ChildKey::Formula(key) => formula(alloc, reader, setting, room, false, key, value, found),
@@ -164,7 +169,8 @@ pub fn one_formula<'v, R: PatternReader>(
     entries: &'v [Entry],
     found: &mut Found<'v>,
 ) -> Result<Formula, Stop>
-    ensures { Reads (spec.IsOne (spec.IsFormulaAt (spec.IsFormula room (IsLeaf (R.writes reader.now) setting)) bare) role entries.now) found.old result found.new }
+    ensures { Reads (spec.IsOne (spec.IsFormulaAt (spec.IsFormula room (IsLeaf (R.writes reader.now) setting)) bare) role entries.now)
+        found.old result found.new }
 {
     let (key, entry) = one_of(alloc, role, entries)?;
     let formula = formula_at(alloc, reader, setting, room, bare, key, &entry.1, found);
@@ -183,7 +189,8 @@ fn formula_at<'v, R: PatternReader>(
     value: &'v YValue,
     found: &mut Found<'v>,
 ) -> Result<Formula, Stop>
-    ensures { Reads (spec.IsFormulaAt (spec.IsFormula room (IsLeaf (R.writes reader.now) setting)) bare key value.now) found.old result found.new }
+    ensures { Reads (spec.IsFormulaAt (spec.IsFormula room (IsLeaf (R.writes reader.now) setting)) bare key value.now)
+        found.old result found.new }
 {
     match key {
         ChildKey::Formula(key) => formula(alloc, reader, setting, room, bare, key, value, found),
@@ -201,7 +208,8 @@ fn held<'v, R: PatternReader>(
     value: &'v YValue,
     found: &mut Found<'v>,
 ) -> Result<Formula, Stop>
-    ensures { let leaf = IsLeaf (R.writes reader.now) setting in Reads (spec.IsHeld leaf (spec.IsFormula room leaf) value.now) found.old result found.new }
+    ensures { let leaf = IsLeaf (R.writes reader.now) setting in
+        Reads (spec.IsHeld leaf (spec.IsFormula room leaf) value.now) found.old result found.new }
 {
     if let Some(text) = text_of(value) {
         return leaf(alloc, reader, setting, text, found);
@@ -219,7 +227,8 @@ pub fn mapped<'v, R: PatternReader>(
     value: &'v YValue,
     found: &mut Found<'v>,
 ) -> Result<Formula, Stop>
-    ensures { Reads (spec.IsMapped (spec.IsFormula room (IsLeaf (R.writes reader.now) setting)) value.now) found.old result found.new }
+    ensures { Reads (spec.IsMapped (spec.IsFormula room (IsLeaf (R.writes reader.now) setting)) value.now)
+        found.old result found.new }
 {
     let entries = map_of(alloc, Role::Formula, value)?;
     one_formula(
@@ -244,7 +253,8 @@ fn patterns<'v, R: PatternReader>(
     value: &'v YValue,
     found: &mut Found<'v>,
 ) -> Result<Formula, Stop>
-    ensures { let leaf = IsLeaf (R.writes reader.now) setting in Reads (spec.IsPatterns leaf (spec.IsFormula room leaf) bare value.now) found.old result found.new }
+    ensures { let leaf = IsLeaf (R.writes reader.now) setting in
+        Reads (spec.IsPatterns leaf (spec.IsFormula room leaf) bare value.now) found.old result found.new }
 {
     let items = items_of(alloc, value)?;
     let children = children(alloc, reader, setting, room, items, found)?;
@@ -260,7 +270,8 @@ fn children<'v, R: PatternReader>(
     items: &'v [YValue],
     found: &mut Found<'v>,
 ) -> Result<List<Child>, Stop>
-    ensures { let leaf = IsLeaf (R.writes reader.now) setting in Reads (Each (AtPlace (spec.IsChild leaf (spec.IsFormula room leaf))) 0 items.now) found.old result found.new }
+    ensures { let leaf = IsLeaf (R.writes reader.now) setting in
+        Reads (Each (AtPlace (spec.IsChild leaf (spec.IsFormula room leaf))) 0 items.now) found.old result found.new }
 {
     let mut children = List::new(alloc);
     for (place, item) in items.iter().enumerate() {
@@ -310,7 +321,8 @@ fn child<'v, R: PatternReader>(
     item: &'v YValue,
     found: &mut Found<'v>,
 ) -> Result<Child, Stop>
-    ensures { let leaf = IsLeaf (R.writes reader.now) setting in Reads (spec.IsChild leaf (spec.IsFormula room leaf) item.now) found.old result found.new }
+    ensures { let leaf = IsLeaf (R.writes reader.now) setting in
+        Reads (spec.IsChild leaf (spec.IsFormula room leaf) item.now) found.old result found.new }
 {
     let entries = map_of(alloc, Role::Child, item)?;
     let (key, entry) = one_of(alloc, Role::Child, entries)?;
@@ -329,7 +341,8 @@ fn child_at<'v, R: PatternReader>(
     value: &'v YValue,
     found: &mut Found<'v>,
 ) -> Result<Child, Stop>
-    ensures { let leaf = IsLeaf (R.writes reader.now) setting in Reads (spec.IsChildAt leaf (spec.IsFormula room leaf) key value.now) found.old result found.new }
+    ensures { let leaf = IsLeaf (R.writes reader.now) setting in
+        Reads (spec.IsChildAt leaf (spec.IsFormula room leaf) key value.now) found.old result found.new }
 {
     match key {
         ChildKey::Formula(key) => {
@@ -401,7 +414,8 @@ fn meta_pattern<'v, R: PatternReader>(
     value: &'v YValue,
     found: &mut Found<'v>,
 ) -> Result<Child, Stop>
-    ensures { Reads (spec.IsMetaPattern (spec.IsFormula room (IsLeaf (R.writes reader.now) setting)) value.now) found.old result found.new }
+    ensures { Reads (spec.IsMetaPattern (spec.IsFormula room (IsLeaf (R.writes reader.now) setting)) value.now)
+        found.old result found.new }
 {
     let entries = map_of(alloc, Role::MetaPattern, value)?;
     let name = required_name(alloc, entries, "metavariable")?;
@@ -427,7 +441,8 @@ pub fn propagator<'v, R: PatternReader>(
     item: &'v YValue,
     found: &mut Found<'v>,
 ) -> Result<Propagator, Stop>
-    ensures { Reads (spec.IsPropagator (spec.IsFormula room (IsLeaf (R.writes reader.now) setting)) item.now) found.old result found.new }
+    ensures { Reads (spec.IsPropagator (spec.IsFormula room (IsLeaf (R.writes reader.now) setting)) item.now)
+        found.old result found.new }
 {
     let entries = map_of(alloc, Role::Propagator, item)?;
     let formula = one_formula(

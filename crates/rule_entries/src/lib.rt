@@ -1,4 +1,4 @@
-//! From the value of a YAML text to rules, or to the first fault of each entry that is none, over whatever reads patterns.
+//! From the value of a YAML text to rules, or to the first fault of each entry that is none, whatever reads patterns.
 //!
 //! The contracts speak of the relation that a [`PatternReader`] writes patterns by, so they hold for all languages.
 //!

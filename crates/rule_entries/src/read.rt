@@ -150,7 +150,8 @@ fn with_id<'v, R: PatternReader>(
     entries: &'v [Entry],
     taken: &mut BTreeSet<&'v str>,
 ) -> Result<RuleOutcome, Memory>
-    ensures { (ids : list (list ℕ)) → spec.Tells taken.old ids → spec.Comes ids (spec.IsOutcomeOf (R.writes reader.now) ids place entries.now (Ok id.now)) result taken.new }
+    ensures { (ids : list (list ℕ)) → spec.Tells taken.old ids →
+        spec.Comes ids (spec.IsOutcomeOf (R.writes reader.now) ids place entries.now (Ok id.now)) result taken.new }
 {
     match rule(alloc, reader, id, entries) {
         Ok(rule) => unless_taken(alloc, place, id, rule, taken),
@@ -166,7 +167,8 @@ fn outcome<'v, R: PatternReader>(
     entry: &'v YValue,
     taken: &mut BTreeSet<&'v str>,
 ) -> Result<RuleOutcome, Memory>
-    ensures { (ids : list (list ℕ)) → spec.Tells taken.old ids → spec.Comes ids (spec.IsOutcome (R.writes reader.now) ids place entry.now) result taken.new }
+    ensures { (ids : list (list ℕ)) → spec.Tells taken.old ids →
+        spec.Comes ids (spec.IsOutcome (R.writes reader.now) ids place entry.now) result taken.new }
 {
     let Some(entries) = entries_of(entry) else {
         return bad(alloc, place, "", here(alloc, RuleFaultKind::WrongShape));
@@ -192,7 +194,8 @@ fn outcomes<R: PatternReader>(
     items: &[YValue],
 ) -> Result<List<RuleOutcome>, Memory>
     ensures found { IfOk result (spec.AreOutcomes (R.writes reader.now) [] 0 items.now) }
-    ensures only { (os : list an_outcome) → spec.AreOutcomes (R.writes reader.now) [] 0 items.now os → IfOk result (λ found. found ≡ os) }
+    ensures only { (os : list an_outcome) → spec.AreOutcomes (R.writes reader.now) [] 0 items.now os →
+        IfOk result (λ found. found ≡ os) }
 {
     let mut taken: BTreeSet<&str> = BTreeSet::new(alloc);
     let mut all = List::new(alloc);
@@ -203,15 +206,16 @@ fn outcomes<R: PatternReader>(
     Ok(all)
 }
 
-/// Reads the rules of a value: one outcome for each entry of the list that its key `rules` holds. Their patterns are read by
-/// `reader`. Fails where memory runs out, and with NoRules where there is no such list.
+/// Reads the rules of a value: one outcome for each entry of the list that its key `rules` holds. `reader` reads their
+/// patterns. Fails where memory runs out, and with NoRules where there is no such list.
 pub fn read_entries<R: PatternReader>(
     alloc: Global,
     reader: &R,
     value: &YValue,
 ) -> Result<List<RuleOutcome>, RulesFault>
     ensures found { IfOk result (spec.IsRulesOf (R.writes reader.now) value.now) }
-    ensures only { (os : list an_outcome) → spec.IsRulesOf (R.writes reader.now) value.now os → spec.GivesRules os result }
+    ensures only { (os : list an_outcome) → spec.IsRulesOf (R.writes reader.now) value.now os →
+        spec.GivesRules os result }
     ensures no_rules { result ≡ Err NoRules → spec.entries_in value.now ≡ None }
     ensures refused { spec.entries_in value.now ≡ None → spec.Refuses result }
 {

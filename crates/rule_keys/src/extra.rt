@@ -12,6 +12,7 @@ use node_tree::{List, Memory, Text};
 use std::alloc::Global;
 use yaml_read::YValue;
 
+/// The fix, if there is one: a text. Else the value of `fix` is of a wrong form.
 pub fn fix(alloc: Global, entries: &[Entry]) -> Result<Option<Text>, Stop>
     ensures { Fits (λ x. x) (spec.fix_of entries.now) result }
 {
@@ -93,6 +94,7 @@ fn globs_of(alloc: Global, paths: &[Entry]) -> Result<Paths, Stop>
     Ok(Paths { include, exclude })
 }
 
+/// The globs that `paths` lists under `include` and `exclude`, none where a key isn't there.
 pub fn paths_of(alloc: Global, entries: &[Entry]) -> Result<Paths, Stop>
     ensures { Fits (λ x. x) (spec.paths_of entries.now) result }
 {
@@ -170,6 +172,7 @@ fn unread_of(alloc: Global, options: &[Entry]) -> Result<List<Text>, Stop>
     Ok(all)
 }
 
+/// The names of the options that have no meaning here. `constant_propagation` must be `true` or `false` if it is there.
 pub fn options(alloc: Global, entries: &[Entry]) -> Result<List<Text>, Stop>
     ensures { Fits (λ x. x) (spec.unread_of entries.now) result }
 {

@@ -56,6 +56,7 @@ fn level_of(text: &str) -> Option<Severity>
     }
 }
 
+/// The severity that an entry must name: one of Semgrep's, older or newer.
 pub fn severity(alloc: Global, entries: &[Entry]) -> Result<Severity, Stop>
     ensures { Fits (λ x. x) (spec.severity_of entries.now) result }
 {
@@ -168,6 +169,7 @@ fn langs(alloc: Global, value: &YValue) -> Result<List<Lang>, Stop>
     listed_langs(alloc, items)
 }
 
+/// The languages that an entry must list: texts, one at least, each language once, and each one that is read here.
 pub fn languages(alloc: Global, entries: &[Entry]) -> Result<List<Lang>, Stop>
     ensures { Fits (λ x. x) (spec.languages entries.now) result }
 {

@@ -1,4 +1,5 @@
-//! What the keys of a rule hold, but for its formulas: names, texts, languages, paths and options, and what is wrong with a value.
+//! What the keys of a rule hold, but for its formulas: names, texts, languages, paths and options, and what is wrong with
+//! a value.
 //!
 //! Nothing here reads a pattern, so nothing here needs a language.
 #![tactic(auto)]

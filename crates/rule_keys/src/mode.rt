@@ -12,7 +12,9 @@ use std::alloc::Global;
 /// What a rule does with its patterns.
 #[derive(Clone, Copy, Debug, PartialEq, Eq)]
 pub enum RuleMode {
+    /// It finds what a formula matches.
     Search,
+    /// It follows what sources give to sinks.
     Taint,
 }
 
