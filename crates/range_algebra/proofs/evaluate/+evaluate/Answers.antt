@@ -10,7 +10,7 @@ use Rattle.range_algebra.specs.Trees.{tree_of, trees_of, branch_of, branches_of,
 use Rattle.range_algebra.specs.Parts.{has_operands, AreSetsOf, IsTakenAway}
 use Rattle.range_algebra.specs.Crowds.{Over, OverTrees, OverBranch, OverBranches}
 use Rattle.range_algebra.proofs.Layers.{tree_leaf, tree_regex, branch_positive, branch_inside, branch_not, branch_notinside, branch_notregex, branch_metapattern}
-use Rattle.range_algebra.proofs.Limits.{fault_out, fault_as}
+use Rattle.member_join.proofs.Limits.{fault_out, fault_as}
 use Rattle.range_algebra.proofs.Children.{OverEach, fault_in, walk_start, walk_step, walk_fault, walk_end, over_trees, over_branches, tree_sets, branch_parts, branch_taken, InTree, InBranch, IsTreeSet, IsBranchPart, IsBranchTaken}
 use Rattle.range_algebra.proofs.Formulas.{tree_is_any, tree_is_all, not_bare, has_one, none_there, set_by, over_by, fault_by, over_at, some_child_fault, all_child_fault, some_set, some_over, some_fault, all_over, all_fault, branch_part, branch_over, branch_fault, asked_part, asked_over, asked_fault, bare_part, bare_over, no_formula, part_taken}
 use Rattle.range_algebra.proofs.evaluate.+evaluate.Goals as goal
