@@ -15,7 +15,7 @@ use Rattle.member_join.specs.Joins.{IsNeeded}
 use Rattle.member_join.specs.Limits.{Search, IsFaultFrom}
 use Rattle.member_join.specs.Operands.{ChosenFrom, IsReached, IsGivenBy}
 use Rattle.member_join.proofs.Added.{needed_ends}
-use Rattle.member_join.proofs.Reaching.{fault_as}
+use Rattle.member_join.proofs.Limits.{fault_as}
 
 module _ (plains insides : List Operand) (states : List State) (exact : (s : State) → Among states s ↔ IsReached plains insides [] s) where
   given_met : (m : Member) → Any (IsGivenBy m) states → IsMet (ChosenFrom plains) (ChosenFrom insides) m

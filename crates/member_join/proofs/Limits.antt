@@ -50,9 +50,9 @@ fault_next First Next faults.Memory none h = tt
 fault_next First Next (faults.Crowded given) none h = inr (none, h)
 
 -- what one search finds another one finds too
-pub fault_as : (First Other : Search) → ((o : Option (List ℕ)) → First o → Other o) → (e : EvalFault) → IsFaultFrom First e → IsFaultFrom Other e
-fault_as First Other to faults.Memory h = tt
-fault_as First Other to (faults.Crowded numbers) h = to (Some (reverse numbers)) h
+pub fault_as : (A B : Search) → ((p : List ℕ) → A (Some p) → B (Some p)) → (e : EvalFault) → IsFaultFrom A e → IsFaultFrom B e
+fault_as A B same faults.Memory h = tt
+fault_as A B same (faults.Crowded given) h = same (reverse given) h
 
 pub if_fault_more : {A X : Type 0} (name : List ℕ) (P Q : X → Type 0) → ((x : X) → P x → Q x) → (r : Result A EvalFault) → IfErr r (IsFaultFrom (OneSet name P)) → IfErr r (IsFaultFrom (OneSet name Q))
 if_fault_more name P Q to (Ok a) h = tt

@@ -19,7 +19,7 @@ use Rattle.member_join.specs.Limits.{Search, Nothing, Then, OneSet, IsFaultFrom}
 use Rattle.member_join.specs.Operands.{Ascends, OperandsAscend, ChosenFrom, IsReached, IsBegun, WithBytes, PlainFronts, InsideFronts, Fronts}
 use Rattle.member_join.proofs.Names.{AllAscend, none_ascend, first_ascends}
 use Rattle.member_join.proofs.Choosing.{Splits, IsMore, AllSome, span_is, and_both, or_one, same_range_is, plain_to, plain_from, inside_to, inside_from, begun_to, begun_from}
-use Rattle.member_join.proofs.Limits.{one_set_as}
+use Rattle.member_join.proofs.Limits.{one_set_as, fault_as}
 
 -- ---- lists of one member of each operand
 
@@ -190,10 +190,6 @@ then_deeper : (A B C : Search) → A None → (o : Option (List ℕ)) → Then B
 then_deeper A B C a None h = ((a, h.0), h.1)
 then_deeper A B C a (Some p) (inl b) = inl (inr (a, b))
 then_deeper A B C a (Some p) (inr h) = inr ((a, h.0), h.1)
-
-pub fault_as : (A B : Search) → ((p : List ℕ) → A (Some p) → B (Some p)) → (e : EvalFault) → IsFaultFrom A e → IsFaultFrom B e
-fault_as A B same faults.Memory h = tt
-fault_as A B same (faults.Crowded given) h = same (reverse given) h
 
 -- ---- the loop over the plain operands
 
