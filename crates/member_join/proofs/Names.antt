@@ -1,5 +1,5 @@
 -- The names of all members of a choice stand in order.
-use Rattle.std.proofs.Common.{◌≡◌, inl, inr, List, [], ◌∷◌, map, refl, sym, subst}
+use Rattle.std.proofs.Common.{inl, inr, List, [], ◌∷◌, map, refl, sym, subst}
 use Rattle.meta_bind.specs.declared.bound.Bound.{Bound}
 use Rattle.meta_bind.specs.declared.join.Keep.TheVariants.{Later, First}
 use Rattle.meta_bind.specs.Bounds.{NamesAscend}

@@ -1,5 +1,5 @@
 -- The states of the operands, one operand after another.
-use Rattle.std.proofs.Common.{◌≡◌, ◌⊎◌, ◌↔◌, ◌≤◌, ◌<◌, inl, inr, ℕ, zero, suc, ◌+◌, List, [], ◌∷◌, ◌++◌, length, map, take, drop, get_or, reverse, refl, sym, ap, ◌∙◌, subst, true, arith}
+use Rattle.std.proofs.Common.{◌≡◌, ◌⊎◌, ◌↔◌, ◌≤◌, ◌<◌, inl, inr, ℕ, zero, suc, ◌+◌, List, [], ◌∷◌, ◌++◌, length, map, take, drop, get_or, refl, sym, ap, ◌∙◌, subst, true, arith}
 use Rattle.std.specs.Prelude.{Option, None, Some, max, min, ◌&&◌}
 use Rattle.std.proofs.lemmas.List.{append-nil, take-append-drop, take_more, drop_all}
 use Rattle.node_tree.specs.declared.span.Span.{Span}

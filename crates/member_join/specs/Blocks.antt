@@ -1,5 +1,5 @@
 -- Members in blocks, and what is known of all members of a block.
-use Rattle.std.specs.Prelude.{◌≡◌, ◌↔◌, ◌≤◌, List, false, map, MatchOption}
+use Rattle.std.specs.Prelude.{◌≡◌, ◌≤◌, List, false, map, MatchOption}
 use Rattle.std.specs.declared.cmp.Ordering.{Ordering}
 use Rattle.std.specs.Ordering.{is_lt}
 use Rattle.std.specs.Cmp.Lexicographic.{slice_cmp}

@@ -1,5 +1,5 @@
 -- One operand more to a choice, step by step.
-use Rattle.std.specs.Prelude.{◌≡◌, ◌⊎◌, ◌<◌, ◌≤◌, List, [], Bool, true, max, min, nat_eq, ◌&&◌, ◌||◌}
+use Rattle.std.specs.Prelude.{◌≡◌, ◌⊎◌, List, [], Bool, true, max, min, nat_eq, ◌&&◌, ◌||◌}
 use Rattle.std.specs.declared.cmp.Ordering.{Ordering}
 use Rattle.std.specs.Ordering.{ordering_then, bool_cmp}
 use Rattle.node_tree.specs.declared.span.Span.{Span}

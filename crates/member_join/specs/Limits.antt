@@ -1,5 +1,5 @@
 -- The first of some sets that has more than 10,000 members.
-use Rattle.std.specs.Prelude.{◌≡◌, ◌⊎◌, ℕ, List, [], ◌∷◌, Option, None, Some, reverse}
+use Rattle.std.specs.Prelude.{◌≡◌, ◌⊎◌, ℕ, List, Option, None, Some, reverse}
 use Rattle.tree_match.specs.declared.leaf.Leaf.TheVariants.{Crowded}
 use Rattle.member_join.specs.declared.fault.EvalFault.{EvalFault}
 use Rattle.member_join.specs.declared.fault.EvalFault.TheVariants as faults

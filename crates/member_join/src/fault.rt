@@ -1,4 +1,4 @@
-//! Why a formula has no set.
+//! Why there is no set of members.
 
 ghost use Rattle.std.specs.Prelude.{◌≡◌};
 ghost use Rattle.member_join.specs.declared.fault.EvalFault.TheVariants.{Memory as no_memory};
@@ -6,7 +6,7 @@ ghost use Rattle.member_join.specs.declared.fault.EvalFault.TheVariants.{Memory 
 use node_tree::{List, Memory};
 use std::alloc::{AllocError, AllocFailed};
 
-/// Why a formula has no set of members.
+/// Why there is no set of members.
 #[derive(Drop)]
 pub enum EvalFault {
     Memory,

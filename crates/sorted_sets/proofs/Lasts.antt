@@ -1,5 +1,5 @@
 -- Lists with one item more at the end.
-use Rattle.std.proofs.Common.{◌≡◌, ◌⊎◌, ◌≤◌, ◌<◌, inl, inr, List, [], ◌∷◌, ◌++◌, refl, ◌∙◌, subst}
+use Rattle.std.proofs.Common.{◌≡◌, ◌⊎◌, inl, inr, List, [], ◌∷◌, ◌++◌, refl, subst}
 use Rattle.tree_match.specs.Sets.{Among}
 use Rattle.sorted_sets.specs.Sizes.{Each}
 

@@ -176,8 +176,3 @@ module _ {X : Type 0} (R : X → X → Ordering) (o : IsTotalOrder R) (apart : (
           let Q : List X → Type 0 = λ ys. Among ys x in
           subst P (sym same) (stays (subst Q (sym ends.1) (among_end ends.0 x)))
       at (inr (other, new)) = let P : List X → Type 0 = λ ys. Settling all left' ys in subst P (sym new) (goes other)
-
-  pub settle_end : (all left out : List X) → left ≡ [] → Settling all left out → (x : X) → Among out x ↔ Among all x
-  settle_end all left out e s x =
-      let P : List X → Type 0 = λ ys. Among ys x in
-      (λ h. (s.whole x).0 (inl h), λ h. elim ((s.whole x).1 h) [ inl k ↦ k | inr k ↦ absurd (subst P e k) ])

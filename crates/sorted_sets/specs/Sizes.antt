@@ -1,5 +1,5 @@
 -- How many members a set has.
-use Rattle.std.specs.Prelude.{◌≡◌, ◌≤◌, ◌<◌, ℕ, List, [], ◌∷◌, length}
+use Rattle.std.specs.Prelude.{◌≤◌, ◌<◌, ℕ, List, [], ◌∷◌, length}
 use Rattle.tree_match.specs.Sets.{Among}
 
 -- what holds of each of the items

@@ -1,4 +1,5 @@
 use Rattle.std.proofs.Common.{◌↔◌, ◌⊎◌, List, ℕ}
+use Rattle.tree_match.specs.Members.{Member}
 use Rattle.tree_match.proofs.Sets.{gathered, gathered_all}
 use Rattle.range_algebra.specs.Meets.{IsShownAt}
 use Rattle.sorted_sets.proofs.Searches.{any_parted, any_end}
