@@ -1,5 +1,5 @@
 #!/usr/bin/env python3
-"""Reads files in C by the table of c_unit, and says by what those without a tree differ from the grammar.
+"""Reads files in C by the table of c_items, and says by what those without a tree differ from the grammar.
 
     tools/read_c.py [--all] PATH ..
 
@@ -14,11 +14,14 @@ import threading
 from collections import Counter
 from pathlib import Path
 
-import unit_sets
+from tables.rules import Again, Around, Both, Choose, Done, Either, Level, Loop, Mark, Maybe, Must
+from tables.sets import Sets
+from tables.table import Table
+from tables.terms import spec_file
 
 # ---- tokens
 
-SPELLINGS = dict(re.findall(r'text = codes "((?:\\.|[^"\\])*)"; word = (\w+)', (unit_sets.CRATES / 'c_expr/specs/Words.antt').read_text()))
+SPELLINGS = dict(re.findall(r'text = codes "((?:\\.|[^"\\])*)"; word = (\w+)', spec_file('c_expr', 'Words').read_text()))
 MARKS = sorted([s for s in SPELLINGS if not (s[0].isalpha() or s[0] == '_' or s in ('<...', '...>'))] + ['...'], key=len, reverse=True)
 TOKEN = re.compile(
     r'(?P<blank>[ \t\v\f\r\n]+|\\\r?\n|//[^\n]*|/\*.*?\*/)'
@@ -160,36 +163,47 @@ def of_loop(inner):
     return read
 
 
-def of_rule(rule, loop, sets, below):
-    kind = rule[0]
-    if kind == 'done':
-        return lambda reader, i: i
-    if kind == 'mark':
-        return of_token(classes(rule[1]))
-    if kind in ('ref', 'deep'):
-        return lambda reader, i: LEVELS[below + rule[1]](reader, i)
-    if kind == 'again':
-        return lambda reader, i: ('again', i)
-    if kind == 'rep':
-        return of_loop(of_rule(rule[2], rule[1], sets, below))
-    if kind == 'around':
-        inner = of_sequence(of_rule(rule[3], loop, sets, below), of_token(classes(rule[2])))
-        return of_sequence(of_token(classes(rule[1])), inner)
-    if kind == 'seq':
-        return of_sequence(*[of_rule(r, loop, sets, below) for r in rule[1:]])
-    if kind == 'choose':
-        yes, no = [of_rule(r, loop, sets, below) for r in rule[1:3]]
-        return lambda reader, i: (yes if getattr(reader, rule[4])(i) else no)(reader, i)
-    first, rest = (rule[2], None) if kind == 'must' else (rule[1], rule[2] if kind == 'alt' else None)
-    starts = classes(rule[1] if kind == 'must' else sets.first_of(loop, first))
-    yes, no = of_rule(first, loop, sets, below), of_rule(rest or ('done',), loop, sets, below)
-    return lambda reader, i: (yes if reader.at(i) in starts else no)(reader, i)
+def of_rule(rule, loop, sets, above):
+    """A rule as a function; `above` is what stands before the names of its levels in LEVELS."""
+    def inner(part):
+        return of_rule(part, loop, sets, above)
+
+    def first_tells(words, first, second):
+        yes, no = inner(first), inner(second)
+        return lambda reader, i: (yes if reader.at(i) in words else no)(reader, i)
+
+    match rule:
+        case Done():
+            return lambda reader, i: i
+        case Mark(found):
+            return of_token(classes(found))
+        case Level(name):
+            return lambda reader, i: LEVELS[above + name](reader, i)
+        case Again():
+            return lambda reader, i: ('again', i)
+        case Loop(name, turn):
+            return of_loop(of_rule(turn, name, sets, above))
+        case Around(opens, closes, middle):
+            return of_sequence(of_token(classes(opens)), of_sequence(inner(middle), of_token(classes(closes))))
+        case Both(first, second):
+            return of_sequence(inner(first), inner(second))
+        case Choose(yes, no, test):
+            return lambda reader, i, yes=inner(yes), no=inner(no): (yes if getattr(reader, test)(i) else no)(reader, i)
+        case Must(words, part):
+            return first_tells(classes(words), part, Done())
+        case Maybe(part):
+            return first_tells(classes(sets.first_of(loop, part)), part, Done())
+        case Either(first, second):
+            return first_tells(classes(sets.first_of(loop, first)), first, second)
 
 
 def prepare():
-    below, below_sets, table, sets = unit_sets.tables()
-    for level, row in below.rows.items():
-        LEVELS[unit_sets.KNOWN + level] = of_rule(row, None, below_sets, unit_sets.KNOWN)
+    """Fills LEVELS with the levels of c_items, and with those of c_expr by the name that c_items has for them."""
+    table = Table(spec_file('c_items', 'Table'))
+    sets = Sets(table)
+    for level, row in table.below.rows.items():
+        above = table.alias + '.'
+        LEVELS[above + level] = of_rule(row, None, sets.below, above)
     for level, row in table.rows.items():
         LEVELS[level] = of_rule(row, None, sets, '')
 

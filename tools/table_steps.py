@@ -1,21 +1,25 @@
 #!/usr/bin/env python3
-"""Writes the lemmas by which a reader's functions are proved to go by a grammar's table.
+"""Writes a first version of the lemmas by which a reader's functions are proved to go by a grammar's table.
 
-    tools/table_steps.py crates/NAME/specs/DIR/Table.antt [MODE..]
+    tools/table_steps.py crates/NAME/specs/Table.antt [MODE..]
 
-writes proofs/DIR/Passes.antt, the check of each row by computing (and of closed runs, for each MODE of specs/DIR/Reading.antt;
-with the tests of Sets.antt, where the table has an `automaton`),
-and proofs/DIR/Steps.antt: for each level what it reads in one step, and for each loop what it still reads in so many rounds.
-It wants `source` and `build` in Build.antt, `sets` and `ranks` in Sets.antt, `level` in Reading.antt and `token_at` in Token.antt
-beside the table. A loop stands in a row as `[make b] (p · rep Loop round)` or `opt (p · rep Loop round)`, where p is a level and `round` an abbreviation of the table;
-for a row of another shape the one step is written, and what its loop reads is to be said by hand.
+writes crates/NAME/proofs/Passes.antt, the check of each row by computing (and of closed runs, for each MODE of specs/Reading.antt;
+with the tests of Sets.antt, where the table has an `automaton`), and crates/NAME/proofs/Steps.antt: for each level what it reads
+in one step, and for each loop what it still reads in so many rounds.
+Both files are then worked on by hand, as all that stand in the repository have been: levels that the reader has no function
+for go, and lemmas of rows alike become one. So they are not made anew, and a file that is there is not written over.
+It wants `source` and `build` in Build.antt, `sets` and `ranks` in Sets.antt, and `level` in Reading.antt beside a table that
+stands alone. A loop stands in a row as `[make b] (p · rep Loop round)` or `opt (p · rep Loop round)`, where p is a level and
+`round` an abbreviation of the table; for a row of another shape the one step is written, and what its loop reads is to be said by hand.
 Both files are proved like any other: nothing that is made here is trusted.
 """
 import re
 import sys
 from pathlib import Path
 
-from table_sets import Parser, Table, definitions, show
+from tables.rules import choices_in
+from tables.table import Table
+from tables.terms import module_of, parsed, show
 
 FUEL = 30
 BIND = '◌>>=◌ {B = List N × ℕ}'
@@ -27,30 +31,35 @@ def snake(level):
 
 def loop_row(term):
     """(kind, builder, first level, loop, round) of a row with a loop at its end, or None."""
-    head, args = term
+    head, arguments = term
     if head in ('make', 'opt'):
-        inner = loop_row(args[-1])
+        inner = loop_row(arguments[-1])
         if inner and inner[0] == 'plain':
-            return (head, show(args[0]) if head == 'make' else None) + inner[2:]
+            return (head, show(arguments[0]) if head == 'make' else None) + inner[2:]
         return None
-    if head == 'seq' and args[0][0] == 'ref' and args[1][0] == 'rep':
-        loop, body = args[1][1]
-        return ('plain', None, args[0][1][0][0], loop[0], show(body))
+    if head == 'seq' and arguments[0].head == 'ref' and arguments[1].head == 'rep':
+        loop, body = arguments[1].arguments
+        return ('plain', None, arguments[0].arguments[0].head, loop.head, show(body))
     return None
 
 
 def has_loop(term):
-    return term[0] == 'rep' or any(has_loop(a) for a in term[1])
+    return term.head == 'rep' or any(has_loop(a) for a in term.arguments)
 
 
 def steps_of(level, term):
+    """The lemmas of a level that is no loop."""
     name, shape = snake(level), loop_row(term)
     zero = [f'pub {name}_zero : (ts : List Token) (room i : ℕ) → room ≡ zero → level ts room {level} i ≡ None',
             f'{name}_zero ts room i h = level_zero ts room {level} i h', '']
     if not shape:
         return zero + [f'pub {name}_step : (ts : List Token) (room i : ℕ) → zero < room → level ts room {level} i ≡ row ts room (table {level}) i',
                        f'{name}_step ts room i h = level_row ts room {level} i h', '']
-    kind, builder, first, loop, body = shape
+    return loop_steps(name, level, *shape, zero)
+
+
+def loop_steps(name, level, kind, builder, first, loop, body, zero):
+    """The lemmas of a level whose row has a loop at its end."""
     again = f'read (source ts) sets (suc (length ts)) (rungs ts room) X (Some {loop}) {body}'
     nodes = f'build ts {builder} i y.1 (x.0 ++ y.0)' if kind == 'make' else 'x.0 ++ y.0'
     reads = f'{BIND} (level ts room {first} i) (λ x. {BIND} ({name}_rest ts room (suc (length ts)) x.1) (λ y. Some ({nodes}, y.1)))'
@@ -74,11 +83,11 @@ def steps_of(level, term):
 
 
 def declared(rule):
-    count = str(rule).count("'choose'")
+    count = len(choices_in(rule))
     return ', '.join(['((automaton.most, omega arith, λ f i. refl)'] * count + ['record {}' + ')' * count]) if count else 'record {}'
 
 
-HEAD = '''-- The reader of a level, one step; made by tools/table_steps.py.
+HEAD = '''-- The reader of a level, one step; first written by tools/table_steps.py.
 use Rattle.std.proofs.Common.{◌≡◌, ℕ, zero, suc, ◌-◌, ◌<◌, List, [], ◌∷◌, ◌++◌, length, refl, ap, ◌∙◌, arith, Option, Some, None, cond}
 use Rattle.std.specs.Prelude.{Bool}
 TOKENS
@@ -110,50 +119,66 @@ level_row ts room l i h = room_step (source ts) sets (suc (length ts)) grammar r
 '''
 
 
-def main():
-    path, modes = Path(sys.argv[1]).resolve(), sys.argv[2:]
-    text = path.read_text()
-    table, rows = Table(text), definitions(text)[1]
-    crate = re.search(r'crates/([^/]+)/specs/', str(path))[1]
-    place = str(path).split('/specs/')[1].removesuffix('/Table.antt')
-    module = f'Rattle.{crate}.specs.{place.replace("/", ".")}'
-    proofs = f'Rattle.{crate}.proofs.{place.replace("/", ".")}'
-    build = path.with_name('Build.antt').read_text()
-    tree = re.search(r'^source : List \w+ → Source \w+ \w+ (\w+)|source : List \w+ → Source \w+ \w+ (\w+)', build)
-    node = next(g for g in tree.groups() if g)
-    uses = [l for l in build.split('\n') if l.startswith('use ') and re.search(r'\{[^}]*\b(Token|' + node + r')\b', l)]
-    uses = [re.sub(r'\.\{.*', '.{' + ', '.join(n for n in ('Token', node) if re.search(r'\b' + n + r'\b', l.split('{')[1])) + '}', l) for l in uses]
-    levels = ', '.join(rows)
-    loops = [l for l in rows if l in table.loops]
-    shapes = {l: Parser(rows[l]).infix() for l in rows}
-    tested = 'automaton' in table.names
-    found = [loop_row(t) for t in shapes.values() if loop_row(t)]
+def tree_imports(build):
+    """What a reader's nodes are, and the imports of these and of tokens, by the text of Build.antt."""
+    node = re.search(r'^(?:unfoldable pub |abbrev pub |pub )?source : List \w+ → Source \w+ \w+ (\w+)', build, re.M)[1]
+    uses = []
+    for line in build.split('\n'):
+        names = [name for name in ('Token', node) if line.startswith('use ') and re.search(r'\{[^}]*\b' + name + r'\b', line)]
+        uses += [re.sub(r'\.\{.*', '.{' + ', '.join(names) + '}', line)] if names else []
+    return node, uses
+
+
+def steps_file(table, module):
+    """The text of Steps.antt."""
+    node, uses = tree_imports(table.path.with_name('Build.antt').read_text(encoding='utf-8'))
+    shapes = {level: parsed(row) for level, row in table.given.rows.items()}
+    found = [loop_row(term) for term in shapes.values() if loop_row(term)]
     named = sorted({f[4] for f in found} | {f[1] for f in found if f[1]})
-    out = HEAD.replace('TOKENS', '\n'.join(uses)).replace('MODULE', module).replace('PROOFS', proofs).replace('LEVELS', levels)
-    out = out.replace('NAMES', ''.join(', ' + n for n in named))
-    lines = out.split('\n')
-    for level in rows:
-        if level not in loops:
-            lines += steps_of(level, shapes[level])
-            if has_loop(shapes[level]) and not loop_row(shapes[level]):
+    head = HEAD.replace('TOKENS', '\n'.join(uses)).replace('MODULE', module).replace('PROOFS', module.replace('.specs', '.proofs'))
+    lines = head.replace('LEVELS', ', '.join(shapes)).replace('NAMES', ''.join(', ' + n for n in named)).split('\n')
+    for level, term in shapes.items():
+        if level not in table.loops:
+            lines += steps_of(level, term)
+            if has_loop(term) and not loop_row(term):
                 print(f'{level}: say by hand what its loop reads')
-    target = Path(str(path).split('/specs/')[0]) / 'proofs' / place
-    target.mkdir(parents=True, exist_ok=True)
-    (target / 'Steps.antt').write_text('\n'.join(lines).replace('List N ', f'List {node} ').rstrip() + '\n')
-    passes = ['-- The table passes the checks; made by tools/table_steps.py.', 'use Rattle.std.specs.Prelude.{◌≡◌, ℕ, Bool, true}',
-              f'use Rattle.std.proofs.Common.{{refl{", arith" if tested else ""}}}', f'use Rattle.grammar.specs.Check.{{passes, {"closes" if tested else "closes_runs"}}}', f'use {module}.Token.{{class}}',
-              f'use {module}.Table.{{Level, {levels}, grammar{", automaton" if tested else ""}}}', f'use {module}.Sets.{{sets, ranks{", tests" if tested else ""}}}']
+    return '\n'.join(lines).replace('List N ', f'List {node} ').rstrip() + '\n'
+
+
+def passes_file(table, module, modes):
+    """The text of Passes.antt."""
+    tested = 'automaton' in table.given.own
+    levels, closes = ', '.join(table.rows), 'closes' if tested else 'closes_runs'
+    lines = ['-- The table passes the checks; first written by tools/table_steps.py.', 'use Rattle.std.specs.Prelude.{◌≡◌, ℕ, Bool, true}',
+             f'use Rattle.std.proofs.Common.{{refl{", arith" if tested else ""}}}', f'use Rattle.grammar.specs.Check.{{passes, {closes}}}',
+             *[re.sub(r'\{.*', '{class}', line) for line in table.given.text.split('\n') if re.match(r'use .*[{ ]class[,}]', line)],
+             f'use {module}.Table.{{Level, {levels}, grammar{", automaton" if tested else ""}}}',
+             f'use {module}.Sets.{{sets, ranks{", tests" if tested else ""}}}']
+    lines += ['use Rattle.grammar.specs.Tests.{Declared}'] if tested else []
+    lines += [f'use {module}.Reading.{{{", ".join(modes)}}}'] if modes else []
+    closed = f'{closes} grammar sets ranks{" tests" if tested else ""}'
+    for name, claim in [('pass', 'passes grammar sets ranks l')] + [(f'close_{m}', f'{closed} {m} {FUEL} l') for m in modes]:
+        lines += ['', f'pub {name} : (l : Level) → {claim} ≡ true', 'unfolding class'] + [f'{name} {l} = refl' for l in table.rows]
     if tested:
-        passes.append('use Rattle.grammar.specs.Tests.{Declared}')
-    if modes:
-        passes.append(f'use {module}.Reading.{{{", ".join(modes)}}}')
-    closes = 'closes grammar sets ranks tests' if tested else 'closes_runs grammar sets ranks'
-    for name, claim in [('pass', 'passes grammar sets ranks l')] + [(f'close_{m}', f'{closes} {m} {FUEL} l') for m in modes]:
-        passes += ['', f'pub {name} : (l : Level) → {claim} ≡ true', 'unfolding class'] + [f'{name} {l} = refl' for l in rows]
-    if tested:
-        passes += ['', '-- each test in a row is the one that is declared of it', 'pub declared : (l : Level) → Declared tests l (grammar.table l)']
-        passes += [f'declared {l} = ' + declared(table.rows[l]) for l in rows]
-    (target / 'Passes.antt').write_text('\n'.join(passes) + '\n')
+        lines += ['', '-- each test in a row is the one that is declared of it', 'pub declared : (l : Level) → Declared tests l (grammar.table l)']
+        lines += [f'declared {l} = ' + declared(row) for l, row in table.rows.items()]
+    return '\n'.join(lines) + '\n'
+
+
+def main():
+    if len(sys.argv) < 2:
+        sys.exit(__doc__)
+    table, modes = Table(Path(sys.argv[1])), sys.argv[2:]
+    if table.below:
+        sys.exit('the lemmas of a table over another are written by hand')
+    module = module_of(table.path).removesuffix('.Table')
+    proofs, there = table.path.parent.parent / 'proofs', []
+    for name, text in (('Steps.antt', steps_file(table, module)), ('Passes.antt', passes_file(table, module, modes))):
+        if (proofs / name).exists():
+            there.append(f'{proofs / name} is there, and was left alone')
+        else:
+            (proofs / name).write_text(text, encoding='utf-8')
+    sys.exit('\n'.join(there) or 0)
 
 
 if __name__ == '__main__':

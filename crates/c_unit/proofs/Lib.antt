@@ -1,10 +1,3 @@
-pub mod Passes
-pub mod Steps
-pub mod Rounds
-pub mod Nested
-pub mod Curlies
-pub mod Alike
 pub mod Wholes
 pub mod Placing
 pub mod Patterns
-pub mod Pieces

@@ -16,7 +16,7 @@ use Rattle.c_expr.specs.declared.word.Token.{Token}
 use Rattle.c_expr.specs.declared.part.Part.{Part}
 use Rattle.c_expr.specs.Words.{token_of}
 use Rattle.c_expr.specs.Build.{node, nodes}
-use Rattle.c_unit.specs.Table.{Items, File}
+use Rattle.c_items.specs.Table.{Items, File}
 use Rattle.c_unit.specs.Units.{AreWords, IsExpression, IsRun, IsPatternOf, expression, items, file_items}
 
 -- ---- tokens

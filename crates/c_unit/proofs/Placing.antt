@@ -27,10 +27,10 @@ use Rattle.c_expr.specs.Build.{node, nodes, span_between}
 use Rattle.c_expr.specs.Spells.{ArePlaced, PartsLieIn}
 use Rattle.c_expr.proofs.Ends.{goes_on, placed, ends_within, no_end as known_no_end}
 use Rattle.c_expr.proofs.Spans.{derived_lie, span_lies}
-use Rattle.c_unit.specs.Table.{Level, Expression, File, FileItem, Invocation, Invoked, External, Function, Declaration, Declared, VarsTail, Items, Item, Directive, DotsItem, Block, Sub, Labelled, Mark, Label, Case, Default, Statement, Simple, If, While, DoWhile, ForC, ForParts, ForStart, Switch, Return, Jump, Goto, Empty, Evaluated, same, table, grammar}
-use Rattle.c_unit.specs.Sets.{sets, ranks}
+use Rattle.c_items.specs.Table.{Level, Expression, File, FileItem, Invocation, Invoked, External, Function, Declaration, Declared, VarsTail, Items, Item, Directive, DotsItem, Block, Sub, Labelled, Mark, Label, Case, Default, Statement, Simple, If, While, DoWhile, ForC, ForParts, ForStart, Switch, Return, Jump, Goto, Empty, Evaluated, same, table, grammar}
+use Rattle.c_items.specs.Sets.{sets, ranks}
 use Rattle.c_unit.specs.Units.{IsAll, IsExpression, IsRun, IsPatternOf, expression, items, file_items}
-use Rattle.c_unit.proofs.Passes.{pass}
+use Rattle.c_items.proofs.Passes.{pass}
 
 -- ---- no token of a piece is the end
 

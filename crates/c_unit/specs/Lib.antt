@@ -1,5 +1,1 @@
-pub mod Settling
-pub mod Table
-pub mod Sets
-pub mod Reading
 pub mod Units

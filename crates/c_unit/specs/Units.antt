@@ -17,7 +17,7 @@ use Rattle.c_expr.specs.Table.{Comma}
 use Rattle.c_expr.specs.Build.{token_at, tallest, source, node, nodes, span_between}
 use Rattle.c_unit.specs.declared.whole.Whole.{Whole}
 use Rattle.c_unit.specs.declared.whole.Whole.TheVariants as wholes
-use Rattle.c_unit.specs.Table.{Level, Expression, Items, File, grammar}
+use Rattle.c_items.specs.Table.{Level, Expression, Items, File, grammar}
 
 -- the tokens of a text, with their words in a mode
 pub record AreWords (mode : Mode) (text : List ℕ) (ts : List Token) : Type 0 where

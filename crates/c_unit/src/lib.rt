@@ -1,20 +1,7 @@
-//! C's declarations, statements and files: from a text to its tree, and from a pattern to its shape and tree.
-//!
-//! The grammar is a table over the levels of expressions (`specs/Table.antt`), a row for each line of it.
+//! C's files and patterns: from a text to its tree, and from a pattern to its shape and tree.
 #![tactic(auto)]
 
-mod declarations;
-mod dots;
-mod file;
-mod functions;
-mod items;
-mod look;
-mod loops;
-mod make;
-mod parts;
 mod pattern;
-mod settle;
-mod statements;
 mod unit;
 mod whole;
 

@@ -7,9 +7,10 @@ ghost use Rattle.node_tree.specs.declared.node.Node.{Node as a_node};
 ghost use Rattle.node_tree.specs.declared.view.Shape.{Shape as a_shape};
 ghost use Rattle.c_unit.specs.Units.{level_of, IsExpression, IsRun, IsPattern};
 
-use crate::unit::{ITEM_DEPTH, lexed, nodes_of};
+use crate::unit::{ITEM_DEPTH, lexed};
 use crate::whole::{Whole, read_whole};
 use c_expr::{Token, classified, span_at};
+use c_items::nodes_of;
 use node_tree::{Kind, Mode, Node, ReadFault, Shape, Text};
 use std::alloc::Global;
 

@@ -7,13 +7,13 @@ ghost use Rattle.node_tree.specs.declared.node.Node.{Node as a_node};
 ghost use Rattle.c_lex.specs.declared.token.CToken.{CToken as c_token};
 ghost use Rattle.c_lex.specs.Lexing.{IsTokensOf};
 ghost use Rattle.c_lex.specs.Places.{AreTokensIn};
-ghost use Rattle.c_expr.specs.Build.{nodes};
 ghost use Rattle.c_unit.specs.Units.{IsUnit};
 
 use crate::whole::{Whole, read_whole};
-use c_expr::{Part, classified};
+use c_expr::classified;
+use c_items::nodes_of;
 use c_lex::{CToken, c_tokens};
-use node_tree::{Kind, LexFault, List, Memory, Mode, Node, ReadFault, Span, Text};
+use node_tree::{Kind, LexFault, List, Mode, Node, ReadFault, Span, Text};
 use std::alloc::Global;
 
 /// How deep an item of a file, or of a run, may be.
@@ -31,18 +31,6 @@ pub fn lexed(alloc: Global, text: &str, mode: Mode) -> Result<List<CToken>, Read
         Err(LexFault::Memory) => Err(ReadFault::Memory),
         Err(LexFault::NoTokens) => Err(ReadFault::NoTree),
     }
-}
-
-/// The nodes of some parts.
-#[tactic(auto, using(crate::proofs::Rounds::nodes_more))]
-pub fn nodes_of(alloc: Global, parts: Vec<Part>) -> Result<List<Node>, Memory>
-    ensures { IfOk result (λ ns. ns ≡ nodes parts.items) }
-{
-    let mut kids = Vec::with_capacity(alloc, parts.len())?;
-    for part in parts {
-        kids.push(part.node)?;
-    }
-    Ok(List::from_vec(kids))
 }
 
 /// Reads the tree of a file in C: a `Root`, which spans the whole text, over its items.

@@ -7,13 +7,11 @@ ghost use Rattle.c_expr.specs.declared.word.Word.TheVariants.{End};
 ghost use Rattle.c_expr.specs.Words.{class};
 ghost use Rattle.c_expr.specs.Build.{tallest, token_at};
 ghost use Rattle.c_expr.specs.Reading as e;
-ghost use Rattle.c_unit.specs.Reading as reading;
+ghost use Rattle.c_items.specs.Reading as reading;
 ghost use Rattle.c_unit.specs.Units.{level_of, IsAll};
 
-use crate::file::file_items;
-use crate::items::items;
-use crate::parts::expression;
 use c_expr::{CLevel, Part, Token, Word, is, shallow_end};
+use c_items::{expression, file_items, items};
 use node_tree::ReadFault;
 use std::alloc::Global;
 

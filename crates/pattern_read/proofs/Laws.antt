@@ -13,10 +13,11 @@ use Rattle.node_tree.specs.Gives.{Gives}
 use Rattle.node_tree.specs.Tree.{kind_of, kids_of}
 use Rattle.json_tree.specs.Spells.{IsTreeOf}
 use Rattle.json_tree.proofs.Trees.{kid_of_root}
-use Rattle.pattern_read.specs.declared.fault.PatternFault.{PatternFault}
-use Rattle.pattern_read.specs.declared.fault.PatternFault.TheVariants as faults
+use Rattle.code_reader.specs.declared.fault.PatternFault.{PatternFault}
+use Rattle.code_reader.specs.declared.fault.PatternFault.TheVariants as faults
 use Rattle.pattern_read.specs.Dots.{is_dots, DotsArePlaced}
-use Rattle.pattern_read.specs.Patterns.{IsJsonValue, IsJsonPattern, IsTextOf, IsPatternOf, IsFault, GivesPattern, fault_of, is_only_dots}
+use Rattle.pattern_read.specs.Patterns.{IsJsonValue, IsJsonPattern, IsTextOf, IsPatternOf, IsFault, is_only_dots}
+use Rattle.code_reader.specs.Patterns.{GivesPattern, fault_of}
 
 -- a pattern that was read
 abbrev pub pair : Shape → Node → Option (Shape × Node)

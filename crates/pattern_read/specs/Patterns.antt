@@ -1,5 +1,5 @@
 -- Which pattern a text writes, and why it writes none.
-use Rattle.std.specs.Prelude.{◌≡◌, ℕ, ◌≤◌, Bool, true, false, List, [], ◌∷◌, length, Result, Ok, Err, ⊤}
+use Rattle.std.specs.Prelude.{◌≡◌, ℕ, ◌≤◌, Bool, true, false, List, [], ◌∷◌, length, ⊤}
 use Rattle.node_tree.specs.declared.node.Node.{Node}
 use Rattle.node_tree.specs.declared.view.Pattern.{Pattern}
 use Rattle.node_tree.specs.declared.view.Lang.{Lang}
@@ -7,14 +7,12 @@ use Rattle.node_tree.specs.declared.view.Lang.TheVariants as langs
 use Rattle.node_tree.specs.declared.view.Shape.{Shape}
 use Rattle.node_tree.specs.declared.view.Shape.TheVariants.{Expr, Run}
 use Rattle.node_tree.specs.declared.view.Mode.TheVariants as modes
-use Rattle.node_tree.specs.declared.fault.ReadFault.{ReadFault}
-use Rattle.node_tree.specs.declared.fault.ReadFault.TheVariants as unread
 use Rattle.node_tree.specs.Tree.{kind_of, kids_of}
 use Rattle.json_tree.specs.Spells.{IsTreeOf}
 use Rattle.py_stmt.specs.Modules as python
 use Rattle.c_unit.specs.Units as c
-use Rattle.pattern_read.specs.declared.fault.PatternFault.{PatternFault}
-use Rattle.pattern_read.specs.declared.fault.PatternFault.TheVariants as faults
+use Rattle.code_reader.specs.declared.fault.PatternFault.{PatternFault}
+use Rattle.code_reader.specs.declared.fault.PatternFault.TheVariants as faults
 use Rattle.pattern_read.specs.Dots.{is_dots, are_all_dots, DotsArePlaced}
 
 -- the text is a JSON pattern over this value
@@ -58,14 +56,3 @@ IsFault lang text faults.Memory = ⊤
 IsFault lang text faults.NoPattern = (shape : Shape) (tree : Node) → IsTextOf lang text shape tree → ⊥
 IsFault lang text faults.OnlyDots = (shape : Shape) × (tree : Node) × IsTextOf lang text shape tree × (is_only_dots shape tree ≡ true)
 IsFault lang text faults.DotsPlace = (shape : Shape) × (tree : Node) × IsTextOf lang text shape tree × (is_only_dots shape tree ≡ false) × (DotsArePlaced tree → ⊥)
-
--- what a reader's fault says of a pattern
-abbrev pub fault_of : ReadFault → PatternFault
-fault_of unread.Memory = faults.Memory
-fault_of unread.NoTree = faults.NoPattern
-
--- no pattern but this one
-abbrev pub GivesPattern : Pattern → Result Pattern PatternFault → Type 0
-GivesPattern p (Ok found) = found ≡ p
-GivesPattern p (Err faults.Memory) = ⊤
-GivesPattern p (Err _) = ⊥

@@ -2,8 +2,7 @@
 #![tactic(auto)]
 
 mod dots;
-mod fault;
 mod read;
 
-pub use fault::PatternFault;
+pub use code_reader::PatternFault;
 pub use read::read_pattern;

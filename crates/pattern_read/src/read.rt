@@ -5,11 +5,12 @@ ghost use Rattle.node_tree.specs.declared.node.Node.{Node as node};
 ghost use Rattle.node_tree.specs.declared.view.Pattern.{Pattern as a_pattern};
 ghost use Rattle.node_tree.specs.Gives.{Gives};
 ghost use Rattle.node_tree.specs.declared.view.Shape.{Shape as a_shape};
-ghost use Rattle.pattern_read.specs.Patterns.{IsPatternOf, IsFault, IsJsonPattern, IsTextOf, GivesPattern, is_only_dots as spec_only_dots};
+ghost use Rattle.pattern_read.specs.Patterns.{IsPatternOf, IsFault, IsJsonPattern, IsTextOf, is_only_dots as spec_only_dots};
+ghost use Rattle.code_reader.specs.Patterns.{GivesPattern};
 
 use crate::dots::{are_all_dots, are_dots_placed, is_dots};
-use crate::fault::PatternFault;
 use c_unit::read_c_pattern;
+use code_reader::PatternFault;
 use json_tree::read_json;
 use node_tree::{Lang, Mode, Node, Pattern, ReadFault, Shape};
 use py_stmt::read_py_pattern;

@@ -21,11 +21,11 @@ use Rattle.py_expr.specs.Insides.{HasNodes}
 use Rattle.py_expr.specs.Parts.{node, depth_nodes}
 use Rattle.py_expr.proofs.Depths.{node_depth}
 use Rattle.py_expr.proofs.Spans.{text_items_lie}
-use Rattle.py_stmt.specs.Table.{File}
+use Rattle.py_suite.specs.Table.{File}
 use Rattle.py_stmt.specs.Modules.{AreItemsOf, AreStatements, IsModule, block, IsShape, expression, run, IsPattern}
-use Rattle.py_stmt.proofs.Forms.{some_same}
+use Rattle.py_suite.proofs.Forms.{some_same}
 use Rattle.py_stmt.proofs.Patterns.{root_lies, shape_lies}
-use Rattle.py_stmt.proofs.Spans.{spelled_lie}
+use Rattle.py_suite.proofs.Spans.{spelled_lie}
 
 -- a text that was refused has no tokens
 pub no_tokens : (us : List PyToken) (e : LexFault) → e ≡ lexed.NoTokens → Lexed us (Err e) → ⊥

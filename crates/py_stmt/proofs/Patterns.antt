@@ -15,9 +15,9 @@ use Rattle.py_expr.specs.Parts.{node}
 use Rattle.py_expr.specs.Build.{token_at}
 use Rattle.py_expr.proofs.SpanBuilders.{first_lies, kids_lie, over_lies, at_place}
 use Rattle.py_expr.proofs.Spans.{ItemsLie}
-use Rattle.py_stmt.specs.Build.{end_from}
+use Rattle.py_suite.specs.Build.{end_from}
 use Rattle.py_stmt.specs.Modules.{IsExpression, block, IsShape, expression, run}
-use Rattle.py_stmt.proofs.Spans.{stands, all_lie}
+use Rattle.py_suite.proofs.Spans.{stands, all_lie}
 
 same_head : (x y : Node) → x ∷ [] ≡ y ∷ [] → x ≡ y
 same_head x y e = cc

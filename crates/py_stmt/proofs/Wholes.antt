@@ -14,24 +14,14 @@ use Rattle.py_expr.specs.Words.{class}
 use Rattle.py_expr.specs.Build.{token_at}
 use Rattle.py_expr.specs.Parts.{Part, wholes, depth_nodes, depth_all}
 use Rattle.py_expr.specs.Reading.{round_at}
-use Rattle.py_stmt.specs.Table.{File, Stmts, table, grammar}
-use Rattle.py_stmt.specs.Build.{source}
-use Rattle.py_stmt.specs.Sets.{sets, ranks}
-use Rattle.py_stmt.specs.Reading.{level, row}
+use Rattle.py_suite.specs.Table.{File, Stmts, table, grammar}
+use Rattle.py_suite.specs.Build.{source}
+use Rattle.py_suite.specs.Sets.{sets, ranks}
+use Rattle.py_suite.specs.Reading.{level, row}
 use Rattle.py_stmt.specs.Modules.{AreStatements}
-use Rattle.py_stmt.proofs.Passes.{pass}
-use Rattle.py_stmt.proofs.Steps.{level_row}
-use Rattle.py_stmt.proofs.Depths.{deepens}
-
-pub file_step : (ts : List Item) (room i : ℕ) → zero < room → level ts room File i ≡ row ts room (table File) i
-file_step ts room i h = level_row ts room File i h
-
--- statements and the end behind them
-abbrev closed : List Item → Option (List Part × ℕ) → Option (List Part × ℕ)
-closed ts o = ◌>>=◌ {A = List Part × ℕ} {B = List Part × ℕ} o (λ x. ◌>>=◌ {A = List Part × ℕ} {B = List Part × ℕ} (cond (has (class w.End ∷ []) (class (token_at ts x.1).word)) (Some ([], suc x.1)) None) (λ y. Some (x.0 ++ y.0, y.1)))
-
-pub file_read : (ts : List Item) (room i j : ℕ) (ks : List Node) → zero < room → row ts room (opt (ref Stmts)) i ≡ Some (wholes ks, j) → eqb (class w.End) (class (token_at ts j).word) ≡ true → level ts room File i ≡ Some (wholes ks, j + 1)
-file_read ts room i j ks h statements mark = rw add-one (level_row ts room File i h ∙ (ap (closed ts) statements ∙ rw (mark, append-nil (wholes ks)) refl))
+use Rattle.py_suite.proofs.Passes.{pass}
+use Rattle.py_suite.proofs.Steps.{level_row}
+use Rattle.py_suite.proofs.Depths.{deepens}
 
 wholes_depth : (ns : List Node) → depth_all (wholes ns) ≡ depth_nodes ns
 wholes_depth [] = refl

@@ -1,5 +1,1 @@
-pub mod Table
-pub mod Build
-pub mod Sets
-pub mod Reading
 pub mod Modules

@@ -15,8 +15,8 @@ use Rattle.py_expr.specs.Items.{AreItems}
 use Rattle.py_expr.specs.Insides.{HasNodes}
 use Rattle.py_expr.specs.Parts.{wholes, node, depth_all}
 use Rattle.py_expr.specs.Build.{token_at}
-use Rattle.py_stmt.specs.Table.{File, grammar}
-use Rattle.py_stmt.specs.Build.{end_from, source}
+use Rattle.py_suite.specs.Table.{File, grammar}
+use Rattle.py_suite.specs.Build.{end_from, source}
 
 -- the tokens of a text in a mode, as the grammar sees them
 pub record AreItemsOf (mode : Mode) (text : List ℕ) (items : List Item) : Type 0 where

@@ -1,22 +1,8 @@
-//! Python's statements: from a text to the tree of its module, and to the pattern that it is.
-//!
-//! The grammar is a table over the levels of expressions (`specs/Table.antt`), a row for each line of it.
+//! Python's modules and patterns: from a text to the tree of its module, and to the pattern that it is.
 #![tactic(auto)]
 
-mod annotated;
-mod blocks;
-mod build;
-mod compound;
-mod definitions;
-mod expression;
-mod imports;
-mod items;
-mod line;
-mod look;
 mod module;
 mod pattern;
-mod series;
-mod simple;
 mod whole;
 
 pub use module::read_module;

@@ -8,14 +8,14 @@ ghost use Rattle.node_tree.specs.Spans.{SpansLieIn};
 ghost use Rattle.py_stmt.specs.Modules.{IsExpression, IsShape, IsPattern};
 ghost use Rattle.py_stmt.specs.Modules as spec;
 
-use crate::build::plain;
 use crate::whole::{lexed, read_items};
 use node_tree::{Kind, List, Memory, Mode, Node, ReadFault, Shape};
 use py_expr::{Item, LIMIT, is_shallow, items, over};
+use py_suite::plain;
 use std::alloc::Global;
 
 /// The block of the statements that the items are, from where the first begins to where the last ends.
-#[tactic(auto, using(crate::proofs::Forms::padded_none))]
+#[tactic(auto, using(py_suite::proofs::Forms::padded_none))]
 fn block(alloc: Global, items: &[Item<'_>], statements: List<Node>) -> Result<Node, Memory>
     ensures { IfOk result (λ n. n ≡ spec.block items.now statements) }
 {

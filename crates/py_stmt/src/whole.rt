@@ -3,64 +3,20 @@
 ghost use Rattle.std.specs.Prelude.{◌≤◌, List as list, length, IfOk, Some};
 ghost use Rattle.node_tree.specs.declared.node.Node.{Node as a_node};
 ghost use Rattle.node_tree.specs.Gives.{Gives};
-ghost use Rattle.grammar.specs.Rule.{ref, opt};
 ghost use Rattle.py_expr.specs.Parts.{depth_nodes};
-ghost use Rattle.py_stmt.specs.Reading as reading;
-ghost use Rattle.py_stmt.specs.Table.{File, Stmts};
 ghost use Rattle.py_stmt.specs.Modules.{AreStatements};
 ghost use Rattle.py_lex.specs.declared.token.PyToken.{PyToken as token};
 ghost use Rattle.py_lex.specs.Lexing.{IsTokensOf};
 ghost use Rattle.py_lex.specs.Places.{AreTokensIn};
 
-use crate::blocks::statements;
-use crate::look::starts_statement;
 use node_tree::{LexFault, List, Mode, Node, ReadFault};
-use py_expr::{Item, Word, is, shallow_end};
+use py_expr::{Item, shallow_end};
 use py_lex::{PyToken, tokens};
+use py_suite::file_input;
 use std::alloc::Global;
 
 /// How many steps deeper the reader may go: 501 for depth, 500 for brackets, and two.
 const ROOM: u32 = 1003;
-
-/// Statements, of which there may be none.
-fn some_statements(
-    alloc: Global,
-    items: &[Item<'_>],
-    room: u32,
-    at: usize,
-) -> Result<(List<Node>, usize), ReadFault>
-    requires { at ≤ length items.now }
-    ensures within { IfOk result (λ x. x.1 ≤ length items.now) }
-    ensures gives { Gives reading.all result (reading.row items.now room (opt (ref Stmts)) at) }
-{
-    if !starts_statement(items, at) {
-        return Ok((List::new(alloc), at));
-    }
-    statements(alloc, items, room, at)
-}
-
-/// Statements and the end of a text.
-#[tactic(auto, using(crate::proofs::Wholes::file_step, crate::proofs::Steps::level_none))]
-fn file(
-    alloc: Global,
-    items: &[Item<'_>],
-    room: u32,
-    at: usize,
-) -> Result<(List<Node>, usize), ReadFault>
-    requires { at ≤ length items.now }
-    ensures within { IfOk result (λ x. x.1 ≤ length items.now) }
-    ensures gives { Gives reading.all result (reading.level items.now room File at) }
-{
-    if room == 0 {
-        return Err(ReadFault::NoTree);
-    }
-
-    let (kids, end) = some_statements(alloc, items, room, at)?;
-    if !is(items, end, Word::End) {
-        return Err(ReadFault::NoTree);
-    }
-    Ok((kids, end + 1))
-}
 
 /// The statements that all items are, unless one is too deep.
 pub fn read_items(alloc: Global, items: &[Item<'_>]) -> Result<List<Node>, ReadFault>
@@ -70,7 +26,7 @@ pub fn read_items(alloc: Global, items: &[Item<'_>]) -> Result<List<Node>, ReadF
     if shallow_end(items, 0) < items.len() {
         return Err(ReadFault::NoTree);
     }
-    let (kids, end) = file(alloc, items, ROOM, 0)?;
+    let (kids, end) = file_input(alloc, items, ROOM, 0)?;
     if end < items.len() {
         return Err(ReadFault::NoTree);
     }

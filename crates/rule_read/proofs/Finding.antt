@@ -2,9 +2,10 @@
 use Rattle.std.proofs.Common.{◌≡◌, inl, inr, ℕ, List, refl, sym, ap, ◌∙◌, subst, Ok, Err}
 use Rattle.std.specs.Prelude.{Result}
 use Rattle.node_tree.specs.declared.view.Pattern.{Pattern}
-use Rattle.pattern_read.specs.Patterns.{IsPatternOf, GivesPattern}
-use Rattle.pattern_read.specs.declared.fault.PatternFault.{PatternFault}
-use Rattle.pattern_read.specs.declared.fault.PatternFault.TheVariants as faults
+use Rattle.pattern_read.specs.Patterns.{IsPatternOf}
+use Rattle.code_reader.specs.Patterns.{GivesPattern}
+use Rattle.code_reader.specs.declared.fault.PatternFault.{PatternFault}
+use Rattle.code_reader.specs.declared.fault.PatternFault.TheVariants as faults
 use Rattle.rule_form.specs.declared.comparison.Comparison.{Comparison}
 use Rattle.rule_form.specs.declared.formula.Formula.{Formula}
 use Rattle.meta_filter.specs.Comparisons.{IsComparisonOf}

@@ -2,8 +2,8 @@
 use Rattle.std.specs.Prelude.{◌≡◌, ◌⊎◌, ℕ, List, [], ◌∷◌, ◌++◌, length, Ok, Err}
 use Rattle.node_tree.specs.declared.view.Pattern.{Pattern}
 use Rattle.pattern_read.specs.Patterns.{IsPatternOf}
-use Rattle.pattern_read.specs.declared.fault.PatternFault.{PatternFault}
-use Rattle.pattern_read.specs.declared.fault.PatternFault.TheVariants as faults
+use Rattle.code_reader.specs.declared.fault.PatternFault.{PatternFault}
+use Rattle.code_reader.specs.declared.fault.PatternFault.TheVariants as faults
 use Rattle.rule_form.specs.declared.comparison.Comparison.{Comparison}
 use Rattle.rule_form.specs.declared.formula.Formula.{Formula}
 use Rattle.rule_form.specs.declared.formula.Formula.TheVariants as formulas

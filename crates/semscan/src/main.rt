@@ -4,27 +4,18 @@
 ghost use Rattle.std.specs.Prelude.{◌≡◌, ◌<◌, map, string_bytes};
 ghost use Rattle.scan_world.specs.Faults.{Rose};
 ghost use Rattle.scan_session.specs.Refused.{gained};
-ghost use Rattle.semscan.specs.Status.{IsAnswer};
-ghost use Rattle.semscan.specs.Ways.{Printed};
-ghost use Rattle.semscan.specs.Run.{Ends};
+ghost use Rattle.scan_run.specs.Status.{IsAnswer};
+ghost use Rattle.scan_run.specs.Ways.{Printed};
+ghost use Rattle.scan_run.specs.Run.{Ends};
 
 mod adapters;
-mod config;
 mod folder;
-mod input;
-mod matching;
-mod output;
-mod run;
-mod scan;
-mod status;
-mod taking;
 
 use crate::adapters::{StdinSource, StdoutSink};
 use crate::folder::FolderTree;
-use crate::run::run;
-use crate::status::Status;
 use node_tree::Steps;
 use rx_text::{Patterns, RealPatterns};
+use scan_run::{Status, run};
 use scan_world::{Sink, Source, Tree};
 use std::alloc::Global;
 use std::marker::Brand;
@@ -109,4 +100,3 @@ fn report(rt: &impl Eprint, status: Status) -> io::Result<()> {
         Status::BadPattern => eprintln!(rt; "semscan: no pattern"),
     }
 }
-

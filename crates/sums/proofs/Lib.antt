@@ -3,4 +3,4 @@ pub mod Passes
 pub mod Depths
 pub mod Steps
 pub mod Casts
-pub mod Runs
+pub mod ClosedRuns

@@ -32,7 +32,7 @@ fn open_behind(word: Word, count: u32) -> u32
 }
 
 /// Whether no token between the places stands inside more than 500 brackets.
-#[tactic(auto, using(crate::proofs::Runs::open_next, crate::proofs::Runs::open_start, crate::proofs::Runs::round_is))]
+#[tactic(auto, using(crate::proofs::ClosedRuns::open_next, crate::proofs::ClosedRuns::open_start, crate::proofs::ClosedRuns::round_is))]
 fn few_brackets(tokens: &[Token], from: usize, to: usize) -> bool
     requires ordered { from ≤ to }
     requires within { to ≤ length tokens.now }
@@ -100,7 +100,7 @@ fn begun(
 /// The tree of the closed run of a level at the token `from`, and the place behind the run.
 ///
 /// Trees have a depth of at most 500, and no token of the run stands inside more than 500 brackets of it.
-#[tactic(auto, using(crate::proofs::Runs::run_is_read, crate::proofs::Runs::read_is_run))]
+#[tactic(auto, using(crate::proofs::ClosedRuns::run_is_read, crate::proofs::ClosedRuns::read_is_run))]
 pub fn read_run(
     alloc: Global,
     tokens: &[Token],

@@ -7,7 +7,7 @@ use Rattle.node_tree.specs.declared.view.Shape.TheVariants.{Expr, Run}
 use Rattle.c_lex.specs.declared.token.CToken.{CToken}
 use Rattle.c_expr.specs.declared.word.Token.{Token}
 use Rattle.c_expr.specs.Words.{token_of}
-use Rattle.c_unit.specs.Table.{Items, File}
+use Rattle.c_items.specs.Table.{Items, File}
 use Rattle.c_unit.specs.Units.{AreWords, IsExpression, IsRun, IsPattern, IsPatternOf, expression, items, file_items}
 use Rattle.c_unit.proofs.Patterns.{same_classed, fault_still, nothing_there, the_expression, the_items, only_file, the_file}
 use Rattle.c_unit.proofs.Placing.{pattern_lies}

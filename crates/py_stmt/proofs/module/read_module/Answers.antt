@@ -4,7 +4,7 @@ use Rattle.node_tree.specs.declared.view.Mode.TheVariants as modes
 use Rattle.node_tree.specs.Tree.{depth_of}
 use Rattle.py_expr.specs.Parts.{node}
 use Rattle.py_stmt.specs.Modules.{AreStatements}
-use Rattle.py_stmt.proofs.Forms.{passed_on, some_same}
+use Rattle.py_suite.proofs.Forms.{passed_on, some_same}
 use Rattle.py_stmt.proofs.Modules.{AreMade, made, of_text, leb_true, root_shallow, lost, module_spelled, module_lies}
 use Rattle.py_stmt.proofs.module.read_module.Goals as goal
 

@@ -4,7 +4,7 @@ use Rattle.node_tree.specs.declared.view.Shape.{Shape}
 use Rattle.node_tree.specs.declared.view.Mode.TheVariants as modes
 use Rattle.node_tree.specs.Tree.{depth_of}
 use Rattle.py_stmt.specs.Modules.{AreStatements, IsShape}
-use Rattle.py_stmt.proofs.Forms.{passed_on, some_same}
+use Rattle.py_suite.proofs.Forms.{passed_on, some_same}
 use Rattle.py_stmt.proofs.Modules.{AreMade, made, of_text, leb_true, shape_shallow, lost, pattern_spelled, pattern_shape, pattern_lies}
 use Rattle.py_stmt.proofs.pattern.read_py_pattern.Goals as goal
 

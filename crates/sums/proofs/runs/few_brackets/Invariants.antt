@@ -1,6 +1,6 @@
 use Rattle.std.proofs.Common.{◌≡◌, ℕ, ◌≤◌, ◌<◌}
 use Rattle.sums.specs.Reading.{round_at}
-use Rattle.sums.proofs.Runs.{open_before}
+use Rattle.sums.proofs.ClosedRuns.{open_before}
 use Rattle.sums.proofs.runs.few_brackets.Given as goal
 
 abbrev pub invariant-loop-at : goal.invariant-loop-at

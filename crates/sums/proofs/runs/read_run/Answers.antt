@@ -1,6 +1,6 @@
 use Rattle.std.proofs.Common.{rules, ◌≤◌, arith, sym, ◌∙◌, refl}
 use Rattle.sums.specs.Tree.{depth, view}
-use Rattle.sums.proofs.Runs.{run_is_read, text_is_read, read_is_run, forward, one_answer, is_shallow_run, is_bracketed_run, leb_true}
+use Rattle.sums.proofs.ClosedRuns.{run_is_read, text_is_read, read_is_run, forward, one_answer, is_shallow_run, is_bracketed_run, leb_true}
 use Rattle.sums.specs.Reading.{of_text, of_pattern, level_of}
 use Rattle.sums.proofs.runs.read_run.Goals as goal
 

@@ -1,7 +1,7 @@
 use Rattle.std.proofs.Common.{rules, ◌≤◌, length, arith, sym, refl, ap, [], ◌∷◌, Some}
 use Rattle.sums.specs.Tree.{depth, view}
 use Rattle.sums.specs.Table.{Text}
-use Rattle.sums.proofs.Runs.{whole_is_read, read_is_whole, whole_is_shallow, whole_is_bracketed, one_answer, leb_true, fails_still}
+use Rattle.sums.proofs.ClosedRuns.{whole_is_read, read_is_whole, whole_is_shallow, whole_is_bracketed, one_answer, leb_true, fails_still}
 use Rattle.sums.proofs.runs.read_text.Goals as goal
 
 pub returns-clause-found : goal.returns-clause-found

@@ -1,0 +1,4 @@
+pub mod Settling
+pub mod Table
+pub mod Sets
+pub mod Reading

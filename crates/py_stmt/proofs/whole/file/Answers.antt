@@ -1,6 +1,0 @@
-use Rattle.std.proofs.Common.{arith, sym}
-use Rattle.py_stmt.proofs.Wholes.{file_read}
-use Rattle.py_stmt.proofs.whole.file.Goals as goal
-
-pub returns-clause-gives : goal.returns-clause-gives
-returns-clause-gives c = file_read c.args.items.now c.args.room c.args.at c.in_ok-kids.end c.in_ok-kids.kids (grind (arith, c.if-room-eq0.false)) c.in_ok-kids.ensures.gives (sym c.if-not-is.ensures.test)

@@ -1,0 +1,15 @@
+pub mod Passes
+pub mod Among
+pub mod Colons
+pub mod Defined
+pub mod Ends
+pub mod Steps
+pub mod Rounds
+pub mod Forms
+pub mod Orders
+pub mod Suites
+pub mod Compounds
+pub mod Filled
+pub mod Depths
+pub mod Spans
+pub mod Files

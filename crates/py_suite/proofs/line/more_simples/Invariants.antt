@@ -1,0 +1,15 @@
+use Rattle.std.proofs.Common.{◌≡◌, suc, length, ◌≤◌, ◌-◌, [], ◌∷◌}
+use Rattle.py_expr.specs.declared.word.Word.TheVariants as w
+use Rattle.py_expr.specs.Words.{class}
+use Rattle.py_suite.specs.Table as rows
+use Rattle.py_suite.specs.Table.{LineTail, Simple}
+use Rattle.py_suite.specs.Reading as reading
+use Rattle.py_suite.proofs.Rounds.{rest}
+use Rattle.py_suite.proofs.line.more_simples.Given as goal
+
+abbrev pub invariant-loop-turn : goal.invariant-loop-turn
+invariant-loop-turn l = record {
+  within : l.end ≤ length l.items;
+  turns : l.turn ≤ suc (length l.items);
+  rest : reading.along l.fn.kids (reading.more_simples l.items l.fn.room l.fn.at) ≡ reading.along l.kids (rest l.items l.fn.room LineTail (rows.parted (class w.Semicolon ∷ []) Simple) (suc (length l.items) - l.turn) l.end);
+}

@@ -1,0 +1,4 @@
+pub mod Table
+pub mod Build
+pub mod Sets
+pub mod Reading

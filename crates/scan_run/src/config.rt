@@ -1,0 +1,54 @@
+//! Reading the rules of a scan.
+
+ghost use Rattle.std.specs.Prelude.{◌≡◌, ◌≤◌, length, IfOk, IfErr, OnOk, Some};
+ghost use Rattle.scan_world.specs.Trees.{KeepsFiles};
+ghost use Rattle.scan_run.specs.Status.{IsAnswer, HasConfigCause, IsOfLimit};
+ghost use Rattle.scan_run.specs.Config.{IsRules, ConfigEnds, IsOneFile, HasRules, HasConfigEnd};
+
+use crate::status::{LimitKind, Status};
+use scan_session::{RuleFile, read_rule_file};
+use scan_world::{Tree, TreeFault};
+use std::alloc::Global;
+
+// The most bytes of the rules.
+const MOST_BYTES: usize = 262_144;
+
+// The most entries of the rules.
+const MOST_RULES: usize = 1_000;
+
+// The rules that these bytes are, within the limits.
+fn rules_of(alloc: Global, path: &str, bytes: &[u8]) -> Result<RuleFile, Status>
+    requires { length bytes.now ≤ 262145 }
+    ensures rules { IfOk result (IsRules path.now (Some bytes.now)) }
+    ensures ended { IfErr result (λ status. IsAnswer status → ConfigEnds path.now (Some bytes.now) status) }
+    ensures one_file { OnOk result (IsOneFile path.now (Some bytes.now)) }
+    ensures one_file_ended { IfErr result (λ status. IsAnswer status → IsOneFile path.now (Some bytes.now)) }
+    ensures cause { IfErr result IsOfLimit }
+{
+    if bytes.len() > MOST_BYTES {
+        return Err(Status::OverLimit(LimitKind::RuleBytes, MOST_BYTES as u64 + 1));
+    }
+    let rules = read_rule_file(alloc, path, bytes)?;
+    let entries = rules.entries();
+    if entries > MOST_RULES {
+        return Err(Status::OverLimit(LimitKind::Rules, entries as u64));
+    }
+    Ok(rules)
+}
+
+/// The rules at the path. It ends with NoSuchPath where no file is there, and with OverLimit where the rules have more than
+/// 262,144 bytes or 1,000 entries.
+pub fn read_config<T: Tree>(alloc: Global, tree: &mut T, path: &str) -> Result<RuleFile, Status>
+    ensures rules { IfOk result (HasRules (T.files tree.old) path.now) }
+    ensures ended { IfErr result (λ status. IsAnswer status → HasConfigEnd (T.files tree.old) path.now status) }
+    ensures kept { KeepsFiles (T.files tree.old) (T.files tree.new) }
+    ensures unfailed { OnOk result (T.faults tree.new ≡ T.faults tree.old) }
+    ensures cause { IfErr result (HasConfigCause (T.faults tree.old) (T.faults tree.new) (T.absences tree.old) (T.absences tree.new)) }
+{
+    match tree.read(path, MOST_BYTES as u64) {
+        Ok(bytes) => rules_of(alloc, path, bytes.as_slice()),
+        Err(TreeFault::Absent) => Err(Status::NoSuchPath),
+        Err(TreeFault::Memory) => Err(Status::Memory),
+        Err(TreeFault::Failed) => Err(Status::TreeFault),
+    }
+}

@@ -1,0 +1,14 @@
+//! The top call: from the words, the input and the folder to the lines on the output. `specs/Run.antt` defines what a run is.
+#![tactic(auto)]
+
+mod config;
+mod input;
+mod matching;
+mod output;
+mod run;
+mod scan;
+mod status;
+mod taking;
+
+pub use run::run;
+pub use status::{LimitKind, Status};

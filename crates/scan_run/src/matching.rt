@@ -1,0 +1,94 @@
+//! The command `match`: where a pattern matches in the input.
+
+ghost use Rattle.std.specs.Prelude.{◌≡◌, ◌⊎◌, ◌+◌, ◌≤◌, IsSome};
+ghost use Rattle.std.specs.Io.KnownBytes.{IsAtEnd};
+ghost use Rattle.scan_world.specs.Faults.{Rose};
+ghost use Rattle.scan_run.specs.Status.{IsAnswer, IsOfSearch, IsOfMatch};
+ghost use Rattle.scan_run.specs.Ways.{Printed, PrintedFront, PrintedSome, IsOnlyEnd};
+ghost use Rattle.scan_run.specs.Matching.{SearchEnds, Matches};
+ghost use Rattle.scan_run.specs.Steps.{TakesSteps};
+
+use crate::input::{InputError, MOST, read_input};
+use crate::output::{OutputError, print_all};
+use crate::status::{LimitKind, Status};
+use judge_file::{Opened, open_file};
+use node_tree::{Bytes, FileView, Lang, Pattern, Steps};
+use pattern_read::{PatternFault, read_pattern};
+use scan_world::{Sink, Source};
+use std::alloc::Global;
+use std::sync::ledger::Ledger;
+use tree_match::{Leaf, match_leaf};
+
+// Prints the members of the pattern in the file.
+fn print_members<K: Sink, L: Ledger>(
+    alloc: Global,
+    file: &FileView,
+    pattern: &Pattern,
+    out: &mut K,
+    steps: &mut Steps<L>,
+) -> Status
+    ensures ends { IsAnswer result → Printed (SearchEnds pattern.now file.now.tree) (K.written out.old) (K.written out.new) result }
+    ensures output_kept { IsAnswer result → K.faults out.new ≡ K.faults out.old }
+    ensures output_fault { result ≡ Status.OutputFault → Rose (K.faults out.old) (K.faults out.new) }
+    ensures front_written { result ≡ Status.OutputFault → PrintedFront (SearchEnds pattern.now file.now.tree) (K.written out.old) (K.written out.new) }
+    ensures whole_lines { result ≡ Status.Memory → (K.written out.new ≡ K.written out.old) ⊎ PrintedSome (SearchEnds pattern.now file.now.tree) (K.written out.old) (K.written out.new) }
+    ensures one_step { steps.new ≡ steps.old + 1 }
+    ensures cause { IsOfSearch result }
+{
+    let members = match match_leaf(alloc, file, pattern, steps) {
+        Ok(Leaf::Full(members)) => members,
+        Ok(Leaf::Crowded) => return Status::TooMany(10_000),
+        Err(_) => return Status::Memory,
+    };
+    match print_all(alloc, out, &members) {
+        Ok(()) => Status::Done,
+        Err(OutputError::Memory) => Status::Memory,
+        Err(OutputError::Failed) => Status::OutputFault,
+    }
+}
+
+/// Prints where the pattern that the text writes matches in the input, as `specs/Matching.antt` says.
+pub fn run_match<S: Source, K: Sink, L: Ledger>(
+    alloc: Global,
+    lang: Lang,
+    text: &str,
+    input: &mut S,
+    out: &mut K,
+    steps: &mut Steps<L>,
+) -> Status
+    ensures ends { IsAnswer result → Printed (Matches lang text.now (S.left input.old)) (K.written out.old) (K.written out.new) result }
+    ensures only { IsAnswer result → IsSome (S.left input.old) → IsOnlyEnd (Matches lang text.now (S.left input.old)) (K.written out.old) (K.written out.new) result }
+    ensures input_kept { IsAnswer result → S.faults input.new ≡ S.faults input.old }
+    ensures output_kept { IsAnswer result → K.faults out.new ≡ K.faults out.old }
+    ensures read_to_its_end { result ≡ Status.Done → IsAtEnd (S.left input.new) }
+    ensures input_fault { result ≡ Status.InputFault → Rose (S.faults input.old) (S.faults input.new) }
+    ensures nothing_written { result ≡ Status.InputFault → K.written out.new ≡ K.written out.old }
+    ensures output_fault { result ≡ Status.OutputFault → Rose (K.faults out.old) (K.faults out.new) }
+    ensures front_written { result ≡ Status.OutputFault → PrintedFront (Matches lang text.now (S.left input.old)) (K.written out.old) (K.written out.new) }
+    ensures whole_lines { result ≡ Status.Memory → (K.written out.new ≡ K.written out.old) ⊎ PrintedSome (Matches lang text.now (S.left input.old)) (K.written out.old) (K.written out.new) }
+    ensures cause { IsOfMatch result }
+    ensures work { TakesSteps result steps.old steps.new }
+{
+    let pattern = match read_pattern(alloc, lang, text) {
+        Ok(pattern) => pattern,
+        Err(fault) => match fault {
+            PatternFault::Memory => return Status::Memory,
+            _ => return Status::BadPattern,
+        },
+    };
+    let bytes = match read_input(alloc, input) {
+        Ok(bytes) => bytes,
+        Err(InputError::Memory) => return Status::Memory,
+        Err(InputError::Failed) => return Status::InputFault,
+    };
+    if bytes.len() == MOST {
+        return Status::OverLimit(LimitKind::Target, MOST as u64);
+    }
+    let Ok(opened) = open_file(alloc, lang, Bytes::from_vec(bytes), steps) else {
+        return Status::Memory;
+    };
+    let Opened::Read(file) = opened else {
+        return Status::BadTarget;
+    };
+    print_members(alloc, &file, &pattern, out, steps)
+}

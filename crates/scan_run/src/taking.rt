@@ -1,0 +1,117 @@
+//! Which files are scanned, and scanning them as they are read.
+
+ghost use Rattle.std.specs.Prelude.{◌≡◌, ◌↔◌, ◌+◌, ◌≤◌, ◌<◌, IsTrue, IfOk, IfErr, OnOk};
+ghost use Rattle.scan_world.specs.Trees.{KeepsFiles};
+ghost use Rattle.scan_run.specs.Status.{IsAnswer, IsOfLimit, HasReadingCause};
+ghost use Rattle.scan_run.specs.Taking.{IsTaken, AreTaken, IsOver, ReadingEnds, FilesEnd};
+ghost use Rattle.scan_run.specs.Scanned.{ScansRead, ScansFiles};
+
+use crate::status::{LimitKind, Status};
+use node_tree::{List, Memory, Steps, Text, Twin};
+use path_glob::{has_hidden, lang_of, path_ok};
+use scan_session::Scanner;
+use scan_world::{Tree, TreeFault};
+use std::alloc::Global;
+use std::sync::ledger::Ledger;
+
+// The most files of a scan.
+const MOST_FILES: usize = 10_000;
+
+// The most bytes of all files of a scan.
+const MOST_BYTES: usize = 33_554_432;
+
+// The most bytes of a file that is scanned.
+const MOST: u64 = 1_000_000;
+
+/// Whether a file of this path is scanned: it is a path, its ending names a language, and no segment of it begins with a dot.
+fn is_taken(path: &str) -> bool
+    ensures { IsTrue result ↔ IsTaken path.now }
+{
+    path_ok(path) && lang_of(path).is_some() && !has_hidden(path)
+}
+
+// Those of the paths that are taken.
+fn taken_paths(alloc: Global, paths: &List<Text>) -> Result<List<Text>, Memory>
+    ensures { IfOk result (AreTaken paths.now) }
+{
+    let mut taken = List::new(alloc);
+    for path in paths.as_slice() {
+        if is_taken(path.as_str()) {
+            taken.push(path.copy()?)?;
+        }
+    }
+    Ok(taken)
+}
+
+// Counts a file more, after so many files and bytes: how many bytes all have then.
+fn count_file(files: usize, total: usize, bytes: usize) -> Result<usize, Status>
+    requires files { files ≤ MOST_FILES }
+    requires total { total ≤ MOST_BYTES }
+    requires bytes { bytes ≤ 1000001 }
+    ensures within { IfOk result (λ all. (files + 1 ≤ MOST_FILES) × (all ≤ MOST_BYTES) × (all ≡ total + bytes)) }
+    ensures over { IfErr result (IsOver files total bytes) }
+    ensures cause { IfErr result IsOfLimit }
+{
+    if files == MOST_FILES {
+        return Err(Status::OverLimit(LimitKind::Files, files as u64 + 1));
+    }
+    let all = total + bytes;
+    if all > MOST_BYTES {
+        return Err(Status::OverLimit(LimitKind::FileBytes, all as u64));
+    }
+    Ok(all)
+}
+
+// Scans the files at these paths, each as it is read.
+fn scan_all<T: Tree, L: Ledger>(
+    alloc: Global,
+    tree: &mut T,
+    paths: &List<Text>,
+    scanner: &mut Scanner<'_>,
+    steps: &mut Steps<L>,
+) -> Result<(), Status>
+    ensures scanned { OnOk result (ScansRead (T.files tree.old) paths.now scanner.old scanner.new) }
+    ensures ended { IfErr result (λ status. IsAnswer status → ReadingEnds (T.files tree.old) paths.now status) }
+    ensures kept { KeepsFiles (T.files tree.old) (T.files tree.new) }
+    ensures unfailed { OnOk result (T.faults tree.new ≡ T.faults tree.old) }
+    ensures cause { IfErr result (HasReadingCause (T.faults tree.old) (T.faults tree.new)) }
+{
+    let (mut files, mut total) = (0, 0);
+    for path in paths.as_slice() {
+        let name = path.as_str();
+        let bytes = match tree.read(name, MOST) {
+            Ok(bytes) => bytes,
+            Err(TreeFault::Absent) => continue,
+            Err(TreeFault::Memory) => return Err(Status::Memory),
+            Err(TreeFault::Failed) => return Err(Status::TreeFault),
+        };
+        total = count_file(files, total, bytes.len())?;
+        files += 1;
+        scanner.scan(alloc, name, bytes, steps)?;
+    }
+    Ok(())
+}
+
+/// Scans the files under the prefix that are taken, in order of path, each with at most its first 1,000,001 bytes. No file is
+/// kept. It ends with OverLimit at the first file with which there are more than 10,000 files or 33,554,432 bytes.
+pub fn scan_files<T: Tree, L: Ledger>(
+    alloc: Global,
+    tree: &mut T,
+    prefix: &str,
+    scanner: &mut Scanner<'_>,
+    steps: &mut Steps<L>,
+) -> Result<(), Status>
+    ensures scanned { OnOk result (ScansFiles (T.files tree.old) prefix.now scanner.old scanner.new) }
+    ensures ended { IfErr result (λ status. IsAnswer status → FilesEnd (T.files tree.old) prefix.now status) }
+    ensures kept { KeepsFiles (T.files tree.old) (T.files tree.new) }
+    ensures unfailed { OnOk result (T.faults tree.new ≡ T.faults tree.old) }
+    ensures cause { IfErr result (HasReadingCause (T.faults tree.old) (T.faults tree.new)) }
+{
+    let paths = match tree.list(prefix) {
+        Ok(paths) => paths,
+        Err(TreeFault::Failed) => return Err(Status::TreeFault),
+        Err(_) => return Err(Status::Memory),
+    };
+    let taken = taken_paths(alloc, &paths)?;
+    scan_all(alloc, tree, &taken, scanner, steps)
+}
