@@ -16,7 +16,7 @@ use fix_apply::{NoticeKind, Reported};
 use judge_file::{Opened, open_file};
 use node_tree::{Bytes, FileView, Lang, List, Memory, Steps};
 use path_glob::lang_of;
-use range_algebra::settled;
+use sorted_sets::settled;
 use std::alloc::Global;
 use std::sync::ledger::Ledger;
 

@@ -6,12 +6,13 @@ use Rattle.tree_match.specs.Sets.{Among}
 use Rattle.tree_match.proofs.Sets.{chain}
 use Rattle.range_algebra.specs.Trees.{branch_of, branches_of, all_of}
 use Rattle.range_algebra.specs.Meets.{Meets}
-use Rattle.range_algebra.specs.Sizes.{Each}
+use Rattle.sorted_sets.specs.Sizes.{Each}
 use Rattle.range_algebra.specs.Conditions.{AreBoundIn}
 use Rattle.range_algebra.specs.Shown.{IsShownOfSome}
-use Rattle.range_algebra.specs.Crowds.{Prefixes, OneSet}
+use Rattle.range_algebra.specs.Crowds.{Prefixes}
+use Rattle.member_join.specs.Limits.{OneSet}
 use Rattle.range_algebra.proofs.Gathering.{meets_chosen, if_ok_both}
-use Rattle.range_algebra.proofs.Limits.{fault_first, fault_next, fault_more}
+use Rattle.member_join.proofs.Limits.{fault_first, fault_next, fault_more}
 use Rattle.range_algebra.proofs.Placed.{chosen_bound}
 use Rattle.range_algebra.proofs.all.all_members.Goals as goal
 
