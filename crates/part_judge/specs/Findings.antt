@@ -14,10 +14,10 @@ use Rattle.tree_match.specs.Placed.{IsPlaced}
 use Rattle.range_algebra.specs.Trees.{tree_of}
 use Rattle.range_algebra.specs.Meets.{Meets}
 use Rattle.range_algebra.specs.Crowds.{Over}
-use Rattle.judge_file.specs.declared.found.FoundNotice.{FoundNotice}
-use Rattle.judge_file.specs.declared.found.FoundNotice.TheVariants as notices
-use Rattle.judge_file.specs.declared.outcome.Outcome.{Outcome}
-use Rattle.judge_file.specs.declared.outcome.Outcome.TheVariants.{Findings, Crowded, FlowTooLarge}
+use Rattle.part_judge.specs.declared.found.FoundNotice.{FoundNotice}
+use Rattle.part_judge.specs.declared.found.FoundNotice.TheVariants as notices
+use Rattle.part_judge.specs.declared.outcome.Outcome.{Outcome}
+use Rattle.part_judge.specs.declared.outcome.Outcome.TheVariants.{Findings, Crowded, FlowTooLarge}
 
 -- a `.`, and then the number
 abbrev pub after_dot : ℕ → List ℕ

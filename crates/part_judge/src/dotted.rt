@@ -2,7 +2,7 @@
 
 ghost use Rattle.std.specs.Prelude.{◌≡◌, ◌++◌, IfOk, OnOk};
 ghost use Rattle.std.specs.List.{flat_map};
-ghost use Rattle.judge_file.specs.Findings.{after_dot, dotted as dotted_text};
+ghost use Rattle.part_judge.specs.Findings.{after_dot, dotted as dotted_text};
 
 use node_tree::{Memory, Text};
 use std::alloc::Global;

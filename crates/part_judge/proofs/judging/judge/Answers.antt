@@ -1,6 +1,6 @@
 use Rattle.std.specs.Prelude.{slice_get}
-use Rattle.judge_file.proofs.Outcomes.{finds_at, finds_one}
-use Rattle.judge_file.proofs.judging.judge.Goals as goal
+use Rattle.part_judge.proofs.Outcomes.{finds_at, finds_one}
+use Rattle.part_judge.proofs.judging.judge.Goals as goal
 
 pub returns-clause-finds : goal.returns-clause-finds
 returns-clause-finds c =

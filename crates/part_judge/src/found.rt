@@ -1,7 +1,7 @@
 //! What a rule finds in a file.
 
 ghost use Rattle.std.specs.Prelude.{◌≡◌, IfSome, IfNone};
-ghost use Rattle.judge_file.specs.Findings.{findings_of, Tells, HasNoNotice};
+ghost use Rattle.part_judge.specs.Findings.{findings_of, Tells, HasNoNotice};
 
 use crate::outcome::Outcome;
 use meta_bind::Finding;
@@ -14,8 +14,8 @@ pub struct Found {
 }
 
 impl Model for Found {
-    ghost use Rattle.judge_file.specs.declared.outcome.Outcome.{Outcome as an_outcome};
-    ghost use Rattle.judge_file.specs.contracts.outcome.Outcome as outcomes;
+    ghost use Rattle.part_judge.specs.declared.outcome.Outcome.{Outcome as an_outcome};
+    ghost use Rattle.part_judge.specs.contracts.outcome.Outcome as outcomes;
 
     ghost Value = { an_outcome };
 

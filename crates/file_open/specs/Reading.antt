@@ -1,25 +1,25 @@
--- Which trees texts have.
+-- Which trees texts have, by what a reader spells.
 use Rattle.std.specs.Prelude.{◌≡◌, ℕ, List, [], length}
 use Rattle.node_tree.specs.declared.kind.Kind.TheVariants.{Root}
 use Rattle.node_tree.specs.declared.node.Node.{Node, roll-Node}
 use Rattle.node_tree.specs.declared.view.Lang.{Lang}
 use Rattle.node_tree.specs.declared.view.Lang.TheVariants.{Json, Python, C, Regex}
-use Rattle.node_tree.specs.declared.view.Mode.TheVariants.{Text}
-use Rattle.json_tree.specs.Spells.{IsTreeOf}
-use Rattle.py_stmt.specs.Modules.{IsModule}
-use Rattle.c_unit.specs.Units.{IsUnit}
+
+-- which texts are files of a language, with which trees
+abbrev pub Spells : Type 1
+Spells = Lang → List ℕ → Node → Type 0
 
 -- one node without kids, over the whole text
 abbrev pub plain_tree : List ℕ → Node
 plain_tree text = roll-Node (record { kind = Root; text = []; kids = []; span = record { from = 0; to = length text } })
 
 -- the text has this tree in the language; a text that is only searched has the plain one
-abbrev pub IsTreeIn : Lang → List ℕ → Node → Type 0
-IsTreeIn Json text tree = IsTreeOf Text text tree
-IsTreeIn Python text tree = IsModule text tree
-IsTreeIn C text tree = IsUnit text tree
-IsTreeIn Regex text tree = tree ≡ plain_tree text
+abbrev pub IsTreeIn : Spells → Lang → List ℕ → Node → Type 0
+IsTreeIn spells Json text tree = spells Json text tree
+IsTreeIn spells Python text tree = spells Python text tree
+IsTreeIn spells C text tree = spells C text tree
+IsTreeIn spells Regex text tree = tree ≡ plain_tree text
 
 -- it has none
-abbrev pub HasNoTree : Lang → List ℕ → Type 0
-HasNoTree lang text = (tree : Node) → IsTreeIn lang text tree → ⊥
+abbrev pub HasNoTree : Spells → Lang → List ℕ → Type 0
+HasNoTree spells lang text = (tree : Node) → IsTreeIn spells lang text tree → ⊥

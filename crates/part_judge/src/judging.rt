@@ -2,8 +2,8 @@
 
 ghost use Rattle.std.specs.Prelude.{◌≡◌, ◌<◌, length, map, All, IfOk, slice_get};
 ghost use Rattle.tree_match.specs.Placed.{IsLeafPlaced};
-ghost use Rattle.judge_file.specs.declared.outcome.Outcome.{Outcome as an_outcome};
-ghost use Rattle.judge_file.specs.Findings.{finding_of as finding_at, SearchFinds, BodyFinds, PartFinds, findings_of as findings_in, IsFindingPlaced};
+ghost use Rattle.part_judge.specs.declared.outcome.Outcome.{Outcome as an_outcome};
+ghost use Rattle.part_judge.specs.Findings.{finding_of as finding_at, SearchFinds, BodyFinds, PartFinds, findings_of as findings_in, IsFindingPlaced};
 
 use crate::dotted::dotted;
 use crate::found::Found;

@@ -1,7 +1,7 @@
 use Rattle.std.proofs.Common.{◌∙◌}
-use Rattle.judge_file.proofs.Outcomes.{findings_placed, outcome_placed, crowded_placed}
-use Rattle.judge_file.proofs.judging.search.Goals as goal
-use Rattle.judge_file.proofs.judging.search.Goals.{in-Ok+in_ok-findings_of-in-Ok, in-Err-Crowded+in_ok-dotted-in-Err-Crowded}
+use Rattle.part_judge.proofs.Outcomes.{findings_placed, outcome_placed, crowded_placed}
+use Rattle.part_judge.proofs.judging.search.Goals as goal
+use Rattle.part_judge.proofs.judging.search.Goals.{in-Ok+in_ok-findings_of-in-Ok, in-Err-Crowded+in_ok-dotted-in-Err-Crowded}
 
 pub returns-clause-placed : goal.returns-clause-placed
 returns-clause-placed c =

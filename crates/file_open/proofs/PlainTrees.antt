@@ -9,7 +9,7 @@ use Rattle.node_tree.specs.Span.{LiesIn}
 use Rattle.node_tree.specs.Spans.{SpansLieIn}
 use Rattle.node_tree.proofs.Nodes.{made_kids, made_span}
 use Rattle.node_tree.proofs.SpanLaws.{AllLieIn, none_lie, node_lies}
-use Rattle.judge_file.specs.Reading.{plain_tree}
+use Rattle.file_open.specs.Reading.{plain_tree}
 
 -- its span lies in the text
 pub plain_lies : (text : List ℕ) → IsUtf8 text → SpansLieIn text (plain_tree text)

@@ -15,9 +15,9 @@ use Rattle.tree_match.proofs.Exclusion.{whole_once}
 use Rattle.range_algebra.specs.Trees.{tree_of}
 use Rattle.range_algebra.specs.Meets.{Meets}
 use Rattle.range_algebra.proofs.Once.{over_one}
-use Rattle.judge_file.specs.declared.outcome.Outcome.{Outcome}
-use Rattle.judge_file.specs.declared.outcome.Outcome.TheVariants.{Findings, Crowded, FlowTooLarge}
-use Rattle.judge_file.specs.Findings.{dotted, finding_of, SearchFinds, BodyFinds, PartFinds, findings_of, IsFindingPlaced}
+use Rattle.part_judge.specs.declared.outcome.Outcome.{Outcome}
+use Rattle.part_judge.specs.declared.outcome.Outcome.TheVariants.{Findings, Crowded, FlowTooLarge}
+use Rattle.part_judge.specs.Findings.{dotted, finding_of, SearchFinds, BodyFinds, PartFinds, findings_of, IsFindingPlaced}
 
 module _ (leaves : List Leaf) (texts : List (List ℕ)) (bytes : List ℕ) where
   -- ---- one outcome

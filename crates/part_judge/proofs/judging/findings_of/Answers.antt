@@ -1,9 +1,9 @@
 use Rattle.std.proofs.Common.{List, [], ◌∷◌, ◌++◌, sym, ap, ◌∙◌}
 use Rattle.std.proofs.lemmas.Option.{get_or_from_slice_get, slice_get_within}
 use Rattle.meta_bind.specs.declared.finding.Finding.{Finding}
-use Rattle.judge_file.specs.Findings.{finding_of}
-use Rattle.judge_file.proofs.Mapped.{one_mapped}
-use Rattle.judge_file.proofs.judging.findings_of.Goals as goal
+use Rattle.part_judge.specs.Findings.{finding_of}
+use Rattle.part_judge.proofs.Mapped.{one_mapped}
+use Rattle.part_judge.proofs.judging.findings_of.Goals as goal
 
 pub loop-at-preserved : goal.loop-at-preserved
 loop-at-preserved c =
