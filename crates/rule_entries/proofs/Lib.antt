@@ -1,0 +1,7 @@
+pub mod Laws
+pub mod Finding
+pub mod Levels
+pub mod Shapes
+pub mod Lists
+pub mod Entries
+pub mod Outcomes

@@ -1,0 +1,11 @@
+use Rattle.std.proofs.Common.{ℕ, List, subst}
+use Rattle.rule_keys.specs.Misfits.{IsUnder}
+use Rattle.rule_entries.specs.Bodies.{IsPropagators, IsFormulaOf}
+use Rattle.rule_entries.proofs.Laws.{below_reads}
+use Rattle.rule_entries.proofs.body.propagators_at.Goals as goal
+
+pub returns : goal.returns
+returns g c =
+    let inner = IsFormulaOf (g.R.PatternReader.writes c.args.reader.now) c.args.setting in
+    let under = subst (λ (k : List ℕ). IsUnder k c.propagators-all.result c.within.result) c.as_str.ensures c.within.ensures in
+    below_reads c.args.entry.now.0 (IsPropagators inner c.args.entry.now.1) c.args.found.now c.propagators-all.new.found c.propagators-all.result c.within.result c.propagators-all.ensures under

@@ -1,0 +1,5 @@
+pub mod Readings
+pub mod Finds
+pub mod Formulas
+pub mod Bodies
+pub mod Rules

@@ -1,0 +1,9 @@
+pub mod Misfits
+pub mod Values
+pub mod Names
+pub mod Keys
+pub mod Focus
+pub mod Modes
+pub mod Heads
+pub mod Extras
+pub mod TextPlaces

@@ -1,7 +1,0 @@
-use Rattle.std.proofs.Common.{drop}
-use Rattle.rule_read.specs.Bodies.{IsPart, setting_of}
-use Rattle.rule_read.proofs.Laws.{Rest}
-use Rattle.rule_read.proofs.body.parts.Given as goal
-
-abbrev pub invariant-loop-lang : goal.invariant-loop-lang
-invariant-loop-lang l = Rest (λ k lang. IsPart (setting_of l.constants lang) l.mode l.entries) l.langs l.fn.found l.all l.lang-index (drop l.lang-index l.langs) l.found

@@ -1,8 +1,0 @@
-use Rattle.std.proofs.Common.{drop}
-use Rattle.rule_read.specs.Bodies.{room}
-use Rattle.rule_read.specs.Formulas.{IsFormula}
-use Rattle.rule_read.proofs.Lists.{Left}
-use Rattle.rule_read.proofs.body.taint.Given as goal
-
-abbrev pub invariant-loop-entry : goal.invariant-loop-entry
-invariant-loop-entry l = Left (IsFormula room l.setting) l.entries l.fn.found l.rule (drop l.entry-index l.entries) l.found

@@ -1,7 +1,0 @@
-use Rattle.std.proofs.Common.{◌≡◌, drop}
-use Rattle.rule_read.specs.Extras.{texts_of}
-use Rattle.rule_read.proofs.Folds.{prefixed}
-use Rattle.rule_read.proofs.extra.texts.Given as goal
-
-abbrev pub invariant-loop-item : goal.invariant-loop-item
-invariant-loop-item l = texts_of l.items ≡ prefixed l.all (texts_of (drop l.item-index l.items))

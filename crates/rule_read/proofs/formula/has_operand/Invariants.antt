@@ -1,6 +1,0 @@
-use Rattle.std.proofs.Common.{◌≡◌, drop}
-use Rattle.rule_read.specs.Formulas.{has_operand}
-use Rattle.rule_read.proofs.formula.has_operand.Given as goal
-
-abbrev pub invariant-loop-child : goal.invariant-loop-child
-invariant-loop-child l = has_operand l.children ≡ has_operand (drop l.child-index l.children)

@@ -1,5 +1,0 @@
-use Rattle.rule_read.proofs.Laws.{after_goes}
-use Rattle.rule_read.proofs.formula.pattern.Goals as goal
-
-pub returns : goal.returns
-returns c = after_goes (λ t. t.now) _ _ c.in_ok-text.text c.args.found.now c.leaf.new.found c.leaf.result c.in_ok-text.ensures c.leaf.ensures

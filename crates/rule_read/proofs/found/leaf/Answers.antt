@@ -1,9 +1,0 @@
-use Rattle.rule_read.proofs.Finding.{written, unwritten}
-use Rattle.rule_read.proofs.found.leaf.Goals as goal
-
-pub returns-in-Ok : goal.returns-in-Ok
-returns-in-Ok c =
-    written c.args.setting c.args.text.now c.args.found.now c.in-Ok.pattern c.in-Ok.ensures.pattern c.in-Ok.ensures.only c.next_leaf.result c.next_leaf.new.found c.next_leaf.ensures
-
-pub returns-in-Err : goal.returns-in-Err
-returns-in-Err c = unwritten c.args.setting c.args.text.now c.args.found.now c.in-Err.fault c.no_pattern.result _ c.in-Err.ensures.only c.no_pattern.ensures

@@ -1,6 +1,0 @@
-use Rattle.std.proofs.Common.{◌≡◌, drop}
-use Rattle.rule_read.specs.Heads.{are_texts}
-use Rattle.rule_read.proofs.head.are_texts.Given as goal
-
-abbrev pub invariant-loop-item : goal.invariant-loop-item
-invariant-loop-item l = are_texts l.items ≡ are_texts (drop l.item-index l.items)

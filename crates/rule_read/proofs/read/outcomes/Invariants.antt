@@ -1,6 +1,0 @@
-use Rattle.std.proofs.Common.{drop}
-use Rattle.rule_read.proofs.Outcomes.{SoFar}
-use Rattle.rule_read.proofs.read.outcomes.Given as goal
-
-abbrev pub invariant-loop-place : goal.invariant-loop-place
-invariant-loop-place l = SoFar l.items l.taken l.all l.place (drop l.place l.items)
