@@ -15,20 +15,17 @@ use Rattle.rule_form.specs.declared.formula.Child.TheVariants as children
 use Rattle.rule_form.specs.declared.formula.Child.TheVariants.{rolls-Not, rolls-NotInside, rolls-NotRegex, rolls-MetaRegex, rolls-MetaCompare, rolls-MetaPattern}
 use Rattle.rule_form.specs.declared.formula.Child.TheOpen as layers
 use Rattle.tree_match.specs.declared.leaf.Leaf.{Leaf}
-use Rattle.tree_match.specs.Sets.{Among}
 use Rattle.tree_match.specs.Ascending.{IsAscending}
 use Rattle.tree_match.specs.Members.{Member, member_cmp}
 use Rattle.range_algebra.specs.Halves.{IsOrderedFor, AreApart}
 use Rattle.range_algebra.specs.declared.part.Part.{Part}
 use Rattle.range_algebra.specs.declared.part.Part.TheVariants as parts
-use Rattle.range_algebra.specs.Sizes.{Any}
-use Rattle.range_algebra.specs.Ranges.{IsWithin}
+use Rattle.sorted_sets.specs.Sizes.{Any}
 use Rattle.range_algebra.specs.Conditions.{IsEqualTo, IsAround, IsSharedWith, AllowsBy}
 use Rattle.range_algebra.specs.Regexes.{unbound, matches_bound, AreMatches}
-use Rattle.range_algebra.specs.Choices.{Chosen}
-use Rattle.range_algebra.specs.Trees.{Tree, Branch, Branches, no_branches, branch_then, positive, inside, without, outside, without_regex, meta_regex, meta_compare, meta_pattern, focus, leaf, regex, some_of, all_of, trees_of, branches_of, tree_of, branch_of, has, is_positive, is_inside, is_focus, focused}
-use Rattle.range_algebra.specs.Meets.{Meets, MeetsSome, Allows, Allowed, IsShown, IsShownAt, IsShownAmong, IsGiven, IsOperandsMember}
-use Rattle.range_algebra.specs.Parts.{has_operands, members_in, IsBare, IsSetOf, IsPart, IsBarePart, IsTakenAway, AreTakenAway, AreParts}
+use Rattle.range_algebra.specs.Trees.{Tree, Branch, Branches, no_branches, branch_then, positive, inside, without, outside, without_regex, meta_regex, meta_compare, meta_pattern, focus, leaf, regex, some_of, all_of, branches_of, tree_of, branch_of, has, is_positive, is_inside, is_focus, focused}
+use Rattle.range_algebra.specs.Meets.{Meets, Allows, Allowed, IsShown, IsShownAmong}
+use Rattle.range_algebra.specs.Parts.{has_operands, members_in, IsBare, IsSetOf, IsPart, IsTakenAway, AreTakenAway, AreParts}
 use Rattle.range_algebra.proofs.Openings.{branch_at, by_layer, tree_at, by_tree_layer, item_within, item_parted}
 use Rattle.range_algebra.proofs.Layers.{tree_all, branch_metapattern}
 use Rattle.range_algebra.proofs.Regexes.{among_matches, matches_apart}

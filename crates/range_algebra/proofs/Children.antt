@@ -9,13 +9,14 @@ use Rattle.rule_form.specs.declared.formula.Child.{Child}
 use Rattle.tree_match.specs.declared.leaf.Leaf.{Leaf}
 use Rattle.tree_match.specs.Members.{Member}
 use Rattle.tree_match.specs.Sets.{Among, Adds}
-use Rattle.range_algebra.proofs.Searches.{any_cons, any_end}
+use Rattle.sorted_sets.proofs.Searches.{any_cons, any_end}
 use Rattle.range_algebra.specs.declared.part.Part.{Part}
-use Rattle.range_algebra.specs.declared.fault.EvalFault.{EvalFault}
-use Rattle.range_algebra.specs.declared.fault.EvalFault.TheVariants as faults
+use Rattle.member_join.specs.declared.fault.EvalFault.{EvalFault}
+use Rattle.member_join.specs.declared.fault.EvalFault.TheVariants as faults
 use Rattle.range_algebra.specs.Trees.{tree_of, trees_of, branch_of, branches_of}
 use Rattle.range_algebra.specs.Parts.{IsInSome, IsSetOf, AreSetsOf, IsPart, AreParts, IsTakenAway, AreTakenAway}
-use Rattle.range_algebra.specs.Crowds.{Search, Nothing, Then, InChild, IsFaultFrom, Over, OverTrees, OverBranch, OverBranches}
+use Rattle.member_join.specs.Limits.{Search, Nothing, Then, IsFaultFrom}
+use Rattle.range_algebra.specs.Crowds.{InChild, Over, OverTrees, OverBranch, OverBranches}
 use Rattle.range_algebra.specs.Faults.{IsSeenFrom, IsFaultOf}
 
 -- ---- members one by one, and sets one by one

@@ -13,18 +13,19 @@ use Rattle.tree_match.specs.declared.leaf.Leaf.{Leaf}
 use Rattle.tree_match.specs.Sets.{Among}
 use Rattle.tree_match.specs.Ascending.{IsAscending}
 use Rattle.tree_match.specs.Members.{Member, member_cmp}
-use Rattle.range_algebra.specs.declared.fault.EvalFault.{EvalFault}
-use Rattle.range_algebra.specs.declared.join.Role.TheVariants.{Inside}
+use Rattle.member_join.specs.declared.fault.EvalFault.{EvalFault}
+use Rattle.member_join.specs.declared.operand.Role.TheVariants.{Inside}
 use Rattle.range_algebra.specs.declared.part.Part.{Part}
 use Rattle.range_algebra.specs.declared.part.Part.TheVariants as parts
 use Rattle.range_algebra.specs.Trees
 use Rattle.range_algebra.specs.Trees.{tree_of, trees_of, branch_of, branches_of, has, is_positive, is_inside}
 use Rattle.range_algebra.specs.Meets.{Meets, MeetsSome}
 use Rattle.range_algebra.specs.Parts.{has_operands, members_in, IsInSome, IsSetOf, AreSetsOf, IsPart, IsTakenAway, AreTakenAway, IsBare, IsBarePart, HasNoFormula}
-use Rattle.range_algebra.specs.Crowds.{IsFaultFrom, OneSet, Over, OverTrees, OverBranches, OverBranch, AtAll, PlainPrefixes}
+use Rattle.member_join.specs.Limits.{IsFaultFrom, OneSet}
+use Rattle.range_algebra.specs.Crowds.{Over, OverTrees, OverBranches, OverBranch, AtAll, PlainPrefixes}
 use Rattle.range_algebra.proofs.Layers.{tree_leaf, tree_regex, tree_any, tree_all, branch_metaregex, branch_metacompare, branch_focus}
-use Rattle.range_algebra.proofs.Searches.{any_cons}
-use Rattle.range_algebra.proofs.Limits.{at_most, fault_more, fault_first, fault_next}
+use Rattle.sorted_sets.proofs.Searches.{any_cons}
+use Rattle.member_join.proofs.Limits.{at_most, fault_more, fault_first, fault_next}
 
 -- ---- no operand
 

@@ -1,8 +1,6 @@
 -- What choices show.
-use Rattle.std.proofs.Common.{◌≡◌, ◌⊎◌, inl, inr, ◌↔◌, ℕ, ◌+◌, ◌<◌, ◌≤◌, List, [], ◌∷◌, ◌++◌, length, drop, get_or, map, Bool, true, false, refl, sym, ap, ◌∙◌, subst, arith}
-use Rattle.std.specs.Prelude.{Option, None, Some, MatchBool, Result, Ok, Err, IfOk, OnOk}
-use Rattle.std.proofs.lemmas.List.{drop_all}
-use Rattle.node_tree.specs.declared.span.Span.{Span}
+use Rattle.std.proofs.Common.{◌≡◌, ◌⊎◌, ◌↔◌, ℕ, ◌+◌, ◌<◌, ◌≤◌, List, [], ◌∷◌, ◌++◌, length, drop, get_or, map, Bool, true, false, refl, sym, ap, ◌∙◌, subst, arith}
+use Rattle.std.specs.Prelude.{None, Some, MatchBool, Result, Ok, Err, IfOk, OnOk}
 use Rattle.meta_bind.specs.declared.bound.Bound.{Bound}
 use Rattle.meta_bind.specs.Bounds.{bound_at}
 use Rattle.rule_form.specs.declared.formula.Formula.{Formula}
@@ -14,13 +12,12 @@ use Rattle.tree_match.specs.declared.leaf.Leaf.{Leaf}
 use Rattle.tree_match.specs.Sets.{Among, Adds}
 use Rattle.tree_match.specs.Members.{Member}
 use Rattle.tree_match.proofs.Sets.{pushed, adds_as, adds_none}
-use Rattle.range_algebra.specs.Sizes.{Any}
-use Rattle.range_algebra.specs.Ranges.{HasBytes}
-use Rattle.range_algebra.specs.Trees.{Branch, Branches, no_branches, branch_then, branches_of, branch_of, names_of, focus, focused, has, is_focus, all_of}
+use Rattle.member_join.specs.Ranges.{HasBytes}
+use Rattle.range_algebra.specs.Trees.{Branches, no_branches, branches_of, branch_of, names_of, focus, focused, has, is_focus, all_of}
 use Rattle.range_algebra.specs.Meets.{Meets, IsChosen, Allowed, IsShown, IsShownAt, IsShownAmong}
 use Rattle.range_algebra.specs.Shown.{Shows, IsShownOfSome}
 use Rattle.range_algebra.proofs.Openings.{branches_left, none_left, by_layer, branch_at}
-use Rattle.range_algebra.proofs.Searches.{any_parted, any_end, any_joined}
+use Rattle.sorted_sets.proofs.Searches.{any_joined}
 use Rattle.range_algebra.proofs.Layers.{branch_focus}
 
 -- ---- clauses of answers

@@ -1,7 +1,7 @@
 -- Members before a range, among members in order.
 use Rattle.std.proofs.Common.{◌≡◌, ◌⊎◌, inl, inr, ◌↔◌, ℕ, zero, suc, ◌+◌, ◌-◌, ◌<◌, ◌≤◌, List, [], ◌∷◌, ◌++◌, length, take, drop, get_or, Bool, true, false, refl, sym, ap, ◌∙◌, subst, arith, add-one, eq-eqb, take-append-drop}
-use Rattle.std.specs.Prelude.{IsTrue, nat_eq, ◌&&◌}
-use Rattle.range_algebra.specs.Joins.{same_range}
+use Rattle.std.specs.Prelude.{nat_eq, ◌&&◌}
+use Rattle.member_join.specs.Joins.{same_range}
 use Rattle.std.specs.declared.cmp.Ordering.{Ordering}
 use Rattle.std.specs.declared.cmp.Ordering.TheVariants.{Less, Equal, Greater}
 use Rattle.std.specs.Ordering.{nat_cmp, ordering_then, ordering_reverse}
@@ -11,19 +11,19 @@ use Rattle.node_tree.specs.declared.span.Span.{Span}
 use Rattle.node_tree.specs.Span.{span_cmp}
 use Rattle.node_tree.proofs.Orders.{span_order}
 use Rattle.meta_bind.specs.declared.bound.Bound.{Bound}
-use Rattle.meta_bind.specs.Bounds.{Agree, binding_cmp}
+use Rattle.meta_bind.specs.Bounds.{binding_cmp}
 use Rattle.meta_bind.proofs.Chains.{Follows, span_chains}
 use Rattle.meta_bind.proofs.Lookups.{opened}
 use Rattle.tree_match.specs.Sets.{Among}
 use Rattle.tree_match.specs.Ascending.{IsAscending}
 use Rattle.tree_match.specs.Members.{Member, member_cmp}
 use Rattle.tree_match.proofs.Ascents.{among_at}
-use Rattle.range_algebra.specs.Orders.{member_total}
-use Rattle.range_algebra.specs.Sizes.{Any, Each}
+use Rattle.sorted_sets.specs.Orders.{member_total}
+use Rattle.sorted_sets.specs.Sizes.{Any, Each}
 use Rattle.range_algebra.specs.Conditions.{IsEqualTo, IsAround}
 use Rattle.range_algebra.specs.Halves.{IsBefore, IsBetween, IsFrom}
-use Rattle.range_algebra.proofs.Searches.{any_joined}
-use Rattle.range_algebra.proofs.Limits.{below_all, after_first}
+use Rattle.sorted_sets.proofs.Searches.{any_joined}
+use Rattle.sorted_sets.proofs.Distinct.{below_all, after_first}
 
 -- ---- an item above one
 

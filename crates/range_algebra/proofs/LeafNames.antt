@@ -5,7 +5,7 @@ use Rattle.tree_match.specs.declared.leaf.Leaf.{Leaf}
 use Rattle.tree_match.specs.Sets.{Among}
 use Rattle.tree_match.specs.Members.{Member}
 use Rattle.range_algebra.specs.Meets.{InLeaf}
-use Rattle.range_algebra.specs.Operands.{Ascends}
+use Rattle.member_join.specs.Operands.{Ascends}
 
 pub among_get : {X : Type 0} (xs : List X) (x : X) → Among xs x → (k : ℕ) × (slice_get xs k ≡ Some x)
 among_get [] x h = elim h [ ]

@@ -1,47 +1,18 @@
 -- The names of all members of a formula stand in order.
-use Rattle.std.proofs.Common.{◌≡◌, inl, inr, ℕ, List, [], ◌∷◌, map, refl, sym, subst, Bool, true, false}
+use Rattle.std.proofs.Common.{◌≡◌, inl, inr, ℕ, List, [], ◌∷◌, sym, subst, Bool, true, false}
 use Rattle.std.specs.Prelude.{None, MatchBool}
 use Rattle.meta_bind.specs.declared.bound.Bound.{Bound}
-use Rattle.meta_bind.specs.declared.join.Keep.TheVariants.{Later, First}
 use Rattle.meta_bind.specs.Bounds.{NamesAscend}
-use Rattle.meta_bind.specs.Merges.{merged}
-use Rattle.meta_bind.proofs.Joins.{ascends_joined}
 use Rattle.tree_match.specs.declared.leaf.Leaf.{Leaf}
 use Rattle.tree_match.specs.Members.{Member}
-use Rattle.range_algebra.specs.declared.join.Role.{Role}
-use Rattle.range_algebra.specs.declared.join.Role.TheVariants.{Plain, Inside}
-use Rattle.range_algebra.specs.Sizes.{Each}
+use Rattle.member_join.specs.declared.operand.Role.{Role}
+use Rattle.member_join.specs.declared.operand.Role.TheVariants.{Plain, Inside}
 use Rattle.range_algebra.specs.Trees
-use Rattle.range_algebra.specs.Choices.{Chosen, FirstOf, NoneOf, IsMet, binding_of, merged_with, merged_all}
+use Rattle.member_join.specs.Choices.{Chosen, NoneOf, IsMet}
 use Rattle.range_algebra.specs.Meets.{Meets, MeetsSome, OneOfEach, OneAnd, IsShownAmong}
-use Rattle.range_algebra.specs.Operands.{Ascends, LeavesAscend}
-
-pub merged_ascends : (b : List Bound) (cs : List (List Bound)) → NamesAscend b → Each NamesAscend cs → NamesAscend (merged_with b cs)
-merged_ascends b [] up each = up
-merged_ascends b (c ∷ cs) up each = merged_ascends (merged b c) cs (ascends_joined Later b c up (each c (inl refl))) (λ x h. each x (inr h))
-
-pub bindings_ascend : (ms : List Member) → Each Ascends ms → Each NamesAscend (map binding_of ms)
-bindings_ascend [] each b h = elim h [ ]
-bindings_ascend (m ∷ ms) each b (inl e) = subst NamesAscend e (each m (inl refl))
-bindings_ascend (m ∷ ms) each b (inr h) = bindings_ascend ms (λ x k. each x (inr k)) b h
-
-pub all_ascend : (ms : List Member) → Each Ascends ms → NamesAscend (merged_all (map binding_of ms))
-all_ascend ms each = merged_ascends [] (map binding_of ms) tt (bindings_ascend ms each)
-
--- each list of the set has members whose names stand in order
-abbrev pub AllAscend : Chosen → Type 0
-AllAscend C = (ms : List Member) → C ms → Each Ascends ms
-
-pub none_ascend : AllAscend NoneOf
-none_ascend [] h m k = elim k [ ]
-none_ascend (n ∷ ns) h m k = absurd cc
-
-met_ascends : (P I : Chosen) → AllAscend P → AllAscend I → (m : Member) → IsMet P I m → Ascends m
-met_ascends P I p i m h =
-    let c = h.choice in
-    let plain = subst NamesAscend (sym c.plain) (all_ascend c.chosen (p c.chosen c.plain_members)) in
-    let inside = subst NamesAscend (sym c.inside) (all_ascend c.around (i c.around c.inside_members)) in
-    subst NamesAscend (sym h.binding) (ascends_joined First h.state.plain h.state.inside plain inside)
+use Rattle.member_join.specs.Operands.{Ascends}
+use Rattle.range_algebra.specs.Operands.{LeavesAscend}
+use Rattle.member_join.proofs.Names.{AllAscend, none_ascend, met_ascends, first_ascends}
 
 operands_ascend : (P I : Chosen) → AllAscend P → AllAscend I → (m : Member) (p q : Bool) → MatchBool p (IsMet P I m) (MatchBool q (IsMet I NoneOf m) ⊥) → Ascends m
 operands_ascend P I p i m true b h = met_ascends P I p i m h
@@ -51,11 +22,6 @@ operands_ascend P I p i m false false h = elim h [ ]
 shown_ascends : (c m : Member) (names : List (List ℕ)) (f : Bool) → MatchBool f (IsShownAmong names c m) (m ≡ c) → Ascends c → Ascends m
 shown_ascends c m names true (name, there, (b, bound, some, is)) up = let P : Member → Type 0 = Ascends in subst P (sym is) up
 shown_ascends c m names false is up = let P : Member → Type 0 = Ascends in subst P (sym is) up
-
-pub first_ascends : (Set : Member → Type 0) (Rest : Chosen) → ((m : Member) → Set m → Ascends m) → AllAscend Rest → (ms : List Member) → FirstOf Set Rest ms → Each Ascends ms
-first_ascends Set Rest one rest [] h m k = elim h [ ]
-first_ascends Set Rest one rest (n ∷ ns) h m (inl e) = let P : Member → Type 0 = Ascends in subst P e (one n h.0)
-first_ascends Set Rest one rest (n ∷ ns) h m (inr k) = rest ns h.1 m k
 
 module _ (leaves : List Leaf) (texts : List (List ℕ)) (bytes : List ℕ) (up : LeavesAscend leaves) where
   -- the members of the formula of an operand

@@ -4,14 +4,15 @@ use Rattle.std.specs.Prelude.{Option, None, Some, MatchBool, slice_get}
 use Rattle.tree_match.specs.declared.leaf.Leaf.{Leaf}
 use Rattle.tree_match.specs.declared.leaf.Leaf.TheVariants.{Full, Crowded}
 use Rattle.tree_match.specs.Sets.{Among}
-use Rattle.range_algebra.specs.declared.join.Role.{Role}
-use Rattle.range_algebra.specs.declared.join.Role.TheVariants.{Plain, Inside}
-use Rattle.range_algebra.specs.Sizes.{IsDistinct, HasAtMost, HasMoreThan}
+use Rattle.member_join.specs.declared.operand.Role.{Role}
+use Rattle.member_join.specs.declared.operand.Role.TheVariants.{Plain, Inside}
+use Rattle.sorted_sets.specs.Sizes.{IsDistinct, HasAtMost, HasMoreThan}
 use Rattle.range_algebra.specs.Regexes.{IsMatch}
 use Rattle.range_algebra.specs.Trees
-use Rattle.range_algebra.specs.Choices.{NoneOf, IsCounted}
+use Rattle.member_join.specs.Choices.{NoneOf, IsCounted}
 use Rattle.range_algebra.specs.Meets.{Meets, MeetsSome, OneOfEach}
-use Rattle.range_algebra.specs.Crowds.{Search, Nothing, OneSet, Then, InChild, LeafSearch, is_operand, OneOfFirst, PlainPrefixes, InsidePrefixes, Prefixes, AtAll, Over, OverTrees, OverBranches, OverBranch}
+use Rattle.member_join.specs.Limits.{Search, Nothing, OneSet, Then}
+use Rattle.range_algebra.specs.Crowds.{InChild, LeafSearch, is_operand, OneOfFirst, PlainPrefixes, InsidePrefixes, Prefixes, AtAll, Over, OverTrees, OverBranches, OverBranch}
 
 -- ---- how many items two lists have
 

@@ -18,10 +18,10 @@ use Rattle.tree_match.specs.Sets.{Among}
 use Rattle.tree_match.specs.Members.{Member}
 use Rattle.tree_match.specs.Placed.{IsPlaced, IsLeafPlaced}
 use Rattle.tree_match.proofs.Placed.{all_among, among_all}
-use Rattle.range_algebra.specs.declared.join.Role.{Role}
-use Rattle.range_algebra.specs.declared.join.Role.TheVariants.{Plain, Inside}
+use Rattle.member_join.specs.declared.operand.Role.{Role}
+use Rattle.member_join.specs.declared.operand.Role.TheVariants.{Plain, Inside}
 use Rattle.range_algebra.specs.Trees
-use Rattle.range_algebra.specs.Choices.{Chosen, FirstOf, NoneOf, IsMet, range_of, binding_of, merged_with}
+use Rattle.member_join.specs.Choices.{Chosen, FirstOf, NoneOf, IsMet, range_of, binding_of, merged_with}
 use Rattle.range_algebra.specs.Meets.{InLeaf, IsGiven, IsOperandsMember, IsShownAt, IsShown, Meets, MeetsSome, OneOfEach, OneAnd, IsChosen}
 use Rattle.range_algebra.specs.Conditions.{AreBoundIn}
 use Rattle.range_algebra.specs.Regexes.{matches_of}

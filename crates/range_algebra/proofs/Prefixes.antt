@@ -5,22 +5,24 @@ use Rattle.std.specs.declared.alloc.Global.{Global}
 use Rattle.tree_match.specs.declared.leaf.Leaf.{Leaf}
 use Rattle.tree_match.specs.Sets.{Among}
 use Rattle.tree_match.specs.Members.{Member}
-use Rattle.range_algebra.specs.declared.state.State.{State}
-use Rattle.range_algebra.specs.declared.operand.Operand.{Operand}
+use Rattle.member_join.specs.declared.state.State.{State}
+use Rattle.member_join.specs.declared.operand.Operand.{Operand}
 use Rattle.range_algebra.specs.declared.part.Part.{Part}
 use Rattle.range_algebra.specs.declared.part.Part.TheVariants as kinds
-use Rattle.range_algebra.specs.declared.join.Role.{Role}
-use Rattle.range_algebra.specs.declared.join.Role.TheVariants.{Plain, Inside}
-use Rattle.range_algebra.specs.Sizes.{Each}
+use Rattle.member_join.specs.declared.operand.Role.{Role}
+use Rattle.member_join.specs.declared.operand.Role.TheVariants.{Plain, Inside}
+use Rattle.sorted_sets.specs.Sizes.{Each}
 use Rattle.range_algebra.specs.Trees
-use Rattle.range_algebra.specs.Choices.{Chosen, FirstOf, NoneOf, IsChoice, IsMet, IsCounted}
+use Rattle.member_join.specs.Choices.{Chosen, FirstOf, NoneOf, IsChoice, IsMet, IsCounted}
 use Rattle.range_algebra.specs.Meets.{Meets, OneOfEach, OneAnd, IsChosen}
 use Rattle.range_algebra.specs.Parts.{IsSetIn, IsPart}
-use Rattle.range_algebra.specs.Crowds.{Search, Nothing, Then, OneSet, is_operand, OneOfFirst, PlainPrefixes, InsidePrefixes, Prefixes}
-use Rattle.range_algebra.specs.Operands.{Ascends, LeavesAscend, OperandsAscend, BeginsWithOperand, AreOperands, ChosenFrom, PlainFronts, InsideFronts, Fronts}
+use Rattle.member_join.specs.Limits.{Search, Nothing, Then, OneSet}
+use Rattle.range_algebra.specs.Crowds.{is_operand, OneOfFirst, PlainPrefixes, InsidePrefixes, Prefixes}
+use Rattle.member_join.specs.Operands.{Ascends, OperandsAscend, ChosenFrom, PlainFronts, InsideFronts, Fronts}
+use Rattle.range_algebra.specs.Operands.{LeavesAscend, BeginsWithOperand, AreOperands}
 use Rattle.range_algebra.proofs.Names.{tree_ascends}
-use Rattle.range_algebra.proofs.Limits.{one_set_as}
-use Rattle.range_algebra.proofs.Reaching.{no_choice}
+use Rattle.member_join.proofs.Limits.{one_set_as}
+use Rattle.member_join.proofs.Reaching.{no_choice}
 
 -- ---- lists of sets
 

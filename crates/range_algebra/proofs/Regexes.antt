@@ -7,7 +7,7 @@ use Rattle.std.specs.Ordering.{nat_cmp, ordering_then}
 use Rattle.std.proofs.lemmas.Option.{slice_get_read, slice_get_past}
 use Rattle.std.proofs.lemmas.Cmp.{ranked, by_ranked}
 use Rattle.node_tree.specs.declared.span.Span.{Span}
-use Rattle.node_tree.specs.Span.{span_cmp, LiesIn}
+use Rattle.node_tree.specs.Span.{LiesIn}
 use Rattle.meta_bind.specs.declared.bound.Bound.{Bound}
 use Rattle.meta_bind.specs.Bounds.{binding_cmp}
 use Rattle.meta_filter.specs.BoundTexts.{holds_regex}
@@ -17,15 +17,15 @@ use Rattle.tree_match.specs.declared.leaf.Leaf.{Leaf}
 use Rattle.tree_match.specs.Sets.{Among}
 use Rattle.tree_match.specs.Ascending.{IsAscending}
 use Rattle.tree_match.specs.Members.{Member, member_cmp}
-use Rattle.range_algebra.specs.Choices.{range_of}
+use Rattle.member_join.specs.Choices.{range_of}
 use Rattle.range_algebra.specs.Conditions.{IsSharedWith, IsSharedAt}
 use Rattle.range_algebra.specs.Halves.{IsBefore, IsBetween, AreApart}
-use Rattle.range_algebra.specs.Ranges.{ShareByte}
+use Rattle.member_join.specs.Ranges.{ShareByte}
 use Rattle.range_algebra.specs.Regexes.{unbound, matches_of, matches_bound, IsMatch, AreMatches}
-use Rattle.range_algebra.specs.Sizes.{Each, Any}
+use Rattle.sorted_sets.specs.Sizes.{Each, Any}
 use Rattle.range_algebra.specs.Trees.{regex}
 use Rattle.range_algebra.specs.Parts.{IsSetOf}
-use Rattle.range_algebra.proofs.Searches.{any_joined}
+use Rattle.sorted_sets.proofs.Searches.{any_joined}
 
 -- ---- matches with nothing bound
 

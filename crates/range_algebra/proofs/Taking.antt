@@ -7,10 +7,10 @@ use Rattle.meta_bind.proofs.Lookups.{opened}
 use Rattle.rule_form.specs.declared.formula.Child.{Child}
 use Rattle.tree_match.specs.declared.leaf.Leaf.{Leaf}
 use Rattle.tree_match.specs.Members.{Member}
-use Rattle.range_algebra.specs.declared.operand.Operand.{Operand}
+use Rattle.member_join.specs.declared.operand.Operand.{Operand}
 use Rattle.range_algebra.specs.declared.part.Part.{Part}
 use Rattle.range_algebra.specs.declared.part.Part.TheVariants as kinds
-use Rattle.range_algebra.specs.declared.join.Role.{Role}
+use Rattle.member_join.specs.declared.operand.Role.{Role}
 use Rattle.range_algebra.specs.Trees.{Branch, Branches, branch_then, branch_of, branches_of}
 use Rattle.range_algebra.specs.Parts.{IsSetIn, IsPart, AreParts}
 use Rattle.range_algebra.specs.Crowds.{is_operand}

@@ -6,9 +6,9 @@ use Rattle.meta_bind.specs.Bounds.{Agree}
 use Rattle.tree_match.specs.Members.{Member}
 use Rattle.meta_bind.specs.Places.{EndsLieIn}
 use Rattle.meta_filter.specs.Values.{holds}
-use Rattle.range_algebra.specs.Ranges.{IsWithin, ShareByte}
+use Rattle.member_join.specs.Ranges.{IsWithin, ShareByte}
 use Rattle.range_algebra.specs.Regexes.{matches_bound}
-use Rattle.range_algebra.specs.Sizes.{Any}
+use Rattle.sorted_sets.specs.Sizes.{Any}
 use Rattle.range_algebra.specs.Trees.{Branch, without, outside, without_regex, meta_regex, meta_compare, meta_pattern}
 
 -- the member has the range, with a binding that agrees

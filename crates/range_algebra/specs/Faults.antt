@@ -1,7 +1,7 @@
 -- The faults of children.
 use Rattle.std.specs.Prelude.{◌≡◌, ℕ, [], ◌∷◌, ◌++◌, Result, Ok, Err}
-use Rattle.range_algebra.specs.declared.fault.EvalFault.{EvalFault}
-use Rattle.range_algebra.specs.declared.fault.EvalFault.TheVariants as faults
+use Rattle.member_join.specs.declared.fault.EvalFault.{EvalFault}
+use Rattle.member_join.specs.declared.fault.EvalFault.TheVariants as faults
 
 -- the fault of the child with that number, as it is seen from the set above; there may be no memory for its number
 abbrev pub IsSeenFrom : ℕ → EvalFault → EvalFault → Type 0

@@ -6,8 +6,8 @@ use Rattle.node_tree.specs.Span.{span_cmp}
 use Rattle.rx_text.specs.Searches.{FollowFrom}
 use Rattle.tree_match.specs.Ascending.{IsAscending}
 use Rattle.tree_match.specs.Members.{Member, member_cmp}
-use Rattle.range_algebra.specs.Sizes.{Each}
-use Rattle.range_algebra.specs.Choices.{range_of}
+use Rattle.sorted_sets.specs.Sizes.{Each}
+use Rattle.member_join.specs.Choices.{range_of}
 use Rattle.range_algebra.specs.Trees.{Branch, without, outside, without_regex}
 
 -- the member begins before the range, or begins there and ends before it

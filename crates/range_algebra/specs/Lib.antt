@@ -1,13 +1,6 @@
-pub mod Ranges
-pub mod Sizes
-pub mod Ends
 pub mod Trees
-pub mod Choices
-pub mod Agreements
-pub mod Joins
 pub mod Regexes
 pub mod Conditions
-pub mod Orders
 pub mod Meets
 pub mod Parts
 pub mod Crowds
@@ -15,4 +8,3 @@ pub mod Shown
 pub mod Faults
 pub mod Operands
 pub mod Halves
-pub mod Blocks

@@ -1,5 +1,5 @@
 -- The members of a formula.
-use Rattle.std.specs.Prelude.{◌≡◌, ◌≤◌, ◌<◌, ◌⊎◌, ℕ, zero, suc, List, [], ◌∷◌, Option, None, Some, MatchOption, IsTrue, MatchBool, slice_get}
+use Rattle.std.specs.Prelude.{◌≡◌, ◌≤◌, ◌<◌, ◌⊎◌, ℕ, List, [], ◌∷◌, Option, None, Some, MatchOption, IsTrue, MatchBool, slice_get}
 use Rattle.node_tree.specs.declared.span.Span.{Span}
 use Rattle.meta_bind.specs.declared.bound.Bound.{Bound}
 use Rattle.meta_bind.specs.Bounds.{Agree, bound_at}
@@ -8,13 +8,13 @@ use Rattle.tree_match.specs.declared.leaf.Leaf.{Leaf}
 use Rattle.tree_match.specs.declared.leaf.Leaf.TheVariants.{Full, Crowded}
 use Rattle.tree_match.specs.Sets.{Among}
 use Rattle.tree_match.specs.Members.{Member}
-use Rattle.range_algebra.specs.declared.join.Role.{Role}
-use Rattle.range_algebra.specs.declared.join.Role.TheVariants.{Plain, Inside}
-use Rattle.range_algebra.specs.Ranges.{IsWithin, HasBytes, ShareByte}
-use Rattle.range_algebra.specs.Sizes.{Any}
+use Rattle.member_join.specs.declared.operand.Role.{Role}
+use Rattle.member_join.specs.declared.operand.Role.TheVariants.{Plain, Inside}
+use Rattle.member_join.specs.Ranges.{IsWithin, HasBytes, ShareByte}
+use Rattle.sorted_sets.specs.Sizes.{Any}
 use Rattle.range_algebra.specs.Regexes.{matches_of, IsMatch, matches_bound}
 use Rattle.range_algebra.specs.Trees
-use Rattle.range_algebra.specs.Choices.{Chosen, FirstOf, NoneOf, IsMet}
+use Rattle.member_join.specs.Choices.{Chosen, FirstOf, NoneOf, IsMet}
 
 -- a member of a pattern's set
 abbrev pub InLeaf : Option Leaf → Member → Type 0

@@ -7,7 +7,7 @@ use Rattle.tree_match.specs.Members.{Member}
 use Rattle.tree_match.specs.Leaf.{IsWhole}
 use Rattle.range_algebra.specs.declared.part.Part.{Part}
 use Rattle.range_algebra.specs.declared.part.Part.TheVariants.{Nothing, Members, Bare}
-use Rattle.range_algebra.specs.Sizes.{Any}
+use Rattle.sorted_sets.specs.Sizes.{Any}
 use Rattle.range_algebra.specs.Regexes.{AreMatches}
 use Rattle.range_algebra.specs.Trees
 use Rattle.range_algebra.specs.Meets.{Meets}

@@ -2,7 +2,7 @@
 use Rattle.std.specs.Prelude.{ℕ, List}
 use Rattle.tree_match.specs.declared.leaf.Leaf.{Leaf}
 use Rattle.tree_match.specs.Members.{Member}
-use Rattle.range_algebra.specs.Sizes.{Any}
+use Rattle.sorted_sets.specs.Sizes.{Any}
 use Rattle.range_algebra.specs.Trees.{Branches}
 use Rattle.range_algebra.specs.Meets.{Allowed, IsShown}
 

@@ -8,18 +8,19 @@ ghost use Rattle.range_algebra.specs.Trees.{all_of, branch_of, branches_of, name
 ghost use Rattle.range_algebra.specs.Meets.{Allowed, IsShown, IsShownAt, IsShownAmong};
 ghost use Rattle.range_algebra.specs.Parts.{AreParts, IsSetOf};
 ghost use Rattle.range_algebra.specs.Conditions.{AreBoundIn};
-ghost use Rattle.range_algebra.specs.Sizes.{Each};
+ghost use Rattle.sorted_sets.specs.Sizes.{Each};
 ghost use Rattle.range_algebra.specs.Shown.{Shows, IsShownOfSome};
-ghost use Rattle.range_algebra.specs.Crowds.{AtAll, IsFaultFrom, OneSet};
+ghost use Rattle.range_algebra.specs.Crowds.{AtAll};
+ghost use Rattle.member_join.specs.Limits.{IsFaultFrom, OneSet};
 
 use crate::choice::choices;
 use crate::condition::{allows, has_focus};
-use crate::evaluate::{gathered, thinned};
-use crate::fault::EvalFault;
 use crate::part::Part;
-use crate::scene::{Member, Scene};
+use crate::scene::Scene;
+use member_join::{EvalFault, gathered, thinned};
 use node_tree::Memory;
 use rule_form::Child;
+use sorted_sets::Member;
 use std::alloc::Global;
 
 // Whether all the children allow the choice.

@@ -11,12 +11,13 @@ ghost use Rattle.range_algebra.specs.Meets.{Meets};
 ghost use Rattle.range_algebra.specs.Crowds.{Over, IsFault};
 
 use crate::evaluate::members_of;
-use crate::fault::EvalFault;
-use crate::scene::{Member, Scene};
+use crate::scene::Scene;
 use crate::set::MatchSet;
+use member_join::EvalFault;
 use node_tree::{FileView, List, Memory};
 use rule_form::Formula;
 use rx_text::Rx;
+use sorted_sets::Member;
 use std::alloc::Global;
 use tree_match::Leaf;
 

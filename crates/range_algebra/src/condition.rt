@@ -7,17 +7,18 @@ ghost use Rattle.range_algebra.specs.Halves.{IsBefore, IsBetween, IsFrom, AreApa
 ghost use Rattle.range_algebra.specs.Conditions.{IsEqualTo, IsAround, IsSharedWith, IsSharedAt, AreBoundIn, AllowsBy};
 ghost use Rattle.range_algebra.specs.Meets.{Meets, Allows};
 ghost use Rattle.range_algebra.specs.Parts.{IsPart, AreTakenAway, has_operands};
-ghost use Rattle.range_algebra.specs.Sizes.{Any};
+ghost use Rattle.sorted_sets.specs.Sizes.{Any};
 ghost use Rattle.range_algebra.specs.Trees.{all_of, meta_pattern, tree_of, branch_of, branches_of, has, is_focus};
 
 use crate::part::Part;
-use crate::range::{is_equal, lies_in, shares_byte};
-use crate::scene::{Member, Scene};
+use crate::scene::Scene;
 use crate::search::matches_bound;
+use member_join::{is_equal, lies_in, shares_byte};
 use meta_bind::Trail;
 use meta_filter::holds_comparison;
 use node_tree::{Memory, Span};
 use rule_form::{Child, Formula};
+use sorted_sets::Member;
 use std::alloc::Global;
 use std::cmp::Ordering;
 

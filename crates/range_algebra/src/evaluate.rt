@@ -1,72 +1,27 @@
 //! The members of a formula.
 
 ghost use Rattle.std.specs.Prelude.{◌≡◌, ◌↔◌, ◌≤◌, ◌<◌, ℕ, All, List, [], length, map, None, Ok, OnOk, IfOk, IfErr};
-ghost use Rattle.std.specs.Option.{option_to_list};
 ghost use Rattle.tree_match.specs.Placed.{IsLeafPlaced};
 ghost use Rattle.tree_match.specs.Sets.{Among, Adds};
 ghost use Rattle.tree_match.specs.Ascending.{IsAscending};
 ghost use Rattle.tree_match.specs.Members.{Member as member_value, member_cmp};
 ghost use Rattle.range_algebra.specs.Trees.{tree_of, trees_of, branch_of, branches_of, meta_pattern};
 ghost use Rattle.range_algebra.specs.Parts.{IsSetOf, AreSetsOf, IsInSome, IsPart, AreParts, AreTakenAway};
-ghost use Rattle.range_algebra.specs.Crowds.{NamesSet, IsFaultFrom, OneSet, Over, OverTrees, OverBranches, OverBranch};
+ghost use Rattle.member_join.specs.Limits.{IsFaultFrom, OneSet};
+ghost use Rattle.range_algebra.specs.Crowds.{Over, OverTrees, OverBranches, OverBranch};
 ghost use Rattle.range_algebra.specs.Faults.{IsFaultOf};
 
 use crate::all::all_members;
-use crate::fault::EvalFault;
 use crate::leaf::leaf_members;
 use crate::operand::is_bare;
-use crate::order::settled;
 use crate::part::Part;
-use crate::scene::{MOST, Member, ROOM, Scene};
+use crate::scene::Scene;
 use crate::search::{matches_of, regex_members};
+use member_join::{EvalFault, gathered, thinned};
 use node_tree::{List, Memory};
 use rule_form::{Child, Formula};
+use sorted_sets::Member;
 use std::alloc::Global;
-
-/// That a set has too many members: the formula's own, or that of the child with this number.
-pub fn crowded<T>(alloc: Global, number: Option<usize>) -> Result<T, EvalFault>
-    ensures none { IfOk result (λ _. ⊥) }
-    ensures named { IfErr result (NamesSet (option_to_list number)) }
-{
-    let mut numbers = List::new(alloc);
-    if let Some(number) = number {
-        numbers.push(number as u64)?;
-    }
-    Err(EvalFault::Crowded(numbers))
-}
-
-/// The members, unless there are more than 10,000.
-pub fn limited<'t>(alloc: Global, members: Vec<Member<'t>>) -> Result<Vec<Member<'t>>, EvalFault>
-    ensures few { IfOk result (λ v. (v.items ≡ members.entry.items) × (length members.entry.items ≤ 10000)) }
-    ensures named { IfErr result (NamesSet []) }
-    ensures many { IfErr result (λ _. 10000 < length members.entry.items) }
-{
-    if members.len() > MOST {
-        return crowded(alloc, None);
-    }
-    Ok(members)
-}
-
-/// The members in order, each once, unless there are more than 10,000.
-pub fn gathered<'t>(alloc: Global, members: Vec<Member<'t>>) -> Result<Vec<Member<'t>>, EvalFault>
-    ensures ordered { IfOk result (λ v. IsAscending member_cmp v.items) }
-    ensures same { IfOk result (λ v. (m : member_value) → Among v.items m ↔ Among members.entry.items m) }
-    ensures few { IfOk result (λ v. length v.items ≤ 10000) }
-    ensures crowded { IfErr result (IsFaultFrom (OneSet [] (Among members.entry.items))) }
-{
-    limited(alloc, settled(alloc, members)?)
-}
-
-/// The same members, put in order and each once where they are many.
-pub fn thinned<'t>(alloc: Global, members: Vec<Member<'t>>) -> Result<Vec<Member<'t>>, EvalFault>
-    ensures same { IfOk result (λ v. (m : member_value) → Among v.items m ↔ Among members.entry.items m) }
-    ensures crowded { IfErr result (IsFaultFrom (OneSet [] (Among members.entry.items))) }
-{
-    if members.len() <= ROOM {
-        return Ok(members);
-    }
-    gathered(alloc, members)
-}
 
 // Adds the members of the set.
 fn add_all<'t>(set: &[Member<'t>], members: &mut Vec<Member<'t>>) -> Result<(), Memory>

@@ -6,12 +6,13 @@ ghost use Rattle.tree_match.specs.Ascending.{IsAscending};
 ghost use Rattle.tree_match.specs.Members.{Member as member_value, member_cmp};
 ghost use Rattle.range_algebra.specs.Trees.{leaf};
 ghost use Rattle.range_algebra.specs.Parts.{IsSetOf};
-ghost use Rattle.range_algebra.specs.Crowds.{IsFaultFrom, OneSet, Over};
+ghost use Rattle.member_join.specs.Limits.{IsFaultFrom, OneSet};
+ghost use Rattle.range_algebra.specs.Crowds.{Over};
 
-use crate::evaluate::{crowded, gathered};
-use crate::fault::EvalFault;
-use crate::scene::{Member, Scene};
+use crate::scene::Scene;
+use member_join::{EvalFault, crowded, gathered};
 use meta_bind::Trail;
+use sorted_sets::Member;
 use std::alloc::Global;
 use tree_match::{Leaf, LeafSet};
 

@@ -3,23 +3,16 @@
 
 mod all;
 mod answer;
-mod block;
 mod choice;
 mod condition;
 mod evaluate;
-mod fault;
-mod join;
 mod leaf;
 mod operand;
-mod order;
 mod part;
-mod range;
 mod scene;
 mod search;
 mod set;
-mod state;
 
 pub use answer::eval;
-pub use fault::EvalFault;
-pub use order::{Ordered, settled};
+pub use member_join::EvalFault;
 pub use set::MatchSet;

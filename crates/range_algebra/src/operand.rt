@@ -7,19 +7,11 @@ ghost use Rattle.range_algebra.specs.Crowds.{is_operand};
 ghost use Rattle.range_algebra.specs.Parts.{AreParts};
 ghost use Rattle.range_algebra.specs.Operands.{AddsChild, AreOperands};
 
-use crate::join::Role;
 use crate::part::Part;
-use crate::scene::Member;
+use member_join::{Operand, Role};
 use node_tree::Memory;
 use rule_form::Child;
 use std::alloc::Global;
-
-/// An operand: the number of its child, and its members.
-#[derive(Clone, Copy)]
-pub struct Operand<'s, 't> {
-    pub number: usize,
-    pub members: &'s [Member<'t>],
-}
 
 /// Whether the child is a formula of which the range is one.
 #[tactic(auto, using(crate::proofs::Layers::branch_layers))]

@@ -3,7 +3,7 @@
 ghost use Rattle.std.specs.Prelude.{◌≡◌};
 ghost use Rattle.range_algebra.specs.Parts.{members_in};
 
-use crate::scene::Member;
+use sorted_sets::Member;
 use std::alloc::Global;
 
 /// The members of a child's formula, as far as the child needs them.

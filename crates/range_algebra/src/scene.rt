@@ -1,7 +1,6 @@
 //! What a formula is looked at in.
 
-use meta_bind::Trail;
-use node_tree::{FileView, List, Span};
+use node_tree::{FileView, List};
 use rx_text::Rx;
 use tree_match::Leaf;
 
@@ -12,12 +11,3 @@ pub struct Scene<'t> {
     pub leaves: &'t List<Leaf>,
     pub rx: &'t List<Rx>,
 }
-
-/// A range and what the metavariables stand for there.
-pub type Member<'t> = (Span, Trail<'t>);
-
-/// So many items are gathered before they are put in order.
-pub const ROOM: usize = 40000;
-
-/// The most members of a set.
-pub const MOST: usize = 10000;

@@ -6,14 +6,15 @@ ghost use Rattle.meta_bind.specs.Places.{EndsLieIn};
 ghost use Rattle.range_algebra.specs.Trees.{regex};
 ghost use Rattle.range_algebra.specs.Regexes.{unbound as with_nothing, AreMatches, matches_bound};
 ghost use Rattle.range_algebra.specs.Parts.{IsSetOf};
-ghost use Rattle.range_algebra.specs.Crowds.{IsFaultFrom, Over};
+ghost use Rattle.member_join.specs.Limits.{IsFaultFrom};
+ghost use Rattle.range_algebra.specs.Crowds.{Over};
 
-use crate::evaluate::limited;
-use crate::fault::EvalFault;
-use crate::scene::{Member, Scene};
+use crate::scene::Scene;
+use member_join::{EvalFault, limited};
 use meta_bind::Trail;
 use meta_filter::holds_regex;
 use node_tree::{Memory, Span};
+use sorted_sets::Member;
 use std::alloc::Global;
 use std::str;
 

@@ -15,7 +15,7 @@ use Rattle.meta_bind.specs.declared.finding.Finding.{Finding}
 use Rattle.meta_bind.specs.Bounds.{name_cmp, binding_cmp}
 use Rattle.meta_bind.proofs.BindingOrder.{binding_order}
 use Rattle.meta_bind.proofs.Chains.{span_chains, binding_chains}
-use Rattle.range_algebra.specs.Orders.{total_of}
+use Rattle.sorted_sets.specs.Orders.{total_of}
 use Rattle.fix_apply.specs.declared.report.Reported.{Reported}
 use Rattle.scan_session.specs.Reports.{bound_cmp, reported_cmp}
 use Rattle.scan_session.specs.Hits.{Hit, hit_cmp}

@@ -8,7 +8,7 @@ ghost use Rattle.scan_session.specs.Notes.{notice as a_note, notice_cmp};
 
 use fix_apply::{Notice, NoticeKind};
 use node_tree::{List, Memory, Text};
-use range_algebra::{Ordered, settled};
+use sorted_sets::{Ordered, settled};
 use std::alloc::Global;
 use std::cmp::Ordering;
 use std::marker::Model;

@@ -11,7 +11,7 @@ use crate::looking::Judged;
 use crate::runner::{Runner, rule_at};
 use meta_bind::{Finding, Trail};
 use node_tree::{Memory, Span};
-use range_algebra::Ordered;
+use sorted_sets::Ordered;
 use std::alloc::Global;
 use std::cmp::Ordering;
 use std::marker::Model;

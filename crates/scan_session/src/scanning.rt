@@ -17,7 +17,7 @@ use file_open::{Opened, open_file};
 use fix_apply::{NoticeKind, Reported};
 use node_tree::{Bytes, FileView, Lang, List, Memory, Steps};
 use path_glob::lang_of;
-use range_algebra::settled;
+use sorted_sets::settled;
 use std::alloc::Global;
 use std::sync::ledger::Ledger;
 

@@ -2,16 +2,15 @@ use Rattle.std.proofs.Common.{◌↔◌, List, [], map, sym, subst}
 use Rattle.std.specs.Prelude.{None}
 use Rattle.std.proofs.lemmas.Result.{err_from_is_err_and, IfErr-weaker}
 use Rattle.tree_match.specs.Members.{Member}
-use Rattle.tree_match.specs.Sets.{Among}
 use Rattle.tree_match.proofs.Sets.{chain}
 use Rattle.range_algebra.specs.Trees.{branch_of, branches_of, all_of}
 use Rattle.range_algebra.specs.Meets.{Meets}
-use Rattle.range_algebra.specs.Sizes.{Each}
+use Rattle.sorted_sets.specs.Sizes.{Each}
 use Rattle.range_algebra.specs.Conditions.{AreBoundIn}
-use Rattle.range_algebra.specs.Shown.{IsShownOfSome}
-use Rattle.range_algebra.specs.Crowds.{Prefixes, OneSet}
+use Rattle.range_algebra.specs.Crowds.{Prefixes}
+use Rattle.member_join.specs.Limits.{OneSet}
 use Rattle.range_algebra.proofs.Gathering.{meets_chosen, if_ok_both}
-use Rattle.range_algebra.proofs.Limits.{fault_first, fault_next, fault_more}
+use Rattle.member_join.proofs.Limits.{fault_first, fault_next, fault_more}
 use Rattle.range_algebra.proofs.Placed.{chosen_bound}
 use Rattle.range_algebra.proofs.all.all_members.Goals as goal
 

@@ -6,8 +6,8 @@ use Rattle.tree_match.proofs.Ascents.{among_at}
 use Rattle.tree_match.proofs.Sets.{gathered, gathered_all, chain}
 use Rattle.range_algebra.specs.Trees.{branch_of, branches_of}
 use Rattle.range_algebra.specs.Shown.{Shows, IsShownOfSome}
-use Rattle.range_algebra.proofs.Searches.{any_here, any_parted, any_end}
-use Rattle.range_algebra.proofs.Limits.{fault_more}
+use Rattle.sorted_sets.proofs.Searches.{any_here, any_parted, any_end}
+use Rattle.member_join.proofs.Limits.{fault_more}
 use Rattle.range_algebra.proofs.all.shown_of.Goals as goal
 
 pub add_allowed-requires : goal.add_allowed-requires

@@ -1,17 +1,18 @@
 use Rattle.std.proofs.Common.{◌≡◌, ◌∙◌, List, [], map, length, refl, sym, subst, arith}
 use Rattle.std.specs.Prelude.{None, Some}
 use Rattle.std.proofs.lemmas.Bool.Decides.{nat_tests}
-use Rattle.range_algebra.specs.declared.operand.Operand.{Operand}
-use Rattle.range_algebra.specs.declared.join.Role.TheVariants.{Plain, Inside}
+use Rattle.member_join.specs.declared.operand.Operand.{Operand}
+use Rattle.member_join.specs.declared.operand.Role.TheVariants.{Plain, Inside}
 use Rattle.range_algebra.specs.Trees.{branch_of, branches_of}
-use Rattle.range_algebra.specs.Choices.{IsMet}
+use Rattle.member_join.specs.Choices.{IsMet}
 use Rattle.range_algebra.specs.Meets.{IsChosen}
 use Rattle.range_algebra.specs.Crowds.{Prefixes}
-use Rattle.range_algebra.specs.Operands.{OperandsAscend, AreOperands, ChosenFrom, Fronts}
-use Rattle.range_algebra.proofs.Reaching.{no_items, some_items}
+use Rattle.member_join.specs.Operands.{OperandsAscend, ChosenFrom, Fronts}
+use Rattle.range_algebra.specs.Operands.{AreOperands}
+use Rattle.member_join.proofs.Reaching.{no_items, some_items}
 use Rattle.range_algebra.proofs.Prefixes.{operands_ascend, plain_chosen, plain_search, inside_chosen, inside_search}
 use Rattle.range_algebra.proofs.Taking.{parts_length}
-use Rattle.range_algebra.proofs.Given.{if_ok_set, if_ok_as, if_fault_as}
+use Rattle.member_join.proofs.Given.{if_ok_set, if_ok_as, if_fault_as}
 use Rattle.range_algebra.proofs.choice.choices.Goals as goal
 
 pub operands-requires : goal.operands-requires

@@ -1,7 +1,7 @@
 use Rattle.std.proofs.Common.{◌<◌, ℕ}
 use Rattle.std.specs.Prelude.{◌≡◌, Some, slice_get}
 use Rattle.tree_match.specs.Members.{Member}
-use Rattle.range_algebra.specs.Operands.{Ascends}
+use Rattle.member_join.specs.Operands.{Ascends}
 use Rattle.range_algebra.proofs.choice.leaf_ascends.Given as goal
 
 abbrev pub invariant-loop-at : goal.invariant-loop-at

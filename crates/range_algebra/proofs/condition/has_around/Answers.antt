@@ -1,6 +1,6 @@
-use Rattle.std.proofs.Common.{refl, sym, ◌∙◌}
+use Rattle.std.proofs.Common.{sym, ◌∙◌}
 use Rattle.range_algebra.specs.Conditions.{IsAround}
-use Rattle.range_algebra.proofs.Searches.{any_here, any_later, any_end, found, unfound}
+use Rattle.sorted_sets.proofs.Searches.{any_end, found, unfound}
 use Rattle.range_algebra.proofs.Halving.{none_around}
 use Rattle.range_algebra.proofs.condition.has_around.Goals as goal
 

@@ -1,5 +1,5 @@
 use Rattle.std.proofs.Common.{◌↔◌, drop}
-use Rattle.range_algebra.specs.Sizes.{Any}
+use Rattle.sorted_sets.specs.Sizes.{Any}
 use Rattle.range_algebra.specs.Conditions.{IsAround}
 use Rattle.range_algebra.proofs.condition.has_around.Given as goal
 

@@ -1,10 +1,9 @@
 use Rattle.std.proofs.Common.{◌≡◌, ◌∙◌}
-use Rattle.std.specs.Prelude.{IsTrue, Vec}
+use Rattle.std.specs.Prelude.{Vec}
 use Rattle.std.specs.declared.alloc.Global.{Global}
 use Rattle.meta_bind.specs.Bounds.{seen_held}
 use Rattle.tree_match.specs.Members.{Member}
 use Rattle.range_algebra.specs.Trees.{tree_of}
-use Rattle.range_algebra.specs.Meets.{Allows}
 use Rattle.range_algebra.specs.declared.part.Part.TheVariants as parts
 use Rattle.range_algebra.proofs.Allowing.{bare_part, no_bare, bare_match, set_match, pattern_ordered}
 use Rattle.std.proofs.lemmas.Result.{IfOk-weaker}

@@ -1,7 +1,7 @@
 use Rattle.std.proofs.Common.{◌↔◌, sym, subst}
 use Rattle.std.specs.Prelude.{IsTrue}
 use Rattle.tree_match.specs.Members.{Member}
-use Rattle.range_algebra.specs.Ranges.{ShareByte}
+use Rattle.member_join.specs.Ranges.{ShareByte}
 use Rattle.range_algebra.proofs.Regexes.{shared_at, none_at}
 use Rattle.range_algebra.proofs.condition.shares_at.Goals as goal
 

@@ -1,5 +1,5 @@
 use Rattle.std.proofs.Common.{List, map, ap, refl, sym, ◌∙◌, subst}
-use Rattle.std.specs.Prelude.{Vec, None}
+use Rattle.std.specs.Prelude.{Vec, None, Some}
 use Rattle.std.specs.declared.alloc.Global.{Global}
 use Rattle.std.proofs.lemmas.Result.{err_from_is_err_and, IfOk-at_ok}
 use Rattle.rule_form.specs.declared.formula.Child.{Child}
@@ -10,7 +10,7 @@ use Rattle.range_algebra.specs.Trees.{tree_of, trees_of, branch_of, branches_of,
 use Rattle.range_algebra.specs.Parts.{has_operands, AreSetsOf, IsTakenAway}
 use Rattle.range_algebra.specs.Crowds.{Over, OverTrees, OverBranch, OverBranches}
 use Rattle.range_algebra.proofs.Layers.{tree_leaf, tree_regex, branch_positive, branch_inside, branch_not, branch_notinside, branch_notregex, branch_metapattern}
-use Rattle.range_algebra.proofs.Limits.{fault_out, fault_as}
+use Rattle.member_join.proofs.Limits.{fault_out, fault_as}
 use Rattle.range_algebra.proofs.Children.{OverEach, fault_in, walk_start, walk_step, walk_fault, walk_end, over_trees, over_branches, tree_sets, branch_parts, branch_taken, InTree, InBranch, IsTreeSet, IsBranchPart, IsBranchTaken}
 use Rattle.range_algebra.proofs.Formulas.{tree_is_any, tree_is_all, not_bare, has_one, none_there, set_by, over_by, fault_by, over_at, some_child_fault, all_child_fault, some_set, some_over, some_fault, all_over, all_fault, branch_part, branch_over, branch_fault, asked_part, asked_over, asked_fault, bare_part, bare_over, no_formula, part_taken}
 use Rattle.range_algebra.proofs.evaluate.+evaluate.Goals as goal
@@ -191,7 +191,7 @@ pub members_of_each-returns-in_err-inside-clause-crowded : goal.members_of_each-
 members_of_each-returns-in_err-inside-clause-crowded t c =
     let p = err_from_is_err_and c.from_residual.result c.from_residual.ensures.1 in
     fault_out (OverTrees c.args.scene.leaves.now c.args.scene.rx.now c.args.scene.view.now.bytes 0 (trees_of (map tree_of c.args.formulas.now))) _ _ _ p.1 p.2
-    (fault_as (OverEach (InTree c.args.scene.leaves.now c.args.scene.rx.now c.args.scene.view.now.bytes) 0 c.args.formulas.now) (OverTrees c.args.scene.leaves.now c.args.scene.rx.now c.args.scene.view.now.bytes 0 (trees_of (map tree_of c.args.formulas.now))) (over_trees c.args.scene.leaves.now c.args.scene.rx.now c.args.scene.view.now.bytes 0 c.args.formulas.now) c.in_err-inside.field-0.0
+    (fault_as (OverEach (InTree c.args.scene.leaves.now c.args.scene.rx.now c.args.scene.view.now.bytes) 0 c.args.formulas.now) (OverTrees c.args.scene.leaves.now c.args.scene.rx.now c.args.scene.view.now.bytes 0 (trees_of (map tree_of c.args.formulas.now))) (λ p. over_trees c.args.scene.leaves.now c.args.scene.rx.now c.args.scene.view.now.bytes 0 c.args.formulas.now (Some p)) c.in_err-inside.field-0.0
     (walk_fault (InTree c.args.scene.leaves.now c.args.scene.rx.now c.args.scene.view.now.bytes) (IsTreeSet c.args.scene.leaves.now c.args.scene.rx.now c.args.scene.view.now.bytes) c.args.formulas.now c.loop-i.i c.loop-i.sets.items c.loop-i.invariant c.index-formulas-i.result c.in_err-inside.field-0.0 c.loop-i-test.true c.index-formulas-i.is
     (fault_in c.loop-i.i (InTree c.args.scene.leaves.now c.args.scene.rx.now c.args.scene.view.now.bytes c.index-formulas-i.result) c.members_of.result c.in_err-inside.field-0.0 c.in_err-inside.ensures.named c.members_of.ensures.crowded)))
 
@@ -214,7 +214,7 @@ pub parts_of_each-returns-in_err-inside-clause-crowded : goal.parts_of_each-retu
 parts_of_each-returns-in_err-inside-clause-crowded t c =
     let p = err_from_is_err_and c.from_residual.result c.from_residual.ensures.1 in
     fault_out (OverBranches c.args.scene.leaves.now c.args.scene.rx.now c.args.scene.view.now.bytes 0 (branches_of (map branch_of c.args.children.now))) _ _ _ p.1 p.2
-    (fault_as (OverEach (InBranch c.args.scene.leaves.now c.args.scene.rx.now c.args.scene.view.now.bytes) 0 c.args.children.now) (OverBranches c.args.scene.leaves.now c.args.scene.rx.now c.args.scene.view.now.bytes 0 (branches_of (map branch_of c.args.children.now))) (over_branches c.args.scene.leaves.now c.args.scene.rx.now c.args.scene.view.now.bytes 0 c.args.children.now) c.in_err-inside.field-0.0
+    (fault_as (OverEach (InBranch c.args.scene.leaves.now c.args.scene.rx.now c.args.scene.view.now.bytes) 0 c.args.children.now) (OverBranches c.args.scene.leaves.now c.args.scene.rx.now c.args.scene.view.now.bytes 0 (branches_of (map branch_of c.args.children.now))) (λ p. over_branches c.args.scene.leaves.now c.args.scene.rx.now c.args.scene.view.now.bytes 0 c.args.children.now (Some p)) c.in_err-inside.field-0.0
     (walk_fault (InBranch c.args.scene.leaves.now c.args.scene.rx.now c.args.scene.view.now.bytes) (IsBranchPart c.args.scene.leaves.now c.args.scene.rx.now c.args.scene.view.now.bytes) c.args.children.now c.loop-i.i c.loop-i.parts.items c.loop-i.invariant c.index-children-i.result c.in_err-inside.field-0.0 c.loop-i-test.true c.index-children-i.is
     (fault_in c.loop-i.i (InBranch c.args.scene.leaves.now c.args.scene.rx.now c.args.scene.view.now.bytes c.index-children-i.result) c.part_of.result c.in_err-inside.field-0.0 c.in_err-inside.ensures.named c.part_of.ensures.crowded)))
 
@@ -238,6 +238,6 @@ pub taken_away-returns-in_err-part-clause-crowded : goal.taken_away-returns-in_e
 taken_away-returns-in_err-part-clause-crowded t c =
     let p = err_from_is_err_and c.from_residual.result c.from_residual.ensures.1 in
     fault_out (OverBranches c.args.scene.leaves.now c.args.scene.rx.now c.args.scene.view.now.bytes 0 (branches_of (map branch_of c.args.children.now))) _ _ _ p.1 p.2
-    (fault_as (OverEach (InBranch c.args.scene.leaves.now c.args.scene.rx.now c.args.scene.view.now.bytes) 0 c.args.children.now) (OverBranches c.args.scene.leaves.now c.args.scene.rx.now c.args.scene.view.now.bytes 0 (branches_of (map branch_of c.args.children.now))) (over_branches c.args.scene.leaves.now c.args.scene.rx.now c.args.scene.view.now.bytes 0 c.args.children.now) c.in_err-part.field-0.0
+    (fault_as (OverEach (InBranch c.args.scene.leaves.now c.args.scene.rx.now c.args.scene.view.now.bytes) 0 c.args.children.now) (OverBranches c.args.scene.leaves.now c.args.scene.rx.now c.args.scene.view.now.bytes 0 (branches_of (map branch_of c.args.children.now))) (λ p. over_branches c.args.scene.leaves.now c.args.scene.rx.now c.args.scene.view.now.bytes 0 c.args.children.now (Some p)) c.in_err-part.field-0.0
     (walk_fault (InBranch c.args.scene.leaves.now c.args.scene.rx.now c.args.scene.view.now.bytes) (IsBranchTaken c.args.scene.leaves.now c.args.scene.rx.now c.args.scene.view.now.bytes) c.args.children.now c.loop-i.i c.loop-i.sets.items c.loop-i.invariant c.index-children-i.result c.in_err-part.field-0.0 c.loop-i-test.true c.index-children-i.is
     (fault_in c.loop-i.i (InBranch c.args.scene.leaves.now c.args.scene.rx.now c.args.scene.view.now.bytes c.index-children-i.result) c.part_of.result c.in_err-part.field-0.0 c.in_err-part.ensures.named c.part_of.ensures.crowded)))

@@ -4,9 +4,9 @@ use Rattle.tree_match.specs.Members.{Member}
 use Rattle.tree_match.specs.Sets.{Among}
 use Rattle.tree_match.proofs.Sets.{gathered, gathered_all, chain}
 use Rattle.range_algebra.specs.Parts.{IsInSome}
-use Rattle.range_algebra.specs.Crowds.{OneSet}
-use Rattle.range_algebra.proofs.Added.{if_ok_same}
-use Rattle.range_algebra.proofs.Limits.{if_fault_more, fault_more, fault_out}
+use Rattle.member_join.specs.Limits.{OneSet}
+use Rattle.member_join.proofs.Added.{if_ok_same}
+use Rattle.member_join.proofs.Limits.{if_fault_more, fault_more, fault_out}
 use Rattle.range_algebra.proofs.Children.{some_left, some_none, one_of_some}
 use Rattle.range_algebra.proofs.evaluate.union.Goals as goal
 

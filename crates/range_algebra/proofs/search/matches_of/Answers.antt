@@ -1,4 +1,4 @@
-use Rattle.std.proofs.Common.{List, ℕ, map, ap, sym, subst, ◌∙◌, arith, length, IsUtf8}
+use Rattle.std.proofs.Common.{List, ℕ, map, ap, sym, subst, ◌∙◌, IsUtf8}
 use Rattle.std.proofs.lemmas.Str.{IsUtf8-had}
 use Rattle.std.proofs.lemmas.Result.{IfOk-weaker}
 use Rattle.rx_text.specs.Searches.{all_matches}

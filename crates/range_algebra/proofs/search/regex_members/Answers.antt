@@ -4,7 +4,7 @@ use Rattle.tree_match.specs.Members.{Member}
 use Rattle.range_algebra.specs.Trees.{regex}
 use Rattle.range_algebra.specs.Regexes.{IsMatch}
 use Rattle.range_algebra.specs.Parts.{IsSetOf}
-use Rattle.range_algebra.proofs.Limits.{at_most, too_many}
+use Rattle.member_join.proofs.Limits.{at_most, too_many}
 use Rattle.range_algebra.proofs.Regexes.{matches_set}
 use Rattle.range_algebra.proofs.search.regex_members.Goals as goal
 

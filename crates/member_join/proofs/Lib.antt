@@ -1,0 +1,10 @@
+pub mod Merged
+pub mod Steps
+pub mod Added
+pub mod Limits
+pub mod Names
+pub mod Choosing
+pub mod Counts
+pub mod Reaching
+pub mod Given
+pub mod Blocks

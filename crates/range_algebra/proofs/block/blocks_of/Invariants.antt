@@ -1,9 +1,0 @@
-use Rattle.std.proofs.Common.{◌-◌, length}
-use Rattle.range_algebra.proofs.Blocks.{Blocked}
-use Rattle.range_algebra.proofs.block.blocks_of.Given as goal
-
-abbrev pub invariant-loop-from : goal.invariant-loop-from
-invariant-loop-from l = Blocked l.members l.from l.blocks.items
-
-abbrev pub decreases-loop-from : goal.decreases-loop-from
-decreases-loop-from l = length l.members - l.from

@@ -1,5 +1,0 @@
-use Rattle.range_algebra.specs.Blocks.{AreHullsOf}
-use Rattle.range_algebra.proofs.block.hulls_of.Given as goal
-
-abbrev pub invariant-loop-name : goal.invariant-loop-name
-invariant-loop-name l = AreHullsOf l.members l.hulls.items

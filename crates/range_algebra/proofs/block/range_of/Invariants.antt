@@ -1,6 +1,0 @@
-use Rattle.std.proofs.Common.{take}
-use Rattle.range_algebra.specs.Blocks.{IsReach}
-use Rattle.range_algebra.proofs.block.range_of.Given as goal
-
-abbrev pub invariant-loop-member : goal.invariant-loop-member
-invariant-loop-member l = IsReach l.range (take l.member-index l.members)

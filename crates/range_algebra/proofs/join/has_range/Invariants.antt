@@ -1,6 +1,0 @@
-use Rattle.std.proofs.Common.{◌↔◌, drop}
-use Rattle.range_algebra.specs.Joins.{HasRange}
-use Rattle.range_algebra.proofs.join.has_range.Given as goal
-
-abbrev pub invariant-loop-operand : goal.invariant-loop-operand
-invariant-loop-operand l = HasRange l.operands l.range ↔ HasRange (drop l.operand-index l.operands) l.range

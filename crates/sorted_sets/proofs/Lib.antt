@@ -1,0 +1,4 @@
+pub mod Lasts
+pub mod Distinct
+pub mod Searches
+pub mod Settling
