@@ -98,7 +98,15 @@ impl<'r, R: TreeReader> Scanner<'r, R> {
             return Ok(());
         }
         let running = self.running.as_slice();
-        let found = scan_file(alloc, self.reader, path, bytes, running, steps, &mut self.notices)?;
+        let found = scan_file(
+            alloc,
+            self.reader,
+            path,
+            bytes,
+            running,
+            steps,
+            &mut self.notices,
+        )?;
         append(&mut self.results, found)
     }
 
