@@ -2,5 +2,6 @@
 #![tactic(auto)]
 
 mod patterns;
+mod trees;
 
 pub use patterns::Languages;

@@ -9,6 +9,8 @@ use Rattle.scan_world.specs.Files.{Files, file_at, path_cmp, PathsAscend}
 use Rattle.scan_world.specs.Trees.{KeepsFiles, LacksFile, HasFront, HasPaths, IsListing, HasTreeCause}
 use Rattle.scan_world.specs.declared.tree.TreeFault.{TreeFault}
 use Rattle.scan_world.specs.declared.tree.TreeFault.TheVariants.{Absent}
+use Rattle.languages.specs.declared.patterns.Languages.{Languages}
+use Rattle.languages.specs.Trees.{IsTree}
 use Rattle.scan_session.specs.declared.scanner.Scanner.{Scanner}
 use Rattle.scan_session.specs.Fresh.{file_cmp}
 use Rattle.scan_session.specs.Scans.{Scans}
@@ -202,7 +204,7 @@ files_ascend told prefix files f = read_ascend told f.taken files (taken_ascend 
 -- ---- files that were read, each scanned as it was
 
 -- the files at these paths, so many with so many bytes in all, were scanned
-pub record Far (told : Option Files) (paths : List Path) (count total : ℕ) (old new : Scanner) : Type 0 where
+pub record Far (told : Option Files) (paths : List Path) (count total : ℕ) (old new : Scanner Languages) : Type 0 where
   pub files : List File
   pub are_read : AreRead told paths files
   pub counted : count ≡ length files
@@ -210,9 +212,9 @@ pub record Far (told : Option Files) (paths : List Path) (count total : ℕ) (ol
   pub summed : total ≡ bytes_of files
   pub small : total ≤ 33554432
   pub within : limit_end 0 0 files ≡ None
-  pub scans : Scans files old new
+  pub scans : Scans IsTree files old new
 
-module _ (told now : Option Files) (kept : KeepsFiles told now) (paths : List Path) (count total : ℕ) (old mid : Scanner) (i : ℕ) (x asked : Path) (lt : i < length paths) (is : x ≡ get_or paths i x) (far : Far told (take i paths) count total old mid) (e : asked ≡ x) where
+module _ (told now : Option Files) (kept : KeepsFiles told now) (paths : List Path) (count total : ℕ) (old mid : Scanner Languages) (i : ℕ) (x asked : Path) (lt : i < length paths) (is : x ≡ get_or paths i x) (far : Far told (take i paths) count total old mid) (e : asked ≡ x) where
   pub far_absent : LacksFile now asked → Far told (take (i + 1) paths) count total old mid
   far_absent lacks = record {
     files = far.files;
@@ -226,7 +228,7 @@ module _ (told now : Option Files) (kept : KeepsFiles told now) (paths : List Pa
   }
 
   module _ (bytes : List ℕ) (short : length bytes ≤ 1000001) (front : HasFront now asked 1000001 bytes) where
-    pub far_read : (size all : ℕ) (new : Scanner) → size ≡ length bytes → count + 1 ≤ 10000 → all ≤ 33554432 → all ≡ total + size → Scans ((asked, bytes) ∷ []) mid new → Far told (take (i + 1) paths) (count + 1) all old new
+    pub far_read : (size all : ℕ) (new : Scanner Languages) → size ≡ length bytes → count + 1 ≤ 10000 → all ≤ 33554432 → all ≡ total + size → Scans IsTree ((asked, bytes) ∷ []) mid new → Far told (take (i + 1) paths) (count + 1) all old new
     far_read size all new es few small ea scans =
         let f : File = (asked, bytes) in
         let c = count_more far.files f count total size all far.counted far.summed far.within es few small ea in
@@ -238,13 +240,13 @@ module _ (told now : Option Files) (kept : KeepsFiles told now) (paths : List Pa
           summed = c.counted;
           small = small;
           within = c.within;
-          scans = scans_then far.files (f ∷ []) old mid new far.scans scans;
+          scans = scans_then IsTree far.files (f ∷ []) old mid new far.scans scans;
         }
 
     pub far_over : (size : ℕ) (status : Status) → length bytes ≡ size → IsOver count total size status → ReadingEnds told paths status
     far_over size status es over = step_over told now kept paths far.files i x asked lt is far.are_read e bytes short front count total size status far.counted far.summed far.within es over
 
-pub far_all : (told : Option Files) (paths : List Path) (i count total : ℕ) (old new : Scanner) → length paths ≤ i → Far told (take i paths) count total old new → ScansRead told paths old new
+pub far_all : (told : Option Files) (paths : List Path) (i count total : ℕ) (old new : Scanner Languages) → length paths ≤ i → Far told (take i paths) count total old new → ScansRead told paths old new
 far_all told paths i count total old new end far =
     let P : List Path → Type 0 = λ ps. AreRead told ps far.files in
     record { files = far.files; are_read = subst P (take_all i paths end) far.are_read; within = far.within; scans = far.scans }
@@ -254,7 +256,7 @@ module _ (told now : Option Files) (kept : KeepsFiles told now) (prefix : Path) 
   all_files : (files : List File) → AreRead now taken files → AreFiles told prefix files
   all_files files r = record { paths = paths; listed = listed; taken = taken; are_taken = are; are_read = read_before told now taken files kept r }
 
-  pub all_scanned : {A : Type 0} (r : Result A Status) (old new : Scanner) → OnOk r (ScansRead now taken old new) → OnOk r (ScansFiles told prefix old new)
+  pub all_scanned : {A : Type 0} (r : Result A Status) (old new : Scanner Languages) → OnOk r (ScansRead now taken old new) → OnOk r (ScansFiles told prefix old new)
   all_scanned (Ok u) old new h = let are = all_files h.files h.are_read in record { files = h.files; are = are; ascend = files_ascend told prefix h.files are; within = h.within; scans = h.scans }
   all_scanned (Err s) old new h = tt
 

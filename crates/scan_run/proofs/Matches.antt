@@ -14,10 +14,10 @@ use Rattle.tree_match.specs.declared.leaf.Leaf.TheVariants.{Full, Crowded}
 use Rattle.tree_match.specs.Members.{Member, IsMember}
 use Rattle.tree_match.specs.Leaf.{IsLeaf}
 use Rattle.tree_match.proofs.Exclusion.{few_or_more, whole_once}
-use Rattle.judge_file.specs.declared.opened.Opened.{Opened}
-use Rattle.judge_file.specs.declared.opened.Opened.TheVariants as opened
-use Rattle.judge_file.specs.Opening.{IsOpened, HasOnlyTree}
-use Rattle.judge_file.specs.Reading.{IsTreeIn}
+use Rattle.file_open.specs.declared.opened.Opened.{Opened}
+use Rattle.file_open.specs.declared.opened.Opened.TheVariants as opened
+use Rattle.file_open.specs.Opening.{IsOpened, HasOnlyTree}
+use Rattle.languages.specs.Trees.{IsTree}
 use Rattle.scan_run.specs.declared.status.Status.{Status}
 use Rattle.scan_run.specs.declared.status.Status.TheVariants.{OverLimit, BadTarget, BadPattern, TooMany, Done}
 use Rattle.scan_run.specs.declared.status.Status.TheVariants as statuses
@@ -86,14 +86,14 @@ search_steps BadPattern b o a h e f = absurd h
 file_small : (lang : Lang) (bytes : List ℕ) (tree : Node) → IsFileOf lang bytes tree → length bytes ≤ 1000000
 file_small lang bytes tree f = f.is_text.0
 
-pub file_read : (lang : Lang) (bytes : List ℕ) (view : FileView) → IsOpened lang bytes (opened.Read view) → IsFileOf lang bytes view.tree
+pub file_read : (lang : Lang) (bytes : List ℕ) (view : FileView) → IsOpened IsTree lang bytes (opened.Read view) → IsFileOf lang bytes view.tree
 file_read lang bytes view o = record { is_text = o.0; is_tree = o.1 }
 
-pub only_read : (lang : Lang) (bytes : List ℕ) (view : FileView) → HasOnlyTree lang bytes (opened.Read view) → IsOnlyFile lang bytes view.tree
+pub only_read : (lang : Lang) (bytes : List ℕ) (view : FileView) → HasOnlyTree IsTree lang bytes (opened.Read view) → IsOnlyFile lang bytes view.tree
 only_read lang bytes view only tree f = only tree f.is_tree
 
 -- bytes that are opened as no file of the language are none
-pub none_opened : (lang : Lang) (bytes : List ℕ) (o : Opened) → ((view : FileView) → o ≡ opened.Read view → ⊥) → length bytes ≤ 1000000 → IsOpened lang bytes o → HasNoFile lang bytes
+pub none_opened : (lang : Lang) (bytes : List ℕ) (o : Opened) → ((view : FileView) → o ≡ opened.Read view → ⊥) → length bytes ≤ 1000000 → IsOpened IsTree lang bytes o → HasNoFile lang bytes
 none_opened lang bytes opened.TooLarge nay small large tree f = absurd (omega arith)
 none_opened lang bytes opened.NotUtf8 nay small none tree f = none.1 f.is_text.1
 none_opened lang bytes (opened.NoTree view) nay small none tree f = none.1 tree f.is_tree

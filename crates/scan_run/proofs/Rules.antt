@@ -3,6 +3,7 @@ use Rattle.std.proofs.Common.{◌≡◌, ℕ, ◌<◌, ◌≤◌, List, length, 
 use Rattle.std.specs.Prelude.{Option, Some, None, Result, Ok, Err, IfErr}
 use Rattle.scan_world.specs.Files.{Files}
 use Rattle.scan_world.specs.Trees.{HasFront}
+use Rattle.pattern_read.specs.Patterns.{IsPatternOf}
 use Rattle.scan_session.specs.declared.rule_file.RuleFile.{RuleFile}
 use Rattle.scan_session.specs.RuleFiles.{IsRuleFile}
 use Rattle.scan_run.specs.declared.status.Status.{Status}
@@ -12,10 +13,10 @@ use Rattle.scan_run.specs.Status.{HasReadingCause, IsOfLimit}
 use Rattle.scan_run.specs.Config.{entry_count, IsRules, ConfigEnds, absent, too_long, too_many_rules, IsOneFile, HasConfigEnd}
 
 -- bytes of which one rule file was read, and no other, are one rule file
-pub one_file : (path bytes : List ℕ) (rules : RuleFile) → ((f : RuleFile) → IsRuleFile path bytes f → rules ≡ f) → IsOneFile path (Some bytes)
+pub one_file : (path bytes : List ℕ) (rules : RuleFile) → ((f : RuleFile) → IsRuleFile IsPatternOf path bytes f → rules ≡ f) → IsOneFile path (Some bytes)
 one_file path bytes rules only others a b e short is is' =
     let same : bytes ≡ others = cc in
-    let P : RuleFile → List ℕ → Type 0 = λ f l. IsRuleFile path l f in
+    let P : RuleFile → List ℕ → Type 0 = λ f l. IsRuleFile IsPatternOf path l f in
     sym (only a (subst (λ (l : List ℕ). P a l) (sym same) is)) ∙ only b (subst (λ (l : List ℕ). P b l) (sym same) is')
 
 pub no_file : (path : List ℕ) → IsOneFile path None
@@ -30,7 +31,7 @@ long_file path bytes long others a b e short is is' =
 pub same_rules : (path : List ℕ) (config : Option (List ℕ)) (a b : RuleFile) → IsOneFile path config → IsRules path config a → IsRules path config b → b ≡ a
 same_rules path config a b one x y =
     let same : x.bytes ≡ y.bytes = some_once x.bytes y.bytes (sym x.there ∙ y.there) in
-    let P : List ℕ → Type 0 = λ l. IsRuleFile path l a in
+    let P : List ℕ → Type 0 = λ l. IsRuleFile IsPatternOf path l a in
     sym (one y.bytes a b y.there y.short (subst P same x.is_file) y.is_file)
   where
     some_once : (v w : List ℕ) → Some v ≡ Some w → v ≡ w
@@ -50,7 +51,7 @@ rules_or_end path _ rules _ one r (too_long bytes long) =
     some_once v w e = cc
 rules_or_end path _ rules _ one r (too_many_rules bytes others short is many) =
     let same : bytes ≡ r.bytes = some_once bytes r.bytes r.there in
-    let P : List ℕ → Type 0 = λ l. IsRuleFile path l rules in
+    let P : List ℕ → Type 0 = λ l. IsRuleFile IsPatternOf path l rules in
     let e : rules ≡ others = one bytes rules others refl short (subst P (sym same) r.is_file) is in
     absurd (omega (arith, ap entry_count e, r.few))
   where

@@ -2,6 +2,7 @@
 use Rattle.std.specs.Prelude.{◌≡◌, ℕ, ◌<◌, ◌≤◌, List, length, Option, Some, None}
 use Rattle.scan_world.specs.Files.{Files}
 use Rattle.scan_world.specs.Trees.{LacksFile, HasFront}
+use Rattle.pattern_read.specs.Patterns.{IsPatternOf}
 use Rattle.scan_session.specs.declared.rule_file.RuleFile.{RuleFile}
 use Rattle.scan_session.specs.RuleFiles.{IsRuleFile, outcomes_of}
 use Rattle.scan_run.specs.declared.status.Status.{Status}
@@ -22,18 +23,18 @@ pub record IsRules (path : List ℕ) (config : Option (List ℕ)) (rules : RuleF
   pub bytes : List ℕ
   pub there : config ≡ Some bytes
   pub short : length bytes ≤ 262144
-  pub is_file : IsRuleFile path bytes rules
+  pub is_file : IsRuleFile IsPatternOf path bytes rules
   pub few : entry_count rules ≤ 1000
 
 -- how a scan ends by its config alone
 pub data ConfigEnds (path : List ℕ) : Option (List ℕ) → Status → Type 0 where
   absent : ConfigEnds path None NoSuchPath
   too_long : (bytes : List ℕ) → 262145 ≤ length bytes → ConfigEnds path (Some bytes) (OverLimit RuleBytes 262145)
-  too_many_rules : (bytes : List ℕ) (rules : RuleFile) → length bytes ≤ 262144 → IsRuleFile path bytes rules → 1000 < entry_count rules → ConfigEnds path (Some bytes) (OverLimit Rules (entry_count rules))
+  too_many_rules : (bytes : List ℕ) (rules : RuleFile) → length bytes ≤ 262144 → IsRuleFile IsPatternOf path bytes rules → 1000 < entry_count rules → ConfigEnds path (Some bytes) (OverLimit Rules (entry_count rules))
 
 -- the config is one rule file at most
 abbrev pub IsOneFile : List ℕ → Option (List ℕ) → Type 0
-IsOneFile path config = (bytes : List ℕ) (one other : RuleFile) → config ≡ Some bytes → length bytes ≤ 262144 → IsRuleFile path bytes one → IsRuleFile path bytes other → one ≡ other
+IsOneFile path config = (bytes : List ℕ) (one other : RuleFile) → config ≡ Some bytes → length bytes ≤ 262144 → IsRuleFile IsPatternOf path bytes one → IsRuleFile IsPatternOf path bytes other → one ≡ other
 
 -- the tree has these rules at the path, and no others
 pub record HasRules (told : Option Files) (path : List ℕ) (rules : RuleFile) : Type 0 where

@@ -5,6 +5,7 @@ use Rattle.fix_apply.specs.declared.report.Report.{Report}
 use Rattle.fix_apply.specs.declared.report.Reported.{Reported}
 use Rattle.finding_json.specs.Reports.{report_data}
 use Rattle.scan_world.specs.Files.{Files}
+use Rattle.languages.specs.Trees.{IsTree}
 use Rattle.scan_session.specs.declared.rule_file.RuleFile.{RuleFile}
 use Rattle.scan_session.specs.Sets.{HasMore}
 use Rattle.scan_session.specs.Reports.{reported_cmp}
@@ -27,12 +28,12 @@ status_of _ _ = Done
 
 -- the rules have more findings in the files than that, without those that use a refused text
 abbrev pub HasMoreFindings : List (List ℕ) → List File → RuleFile → ℕ → Type 0
-HasMoreFindings refused files rules most = HasMore reported_cmp (IsResult (running refused (rules ∷ [])) files) most
+HasMoreFindings refused files rules most = HasMore reported_cmp (IsResult IsTree (running refused (rules ∷ [])) files) most
 
 -- how the search of the files ends: by its report, or by the number of findings
 pub data ReportEnds (flag : Bool) (most : ℕ) (refused : List (List ℕ)) (files : List File) (rules : RuleFile) : Status → List (List ℕ) → Type 0 where
   too_many : HasMoreFindings refused files rules most → ReportEnds flag most refused files rules (TooMany most) []
-  reported : (report : Report) → IsFresh refused files (rules ∷ []) report → length report.results ≤ most → ReportEnds flag most refused files rules (status_of flag report.results) (report_line report ∷ [])
+  reported : (report : Report) → IsFresh IsTree refused files (rules ∷ []) report → length report.results ≤ most → ReportEnds flag most refused files rules (status_of flag report.results) (report_line report ∷ [])
 
 -- how a scan by these rules ends, by the files that are read
 pub data ScanEnds (task : Task) (refused : List (List ℕ)) (rules : RuleFile) (files : List File) : Status → List (List ℕ) → Type 0 where
@@ -48,4 +49,4 @@ pub data Scans (task : Task) (told : Option Files) (refused : List (List ℕ)) :
 
 -- the files, the rules and the refused texts give one report at most
 abbrev pub IsOneReport : List (List ℕ) → List File → RuleFile → Type 0
-IsOneReport refused files rules = (one other : Report) → IsFresh refused files (rules ∷ []) one → IsFresh refused files (rules ∷ []) other → one ≡ other
+IsOneReport refused files rules = (one other : Report) → IsFresh IsTree refused files (rules ∷ []) one → IsFresh IsTree refused files (rules ∷ []) other → one ≡ other

@@ -6,6 +6,7 @@ ghost use Rattle.scan_run.specs.Status.{IsAnswer, HasConfigCause, IsOfLimit};
 ghost use Rattle.scan_run.specs.Config.{IsRules, ConfigEnds, IsOneFile, HasRules, HasConfigEnd};
 
 use crate::status::{LimitKind, Status};
+use languages::Languages;
 use scan_session::{RuleFile, read_rule_file};
 use scan_world::{Tree, TreeFault};
 use std::alloc::Global;
@@ -28,7 +29,7 @@ fn rules_of(alloc: Global, path: &str, bytes: &[u8]) -> Result<RuleFile, Status>
     if bytes.len() > MOST_BYTES {
         return Err(Status::OverLimit(LimitKind::RuleBytes, MOST_BYTES as u64 + 1));
     }
-    let rules = read_rule_file(alloc, path, bytes)?;
+    let rules = read_rule_file(alloc, &Languages, path, bytes)?;
     let entries = rules.entries();
     if entries > MOST_RULES {
         return Err(Status::OverLimit(LimitKind::Rules, entries as u64));

@@ -11,7 +11,8 @@ ghost use Rattle.scan_run.specs.Steps.{TakesSteps};
 use crate::input::{InputError, MOST, read_input};
 use crate::output::{OutputError, print_all};
 use crate::status::{LimitKind, Status};
-use judge_file::{Opened, open_file};
+use file_open::{Opened, open_file};
+use languages::Languages;
 use node_tree::{Bytes, FileView, Lang, Pattern, Steps};
 use pattern_read::{PatternFault, read_pattern};
 use scan_world::{Sink, Source};
@@ -84,7 +85,7 @@ pub fn run_match<S: Source, K: Sink, L: Ledger>(
     if bytes.len() == MOST {
         return Status::OverLimit(LimitKind::Target, MOST as u64);
     }
-    let Ok(opened) = open_file(alloc, lang, Bytes::from_vec(bytes), steps) else {
+    let Ok(opened) = open_file(alloc, &Languages, lang, Bytes::from_vec(bytes), steps) else {
         return Status::Memory;
     };
     let Opened::Read(file) = opened else {

@@ -14,6 +14,7 @@ use crate::config::read_config;
 use crate::status::Status;
 use crate::taking::scan_files;
 use finding_json::{Report, report_text};
+use languages::Languages;
 use node_tree::{List, Memory, Steps};
 use rx_text::Patterns;
 use scan_session::{RuleFile, ScanFault, Scanner};
@@ -43,7 +44,12 @@ fn one_file(alloc: Global, rules: RuleFile) -> Result<List<RuleFile>, Memory>
 }
 
 // Prints the report of a scan, in one write.
-fn print_report<K: Sink>(alloc: Global, flag: bool, scanner: Scanner<'_>, out: &mut K) -> Status
+fn print_report<K: Sink>(
+    alloc: Global,
+    flag: bool,
+    scanner: Scanner<'_, Languages>,
+    out: &mut K,
+) -> Status
     ensures ends { IsAnswer result → AfterScanBy scanner.entry (λ refused rules most files. Printed (ReportEnds flag most refused files rules) (K.written out.old) (K.written out.new) result) }
     ensures one_report { IsFinished result → AfterScanBy scanner.entry (λ refused rules most files. IsOneReport refused files rules) }
     ensures cause { IsOfReport result }
@@ -97,7 +103,8 @@ pub fn run_scan<T: Tree, K: Sink, P: Patterns, L: Ledger>(
     let Ok(all) = one_file(alloc, rules) else {
         return Status::Memory;
     };
-    let Ok(mut scanner) = Scanner::of(alloc, &all, job.most, patterns) else {
+    let languages = Languages;
+    let Ok(mut scanner) = Scanner::of(alloc, &languages, &all, job.most, patterns) else {
         return Status::Memory;
     };
     match scan_files(alloc, tree, job.prefix, &mut scanner, steps) {

@@ -7,6 +7,7 @@ ghost use Rattle.scan_run.specs.Taking.{IsTaken, AreTaken, IsOver, ReadingEnds, 
 ghost use Rattle.scan_run.specs.Scanned.{ScansRead, ScansFiles};
 
 use crate::status::{LimitKind, Status};
+use languages::Languages;
 use node_tree::{List, Memory, Steps, Text, Twin};
 use path_glob::{has_hidden, lang_of, path_ok};
 use scan_session::Scanner;
@@ -67,7 +68,7 @@ fn scan_all<T: Tree, L: Ledger>(
     alloc: Global,
     tree: &mut T,
     paths: &List<Text>,
-    scanner: &mut Scanner<'_>,
+    scanner: &mut Scanner<'_, Languages>,
     steps: &mut Steps<L>,
 ) -> Result<(), Status>
     ensures scanned { OnOk result (ScansRead (T.files tree.old) paths.now scanner.old scanner.new) }
@@ -98,7 +99,7 @@ pub fn scan_files<T: Tree, L: Ledger>(
     alloc: Global,
     tree: &mut T,
     prefix: &str,
-    scanner: &mut Scanner<'_>,
+    scanner: &mut Scanner<'_, Languages>,
     steps: &mut Steps<L>,
 ) -> Result<(), Status>
     ensures scanned { OnOk result (ScansFiles (T.files tree.old) prefix.now scanner.old scanner.new) }

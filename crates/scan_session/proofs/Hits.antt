@@ -17,7 +17,7 @@ use Rattle.tree_match.specs.Sets.{Among, Adds}
 use Rattle.tree_match.specs.Ascending.{IsAscending}
 use Rattle.tree_match.proofs.Sets.{gathered, pushed}
 use Rattle.tree_match.proofs.Placed.{all_among}
-use Rattle.judge_file.specs.Findings.{findings_of, IsFindingPlaced}
+use Rattle.part_judge.specs.Findings.{findings_of, IsFindingPlaced}
 use Rattle.fix_apply.specs.declared.notice.Notice.{Notice}
 use Rattle.fix_apply.specs.declared.report.Reported.{Reported}
 use Rattle.scan_session.specs.declared.looking.Judged.{Judged}

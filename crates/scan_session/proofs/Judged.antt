@@ -14,8 +14,8 @@ use Rattle.tree_match.specs.Members.{Member, IsMember}
 use Rattle.tree_match.specs.Leaf.{IsLeaf}
 use Rattle.tree_match.proofs.Sets.{gathered, pushed, among_more, adds_as, adds_none}
 use Rattle.tree_match.proofs.Exclusion.{whole_once, few_or_more}
-use Rattle.judge_file.specs.declared.outcome.Outcome.{Outcome}
-use Rattle.judge_file.specs.Findings.{PartFinds, findings_of, IsFindingPlaced}
+use Rattle.part_judge.specs.declared.outcome.Outcome.{Outcome}
+use Rattle.part_judge.specs.Findings.{PartFinds, findings_of, IsFindingPlaced}
 use Rattle.scan_session.specs.declared.looking.Judged.{Judged}
 use Rattle.scan_session.specs.Looking.{Allows, AreLeaves, LooksAt, PartFindsIn}
 use Rattle.scan_session.specs.Judging.{PartJudges, PartAdds, RuleJudges, RuleAdds, IsJudged, AreAllPlaced}

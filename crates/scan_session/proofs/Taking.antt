@@ -9,7 +9,7 @@ use Rattle.std.specs.BTreeSet.{BTreeSet, contains}
 use Rattle.std.specs.Cmp.Lexicographic.{slice_cmp}
 use Rattle.std.proofs.lemmas.Map.Text.{is_eq-slice_cmp}
 use Rattle.rule_form.specs.declared.rule.Rule.{Rule}
-use Rattle.rule_read.specs.declared.fault.RuleOutcome.{RuleOutcome}
+use Rattle.rule_entries.specs.declared.outcome.RuleOutcome.{RuleOutcome}
 use Rattle.fix_apply.specs.declared.notice.Notice.{Notice}
 use Rattle.scan_session.specs.declared.rule_file.RuleFile.{RuleFile}
 use Rattle.scan_session.specs.RuleFiles.{outcomes_of}

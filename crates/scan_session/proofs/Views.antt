@@ -2,13 +2,14 @@
 use Rattle.std.proofs.Common.{◌≡◌, ℕ, List, refl, sym, ◌∙◌, arith}
 use Rattle.node_tree.specs.declared.node.Node.{Node}
 use Rattle.node_tree.specs.declared.view.Lang.{Lang}
-use Rattle.judge_file.specs.declared.opened.Opened.{Opened}
-use Rattle.judge_file.specs.declared.opened.Opened.TheVariants.{TooLarge, NotUtf8, NoTree, Read}
-use Rattle.judge_file.specs.Opening.{IsOpened, HasOnlyTree}
+use Rattle.file_open.specs.declared.opened.Opened.{Opened}
+use Rattle.file_open.specs.declared.opened.Opened.TheVariants.{TooLarge, NotUtf8, NoTree, Read}
+use Rattle.file_open.specs.Reading.{Spells}
+use Rattle.file_open.specs.Opening.{IsOpened, HasOnlyTree}
 use Rattle.scan_session.specs.Fresh.{Shows, opened_notices}
 
-module _ (lang : Lang) (bytes : List ℕ) where
-  pub shows_one : (o p : Opened) → IsOpened lang bytes o → HasOnlyTree lang bytes o → IsOpened lang bytes p → (l : Lang) (t : Node) → Shows p l t → Shows o l t
+module _ (spells : Spells) (lang : Lang) (bytes : List ℕ) where
+  pub shows_one : (o p : Opened) → IsOpened spells lang bytes o → HasOnlyTree spells lang bytes o → IsOpened spells lang bytes p → (l : Lang) (t : Node) → Shows p l t → Shows o l t
   shows_one o TooLarge h only k l t s = absurd s
   shows_one o NotUtf8 h only k l t s = absurd s
   shows_one TooLarge (NoTree view) h only k l t s = absurd (let few = k.0.0 in omega (arith, h, few))
@@ -20,7 +21,7 @@ module _ (lang : Lang) (bytes : List ℕ) where
   shows_one (NoTree mine) (Read view) h only k l t s = absurd (h.1 view.tree k.1)
   shows_one (Read mine) (Read view) h only k l t s = (h.2.lang_is ∙ sym k.2.lang_is ∙ s.0, sym (only view.tree k.1) ∙ s.1)
 
-  pub notes_one : (path : List ℕ) (o p : Opened) → IsOpened lang bytes o → IsOpened lang bytes p → opened_notices path p ≡ opened_notices path o
+  pub notes_one : (path : List ℕ) (o p : Opened) → IsOpened spells lang bytes o → IsOpened spells lang bytes p → opened_notices path p ≡ opened_notices path o
   notes_one path TooLarge TooLarge h k = refl
   notes_one path TooLarge NotUtf8 h k = absurd (let few = k.0 in omega (arith, h, few))
   notes_one path TooLarge (NoTree view) h k = absurd (let few = k.0.0 in omega (arith, h, few))

@@ -1,4 +1,4 @@
--- What a scan of files by rule files reports.
+-- What a scan of files by rule files reports, where texts have the trees that a reader spells.
 use Rattle.std.specs.Prelude.{◌≡◌, ◌⊎◌, ℕ, List, [], ◌∷◌}
 use Rattle.std.specs.Option.{unwrap_or}
 use Rattle.std.specs.declared.cmp.Ordering.{Ordering}
@@ -10,11 +10,12 @@ use Rattle.meta_bind.specs.declared.finding.Finding.{Finding}
 use Rattle.meta_bind.specs.Bounds.{name_cmp}
 use Rattle.rule_form.specs.declared.rule.Rule.{Rule}
 use Rattle.tree_match.specs.Sets.{Among}
-use Rattle.judge_file.specs.declared.opened.Opened.{Opened}
-use Rattle.judge_file.specs.declared.opened.Opened.TheVariants as opened
-use Rattle.judge_file.specs.declared.outcome.Outcome.{Outcome}
-use Rattle.judge_file.specs.Opening.{IsOpened}
-use Rattle.judge_file.specs.Findings.{findings_of}
+use Rattle.file_open.specs.declared.opened.Opened.{Opened}
+use Rattle.file_open.specs.declared.opened.Opened.TheVariants as opened
+use Rattle.part_judge.specs.declared.outcome.Outcome.{Outcome}
+use Rattle.file_open.specs.Reading.{Spells}
+use Rattle.file_open.specs.Opening.{IsOpened}
+use Rattle.part_judge.specs.Findings.{findings_of}
 use Rattle.fix_apply.specs.declared.notice.Notice.{Notice}
 use Rattle.fix_apply.specs.declared.notice.NoticeKind.TheVariants as kinds
 use Rattle.fix_apply.specs.declared.report.Reported.{Reported}
@@ -74,25 +75,25 @@ abbrev pub InView : Opened → (Lang → Node → Type 0) → Type 0
 InView o P = (lang : Lang) × (tree : Node) × Shows o lang tree × P lang tree
 
 -- a finding of one of the rules in a file
-abbrev pub IsResultIn : List Rule → File → Reported → Type 0
-IsResultIn rules file r =
-    (o : Opened) × IsOpened (lang_at file.0) file.1 o × InView o (λ lang tree. IsFoundIn rules file.0 lang file.1 tree r)
+abbrev pub IsResultIn : Spells → List Rule → File → Reported → Type 0
+IsResultIn spells rules file r =
+    (o : Opened) × IsOpened spells (lang_at file.0) file.1 o × InView o (λ lang tree. IsFoundIn rules file.0 lang file.1 tree r)
 
 -- a notice of a file: how it is opened, or what one of the rules finds there
-abbrev pub IsNoticeIn : List Rule → File → Notice → Type 0
-IsNoticeIn rules file n =
-    (o : Opened) × IsOpened (lang_at file.0) file.1 o × (Among (opened_notices file.0 o) n ⊎ InView o (λ lang tree. IsNotedIn rules file.0 lang file.1 tree n))
+abbrev pub IsNoticeIn : Spells → List Rule → File → Notice → Type 0
+IsNoticeIn spells rules file n =
+    (o : Opened) × IsOpened spells (lang_at file.0) file.1 o × (Among (opened_notices file.0 o) n ⊎ InView o (λ lang tree. IsNotedIn rules file.0 lang file.1 tree n))
 
 -- a finding in one of the files
-abbrev pub IsResult : List Rule → List File → Reported → Type 0
-IsResult rules files r = (file : File) × Among files file × IsResultIn rules file r
+abbrev pub IsResult : Spells → List Rule → List File → Reported → Type 0
+IsResult spells rules files r = (file : File) × Among files file × IsResultIn spells rules file r
 
 -- a notice of one of the files
-abbrev pub IsFileNotice : List Rule → List File → Notice → Type 0
-IsFileNotice rules files n = (file : File) × Among files file × IsNoticeIn rules file n
+abbrev pub IsFileNotice : Spells → List Rule → List File → Notice → Type 0
+IsFileNotice spells rules files n = (file : File) × Among files file × IsNoticeIn spells rules file n
 
 -- The findings of the rules that run where these texts are refused, and the notices of rule files and files, each in order and
 -- each once.
-pub record IsFresh (refused : List (List ℕ)) (files : List File) (rule_files : List RuleFile) (report : Report) : Type 0 where
-  pub results : IsExactly reported_cmp (IsResult (running refused rule_files) files) report.results
-  pub notices : IsExactly notice_cmp (λ n. Among (rule_notices refused rule_files) n ⊎ IsFileNotice (running refused rule_files) files n) report.notices
+pub record IsFresh (spells : Spells) (refused : List (List ℕ)) (files : List File) (rule_files : List RuleFile) (report : Report) : Type 0 where
+  pub results : IsExactly reported_cmp (IsResult spells (running refused rule_files) files) report.results
+  pub notices : IsExactly notice_cmp (λ n. Among (rule_notices refused rule_files) n ⊎ IsFileNotice spells (running refused rule_files) files n) report.notices

@@ -12,8 +12,8 @@ use Rattle.tree_match.specs.declared.leaf.Leaf.{Leaf}
 use Rattle.tree_match.specs.Sets.{Among}
 use Rattle.tree_match.specs.Members.{IsMember}
 use Rattle.tree_match.specs.Leaf.{IsLeaf}
-use Rattle.judge_file.specs.declared.outcome.Outcome.{Outcome}
-use Rattle.judge_file.specs.Findings.{PartFinds}
+use Rattle.part_judge.specs.declared.outcome.Outcome.{Outcome}
+use Rattle.part_judge.specs.Findings.{PartFinds}
 
 -- a glob without a slash matches some segment of the path; another one matches from the root on
 pub record GlobMatches (glob path : List ℕ) : Type 0 where

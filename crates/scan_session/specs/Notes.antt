@@ -5,8 +5,8 @@ use Rattle.std.specs.Ordering.{ordering_then}
 use Rattle.yaml_lines.specs.declared.fault.Feature.{Feature}
 use Rattle.yaml_lines.specs.declared.fault.Feature.TheVariants as features
 use Rattle.meta_bind.specs.Bounds.{name_cmp}
-use Rattle.rule_read.specs.declared.fault.RuleFaultKind.{RuleFaultKind}
-use Rattle.rule_read.specs.declared.fault.RuleFaultKind.TheVariants as faults
+use Rattle.rule_keys.specs.declared.fault.RuleFaultKind.{RuleFaultKind}
+use Rattle.rule_keys.specs.declared.fault.RuleFaultKind.TheVariants as faults
 use Rattle.fix_apply.specs.declared.notice.Notice.{Notice}
 use Rattle.fix_apply.specs.declared.notice.NoticeKind.{NoticeKind}
 use Rattle.fix_apply.specs.declared.notice.NoticeKind.TheVariants as kinds

@@ -1,9 +1,10 @@
 -- What files, and entries that are no rules, leave alone where some texts are refused.
 use Rattle.std.specs.Prelude.{◌≡◌, ◌↔◌, ℕ, List, ◌∷◌, ◌++◌}
 use Rattle.tree_match.specs.Sets.{Among}
-use Rattle.rule_read.specs.declared.fault.RuleFault.{RuleFault}
-use Rattle.rule_read.specs.declared.fault.RuleOutcome.{RuleOutcome}
-use Rattle.rule_read.specs.declared.fault.RuleOutcome.TheVariants.{Bad}
+use Rattle.file_open.specs.Reading.{Spells}
+use Rattle.rule_entries.specs.declared.outcome.RuleFault.{RuleFault}
+use Rattle.rule_entries.specs.declared.outcome.RuleOutcome.{RuleOutcome}
+use Rattle.rule_entries.specs.declared.outcome.RuleOutcome.TheVariants.{Bad}
 use Rattle.fix_apply.specs.declared.report.Report.{Report}
 use Rattle.fix_apply.specs.declared.report.Reported.{Reported}
 use Rattle.scan_session.specs.declared.rule_file.RuleContent.TheVariants.{Rules}
@@ -11,9 +12,9 @@ use Rattle.scan_session.specs.declared.rule_file.RuleFile.{RuleFile}
 use Rattle.scan_session.specs.Fresh.{File, IsFresh}
 
 -- Whatever a file holds, the findings in the others are those of a scan without it.
-abbrev pub KeepsOtherFiles : List (List ℕ) → List File → List RuleFile → Report → Type 0
-KeepsOtherFiles refused files rule_files report =
-    (before after : List File) (file : File) (less : Report) → files ≡ before ++ file ∷ after → IsFresh refused (before ++ after) rule_files less → (r : Reported) → (r.path ≡ file.0 → ⊥)
+abbrev pub KeepsOtherFiles : Spells → List (List ℕ) → List File → List RuleFile → Report → Type 0
+KeepsOtherFiles spells refused files rule_files report =
+    (before after : List File) (file : File) (less : Report) → files ≡ before ++ file ∷ after → IsFresh spells refused (before ++ after) rule_files less → (r : Reported) → (r.path ≡ file.0 → ⊥)
     → Among report.results r ↔ Among less.results r
 
 -- a rule file with these entries
@@ -21,7 +22,7 @@ abbrev pub file_of : List ℕ → List RuleOutcome → RuleFile
 file_of name outcomes = record { name = name; content = Rules outcomes }
 
 -- Where an entry is no rule, the findings are those of a scan without it.
-abbrev pub KeepsOtherRules : List (List ℕ) → List File → List RuleFile → Report → Type 0
-KeepsOtherRules refused files rule_files report =
+abbrev pub KeepsOtherRules : Spells → List (List ℕ) → List File → List RuleFile → Report → Type 0
+KeepsOtherRules spells refused files rule_files report =
     (before after : List RuleFile) (name : List ℕ) (os ps : List RuleOutcome) (fault : RuleFault) (less : Report) → rule_files ≡ before ++ file_of name (os ++ Bad fault ∷ ps) ∷ after
-    → IsFresh refused files (before ++ file_of name (os ++ ps) ∷ after) less → report.results ≡ less.results
+    → IsFresh spells refused files (before ++ file_of name (os ++ ps) ∷ after) less → report.results ≡ less.results

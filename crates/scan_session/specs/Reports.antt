@@ -10,8 +10,8 @@ use Rattle.meta_bind.specs.declared.finding.Finding.{Finding}
 use Rattle.meta_bind.specs.Bounds.{name_cmp, binding_cmp}
 use Rattle.meta_bind.specs.Fills.{filled}
 use Rattle.rule_form.specs.declared.rule.Rule.{Rule}
-use Rattle.judge_file.specs.declared.outcome.Outcome.{Outcome}
-use Rattle.judge_file.specs.declared.outcome.Outcome.TheVariants as outcomes
+use Rattle.part_judge.specs.declared.outcome.Outcome.{Outcome}
+use Rattle.part_judge.specs.declared.outcome.Outcome.TheVariants as outcomes
 use Rattle.fix_apply.specs.declared.notice.Notice.{Notice}
 use Rattle.fix_apply.specs.declared.notice.NoticeKind.TheVariants as kinds
 use Rattle.fix_apply.specs.declared.report.Reported.{Reported}

@@ -8,8 +8,8 @@ use Rattle.rule_form.specs.declared.rule.Part.{Part}
 use Rattle.rule_form.specs.declared.rule.Body.{Body}
 use Rattle.rule_form.specs.declared.rule.Body.TheVariants as bodies
 use Rattle.tree_match.specs.Sets.{Among}
-use Rattle.rule_read.specs.declared.fault.RuleOutcome.{RuleOutcome}
-use Rattle.rule_read.specs.declared.fault.RuleOutcome.TheVariants.{Good, Bad}
+use Rattle.rule_entries.specs.declared.outcome.RuleOutcome.{RuleOutcome}
+use Rattle.rule_entries.specs.declared.outcome.RuleOutcome.TheVariants.{Good, Bad}
 use Rattle.fix_apply.specs.declared.notice.Notice.{Notice}
 use Rattle.fix_apply.specs.declared.notice.NoticeKind.TheVariants as kinds
 use Rattle.scan_session.specs.declared.rule_file.RuleContent.{RuleContent}

@@ -1,4 +1,9 @@
-//! What a fresh scan of files by rule files reports.
+//! What a fresh scan of files by rule files reports, whatever reads their trees and the patterns of the rules.
+//!
+//! The contracts speak of the relations that a [`TreeReader`] and a [`PatternReader`] read by, so they hold for all languages.
+//!
+//! [`TreeReader`]: code_reader::TreeReader
+//! [`PatternReader`]: code_reader::PatternReader
 #![tactic(auto)]
 
 mod building;

@@ -3,15 +3,15 @@
 ghost use Rattle.std.specs.Prelude.{◌≡◌, ◌<◌, ◌↔◌, length, slice_get, All, IsTrue, IfOk, OnOk, Some};
 ghost use Rattle.tree_match.specs.Sets.{Among, Adds};
 ghost use Rattle.tree_match.specs.Placed.{IsLeafPlaced};
-ghost use Rattle.judge_file.specs.Findings.{findings_of, IsFindingPlaced};
+ghost use Rattle.part_judge.specs.Findings.{findings_of, IsFindingPlaced};
 ghost use Rattle.rule_form.specs.declared.rule.Part.{Part as a_part};
 ghost use Rattle.scan_session.specs.Looking.{GlobMatches, SomeMatches, Allows, AreLeaves, LooksAt};
 ghost use Rattle.scan_session.specs.declared.looking.Judged.{Judged as a_judged};
 ghost use Rattle.scan_session.specs.Judging.{PartJudges, PartAdds, RuleJudges, RuleAdds, IsJudged, AreAllPlaced};
 
 use crate::runner::Runner;
-use judge_file::{Found, judge};
 use node_tree::{FileView, Lang, List, Memory, Pattern, Steps, Text};
+use part_judge::{Found, judge};
 use path_glob::matches;
 use rule_form::{Part, Rule};
 use std::alloc::Global;

@@ -7,7 +7,7 @@ ghost use Rattle.std.specs.Str.{IsUtf8};
 ghost use Rattle.meta_bind.specs.declared.bound.Bound.{Bound as a_bound};
 ghost use Rattle.meta_bind.specs.Fills.{filled};
 ghost use Rattle.meta_bind.specs.Places.{EndsLieIn};
-ghost use Rattle.judge_file.specs.Findings.{IsFindingPlaced};
+ghost use Rattle.part_judge.specs.Findings.{IsFindingPlaced};
 ghost use Rattle.scan_session.specs.Reports.{reported as reported_as, outcome_notices};
 ghost use Rattle.scan_session.specs.Judging.{AreNumbered, AreReported, ArePlacedHits, AreNumberedHits, judged_notices};
 
@@ -16,9 +16,9 @@ use crate::note::{Noted, add_notice};
 use crate::row::Row;
 use crate::runner::{Runner, rule_at};
 use fix_apply::{NoticeKind, Reported};
-use judge_file::FoundNotice;
 use meta_bind::{Binding, Finding, fill};
 use node_tree::{FileView, List, Memory, Places, Text, Twin};
+use part_judge::FoundNotice;
 use rule_form::Rule;
 use std::alloc::Global;
 

@@ -5,8 +5,9 @@ ghost use Rattle.scan_session.specs.declared.rule_file.RuleContent.{RuleContent 
 ghost use Rattle.scan_session.specs.declared.rule_file.RuleFile.{RuleFile as a_file};
 ghost use Rattle.scan_session.specs.RuleFiles.{IsContent, IsContentOf, IsRuleFile, outcomes_of};
 
+use code_reader::PatternReader;
 use node_tree::{List, Memory, Text};
-use rule_read::{RuleOutcome, RulesFault, read_rules};
+use rule_entries::{RuleOutcome, RulesFault, read_entries};
 use std::alloc::Global;
 use yaml_lines::{Feature, YFault};
 use yaml_read::{YValue, read_yaml};
@@ -34,11 +35,15 @@ pub enum RuleContent {
 }
 
 // What a rule file with that value says.
-fn content_of_value(alloc: Global, value: &YValue) -> Result<RuleContent, Memory>
-    ensures content { IfOk result (IsContentOf value.now) }
-    ensures only { (c : a_content) → IsContentOf value.now c → IfOk result (λ found. found ≡ c) }
+fn content_of_value<R: PatternReader>(
+    alloc: Global,
+    reader: &R,
+    value: &YValue,
+) -> Result<RuleContent, Memory>
+    ensures content { IfOk result (IsContentOf (R.writes reader.now) value.now) }
+    ensures only { (c : a_content) → IsContentOf (R.writes reader.now) value.now c → IfOk result (λ found. found ≡ c) }
 {
-    match read_rules(alloc, value) {
+    match read_entries(alloc, reader, value) {
         Ok(outcomes) => Ok(RuleContent::Rules(outcomes)),
         Err(RulesFault::NoRules) => Ok(RuleContent::NoRules),
         Err(RulesFault::Memory) => Err(Memory),
@@ -46,13 +51,17 @@ fn content_of_value(alloc: Global, value: &YValue) -> Result<RuleContent, Memory
 }
 
 // What a rule file with these bytes says.
-fn content_of(alloc: Global, bytes: &[u8]) -> Result<RuleContent, Memory>
+fn content_of<R: PatternReader>(
+    alloc: Global,
+    reader: &R,
+    bytes: &[u8],
+) -> Result<RuleContent, Memory>
     requires { length bytes.now ≤ 1000000 }
-    ensures content { IfOk result (IsContent bytes.now) }
-    ensures only { (c : a_content) → IsContent bytes.now c → IfOk result (λ found. found ≡ c) }
+    ensures content { IfOk result (IsContent (R.writes reader.now) bytes.now) }
+    ensures only { (c : a_content) → IsContent (R.writes reader.now) bytes.now c → IfOk result (λ found. found ≡ c) }
 {
     match read_yaml(alloc, bytes) {
-        Ok(value) => content_of_value(alloc, &value),
+        Ok(value) => content_of_value(alloc, reader, &value),
         Err(YFault::NotUtf8) => Ok(RuleContent::NotUtf8),
         Err(YFault::OutsideProfile(feature, line)) => {
             Ok(RuleContent::OutsideProfile(feature, line))
@@ -62,13 +71,19 @@ fn content_of(alloc: Global, bytes: &[u8]) -> Result<RuleContent, Memory>
     }
 }
 
-/// Reads a rule file of at most 1,000,000 bytes. The file with these bytes is this one and no other.
-pub fn read_rule_file(alloc: Global, name: &str, bytes: &[u8]) -> Result<RuleFile, Memory>
+/// Reads a rule file of at most 1,000,000 bytes, its patterns by the reader. The file with these bytes is this one and no
+/// other.
+pub fn read_rule_file<R: PatternReader>(
+    alloc: Global,
+    reader: &R,
+    name: &str,
+    bytes: &[u8],
+) -> Result<RuleFile, Memory>
     requires { length bytes.now ≤ 1000000 }
-    ensures file { IfOk result (IsRuleFile name.now bytes.now) }
-    ensures only { (f : a_file) → IsRuleFile name.now bytes.now f → IfOk result (λ found. found ≡ f) }
+    ensures file { IfOk result (IsRuleFile (R.writes reader.now) name.now bytes.now) }
+    ensures only { (f : a_file) → IsRuleFile (R.writes reader.now) name.now bytes.now f → IfOk result (λ found. found ≡ f) }
 {
-    let content = content_of(alloc, bytes)?;
+    let content = content_of(alloc, reader, bytes)?;
     let name = Text::from_str(alloc, name)?;
     Ok(RuleFile { name, content })
 }

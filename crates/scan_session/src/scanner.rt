@@ -17,6 +17,7 @@ use crate::rule_file::RuleFile;
 use crate::runner::Runner;
 use crate::running::take_files;
 use crate::scanning::scan_file;
+use code_reader::TreeReader;
 use fix_apply::{Report, Reported};
 use node_tree::{Bytes, List, Memory, Steps};
 use rx_text::Patterns;
@@ -34,34 +35,39 @@ fn append(results: &mut List<Reported>, mut more: List<Reported>) -> Result<(), 
     Ok(())
 }
 
-/// A scan of files that come one after the other. It keeps what is to be said of them and not the files.
+/// A scan of files that come one after the other, by a reader of trees. It keeps what is to be said of them and not the files.
 #[derive(Drop)]
-pub struct Scanner<'r> {
+pub struct Scanner<'r, R> {
+    reader: &'r R,
     running: Vec<Runner<'r>>,
     most: u64,
     results: List<Reported>,
     notices: Vec<Noted>,
 }
 
-impl<'r> Scanner<'r> {
-    /// A scan by the rules of the rule files, which reports at most so many findings and has no file so far. A rule whose id an
-    /// earlier one has does not run; nor does one with a text that is refused; nor, so far, one that follows data.
+impl<'r, R: TreeReader> Scanner<'r, R> {
+    /// A scan by the rules of the rule files, which reports at most so many findings and has no file so far. Files are opened by
+    /// the reader. A rule whose id an earlier one has does not run; nor does one with a text that is refused; nor, so far, one
+    /// that follows data.
     ///
     /// Each text of a good rule is given to `build` once, in order of rule file, entry and place. The refused ones are those
     /// that the builder's list gained in this call, whatever it answers.
     pub fn of<P: Patterns>(
         alloc: Global,
+        reader: &'r R,
         rules: &'r List<RuleFile>,
         most: u64,
         patterns: &mut P,
-    ) -> Result<Scanner<'r>, Memory>
+    ) -> Result<Scanner<'r, R>, Memory>
         ensures grows { Gains (P.refusals patterns.old) (P.refusals patterns.new) }
         ensures asked { AreTextsOf rules.now (gained (P.refusals patterns.old) (P.refusals patterns.new)) }
-        ensures begun { IfOk result (HasScanned (gained (P.refusals patterns.old) (P.refusals patterns.new)) rules.now most []) }
+        ensures same_reader { IfOk result (λ scanner. scanner.reader.now ≡ reader.now) }
+        ensures begun { IfOk result (HasScanned (R.spells reader.now) (gained (P.refusals patterns.old) (P.refusals patterns.new)) rules.now most []) }
     {
         let mut notices = Vec::new(alloc);
         let running = take_files(alloc, rules, patterns, &mut notices)?;
         Ok(Scanner {
+            reader,
             running,
             most,
             results: List::new(alloc),
@@ -85,13 +91,22 @@ impl<'r> Scanner<'r> {
         bytes: Bytes,
         steps: &mut Steps<L>,
     ) -> Result<(), Memory>
-        ensures { OnOk result (Scans ((path.now, bytes) ∷ []) self.old self.new) }
+        ensures scanned { OnOk result (Scans (R.spells self.old.reader.now) ((path.now, bytes) ∷ []) self.old self.new) }
+        ensures same_reader { self.new.reader.now ≡ self.old.reader.now }
     {
         if self.is_over() {
             return Ok(());
         }
         let running = self.running.as_slice();
-        let found = scan_file(alloc, path, bytes, running, steps, &mut self.notices)?;
+        let found = scan_file(
+            alloc,
+            self.reader,
+            path,
+            bytes,
+            running,
+            steps,
+            &mut self.notices,
+        )?;
         append(&mut self.results, found)
     }
 
@@ -101,12 +116,12 @@ impl<'r> Scanner<'r> {
     /// TooMany comes exactly where there are more findings than are reported. A file, whatever it holds, and an entry that is
     /// no rule change no finding of another.
     pub fn report(self, alloc: Global) -> Result<Report, ScanFault>
-        ensures fresh { AfterScan self.entry (λ refused rules most files. IfOk result (IsFresh refused files rules)) }
-        ensures few { AfterScan self.entry (λ refused rules most files. IfOk result (λ report. length report.results ≤ most)) }
-        ensures too_many { AfterScan self.entry (λ refused rules most files. (n : ℕ) → result ≡ Err (TooMany n) → (n ≡ most) × HasMore reported_cmp (IsResult (rules_of refused rules) files) most) }
-        ensures only { AfterScan self.entry (λ refused rules most files. IfOk result (λ report. (r : a_report) → IsFresh refused files rules r → r ≡ report)) }
-        ensures other_files { AfterScan self.entry (λ refused rules most files. IfOk result (KeepsOtherFiles refused files rules)) }
-        ensures other_rules { AfterScan self.entry (λ refused rules most files. IfOk result (KeepsOtherRules refused files rules)) }
+        ensures fresh { AfterScan (R.spells self.entry.reader.now) self.entry (λ spells refused rules most files. IfOk result (IsFresh spells refused files rules)) }
+        ensures few { AfterScan (R.spells self.entry.reader.now) self.entry (λ spells refused rules most files. IfOk result (λ report. length report.results ≤ most)) }
+        ensures too_many { AfterScan (R.spells self.entry.reader.now) self.entry (λ spells refused rules most files. (n : ℕ) → result ≡ Err (TooMany n) → (n ≡ most) × HasMore reported_cmp (IsResult spells (rules_of refused rules) files) most) }
+        ensures only { AfterScan (R.spells self.entry.reader.now) self.entry (λ spells refused rules most files. IfOk result (λ report. (r : a_report) → IsFresh spells refused files rules r → r ≡ report)) }
+        ensures other_files { AfterScan (R.spells self.entry.reader.now) self.entry (λ spells refused rules most files. IfOk result (KeepsOtherFiles spells refused files rules)) }
+        ensures other_rules { AfterScan (R.spells self.entry.reader.now) self.entry (λ spells refused rules most files. IfOk result (KeepsOtherRules spells refused files rules)) }
     {
         if self.is_over() {
             return Err(ScanFault::TooMany(self.most));

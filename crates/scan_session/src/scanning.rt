@@ -12,8 +12,9 @@ use crate::note::{Noted, add_notice};
 use crate::reporting::{note_judged, report_rows};
 use crate::row::rows_of;
 use crate::runner::Runner;
+use code_reader::TreeReader;
+use file_open::{Opened, open_file};
 use fix_apply::{NoticeKind, Reported};
-use judge_file::{Opened, open_file};
 use node_tree::{Bytes, FileView, Lang, List, Memory, Steps};
 use path_glob::lang_of;
 use sorted_sets::settled;
@@ -40,21 +41,22 @@ fn scan_view<L: Ledger>(
     report_rows(alloc, path, view, running, rows.as_slice())
 }
 
-/// What the rules find in a file, which is opened in the language that its path's ending names, or else in `Regex`. The
-/// notices are added.
-pub fn scan_file<L: Ledger>(
+/// What the rules find in a file, which is opened by the reader in the language that its path's ending names, or else in
+/// `Regex`. The notices are added.
+pub fn scan_file<R: TreeReader, L: Ledger>(
     alloc: Global,
+    reader: &R,
     path: &str,
     bytes: Bytes,
     running: &[Runner<'_>],
     steps: &mut Steps<L>,
     notices: &mut Vec<Noted>,
 ) -> Result<List<Reported>, Memory>
-    ensures results { AreApart running.now → IfOk result (IsExactly reported_cmp (IsResultIn running.now (path.now, bytes))) }
-    ensures notices { OnOk result (Adds notices.old.items notices.new.items (IsNoticeIn running.now (path.now, bytes))) }
+    ensures results { AreApart running.now → IfOk result (IsExactly reported_cmp (IsResultIn (R.spells reader.now) running.now (path.now, bytes))) }
+    ensures notices { OnOk result (Adds notices.old.items notices.new.items (IsNoticeIn (R.spells reader.now) running.now (path.now, bytes))) }
 {
     let lang = lang_of(path).unwrap_or(Lang::Regex);
-    let opened = open_file(alloc, lang, bytes, steps)?;
+    let opened = open_file(alloc, reader, lang, bytes, steps)?;
     match opened {
         Opened::TooLarge => {
             add_notice(alloc, notices, path, "", NoticeKind::TooLarge, "")?;

@@ -1,9 +1,10 @@
 use Rattle.std.proofs.Common.{◌≡◌, ◌≤◌, ℕ, List, arith, length, subst}
 use Rattle.node_tree.specs.declared.view.FileView.{FileView}
 use Rattle.pattern_read.proofs.Laws.{refused}
-use Rattle.judge_file.specs.declared.opened.Opened.{Opened}
-use Rattle.judge_file.specs.declared.opened.Opened.TheVariants as opened
-use Rattle.judge_file.specs.Opening.{IsOpened, HasOnlyTree}
+use Rattle.file_open.specs.declared.opened.Opened.{Opened}
+use Rattle.file_open.specs.declared.opened.Opened.TheVariants as opened
+use Rattle.file_open.specs.Opening.{IsOpened, HasOnlyTree}
+use Rattle.languages.specs.Trees.{IsTree}
 use Rattle.scan_run.specs.declared.status.Status.TheVariants.{BadPattern, OverLimit, BadTarget}
 use Rattle.scan_run.specs.declared.status.LimitKind.TheVariants.{Target}
 use Rattle.scan_run.proofs.Matches.{unprinted, only_unprinted, ends_bad_pattern, ends_over_limit, ends_bad_target, none_opened, file_read, only_read, ends_by_search, only_search, front_of_search, some_of_search, of_search, search_steps}
@@ -32,7 +33,7 @@ returns-in_default-opened-clause-ends g c a =
     let bytes = c.in-Ok-read_input.bytes.items in
     let end = c.in-Ok-read_input.ensures.end (omega (arith, c.in-Ok-read_input.ensures.limit, c.if-len-eq-MOST.false, c.len.ensures)) in
     let small : length bytes ≤ 1000000 = omega (arith, c.in-Ok-read_input.ensures.limit, c.if-len-eq-MOST.false, c.len.ensures, c.in-Ok-read_input.bytes.ok.0) in
-    let is = subst (λ (l : List ℕ). IsOpened c.args.lang l c.in-Ok-open_file.opened) c.from_vec.ensures c.in-Ok-open_file.ensures.opened in
+    let is = subst (λ (l : List ℕ). IsOpened IsTree c.args.lang l c.in-Ok-open_file.opened) c.from_vec.ensures c.in-Ok-open_file.ensures.opened in
     unprinted _ _ _ _ _ (ends_bad_target c.args.lang c.args.text.now c.in-Ok.pattern c.in-Ok.ensures.pattern _ _ bytes c.in-Ok-read_input.ensures.bytes end small
     (none_opened c.args.lang bytes c.in-Ok-open_file.opened c.in_default-opened.not-Read small is))
 
@@ -41,7 +42,7 @@ returns-in_default-opened-clause-only g c a some =
     let bytes = c.in-Ok-read_input.bytes.items in
     let end = c.in-Ok-read_input.ensures.end (omega (arith, c.in-Ok-read_input.ensures.limit, c.if-len-eq-MOST.false, c.len.ensures)) in
     let small : length bytes ≤ 1000000 = omega (arith, c.in-Ok-read_input.ensures.limit, c.if-len-eq-MOST.false, c.len.ensures, c.in-Ok-read_input.bytes.ok.0) in
-    let is = subst (λ (l : List ℕ). IsOpened c.args.lang l c.in-Ok-open_file.opened) c.from_vec.ensures c.in-Ok-open_file.ensures.opened in
+    let is = subst (λ (l : List ℕ). IsOpened IsTree c.args.lang l c.in-Ok-open_file.opened) c.from_vec.ensures c.in-Ok-open_file.ensures.opened in
     only_unprinted c.args.lang c.args.text.now (g.S.Source.left c.args.input.now) _ BadTarget (λ h. h) (ends_bad_target c.args.lang c.args.text.now c.in-Ok.pattern c.in-Ok.ensures.pattern _ _ bytes c.in-Ok-read_input.ensures.bytes end small
     (none_opened c.args.lang bytes c.in-Ok-open_file.opened c.in_default-opened.not-Read small is)) some
 
@@ -49,15 +50,15 @@ pub returns-clause-ends : goal.returns-clause-ends
 returns-clause-ends g c a =
     let bytes = c.in-Ok-read_input.bytes.items in
     let end = c.in-Ok-read_input.ensures.end (omega (arith, c.in-Ok-read_input.ensures.limit, c.if-len-eq-MOST.false, c.len.ensures)) in
-    let is = subst (λ (l : List ℕ). IsOpened c.args.lang l (opened.Read c.in-Read.file)) c.from_vec.ensures (subst (λ (x : Opened). IsOpened c.args.lang c.from_vec.result x) c.in-Read.is c.in-Ok-open_file.ensures.opened) in
+    let is = subst (λ (l : List ℕ). IsOpened IsTree c.args.lang l (opened.Read c.in-Read.file)) c.from_vec.ensures (subst (λ (x : Opened). IsOpened IsTree c.args.lang c.from_vec.result x) c.in-Read.is c.in-Ok-open_file.ensures.opened) in
     ends_by_search c.args.lang c.args.text.now c.in-Ok.pattern c.in-Ok.ensures.pattern _ _ bytes c.in-Ok-read_input.ensures.bytes end c.in-Read.file.tree (file_read c.args.lang bytes c.in-Read.file is) _ _ _ (c.print_members.ensures.ends a)
 
 pub returns-clause-only : goal.returns-clause-only
 returns-clause-only g c a some =
     let bytes = c.in-Ok-read_input.bytes.items in
     let end = c.in-Ok-read_input.ensures.end (omega (arith, c.in-Ok-read_input.ensures.limit, c.if-len-eq-MOST.false, c.len.ensures)) in
-    let is = subst (λ (l : List ℕ). IsOpened c.args.lang l (opened.Read c.in-Read.file)) c.from_vec.ensures (subst (λ (x : Opened). IsOpened c.args.lang c.from_vec.result x) c.in-Read.is c.in-Ok-open_file.ensures.opened) in
-    let one = subst (λ (l : List ℕ). HasOnlyTree c.args.lang l (opened.Read c.in-Read.file)) c.from_vec.ensures (subst (λ (x : Opened). HasOnlyTree c.args.lang c.from_vec.result x) c.in-Read.is c.in-Ok-open_file.ensures.only) in
+    let is = subst (λ (l : List ℕ). IsOpened IsTree c.args.lang l (opened.Read c.in-Read.file)) c.from_vec.ensures (subst (λ (x : Opened). IsOpened IsTree c.args.lang c.from_vec.result x) c.in-Read.is c.in-Ok-open_file.ensures.opened) in
+    let one = subst (λ (l : List ℕ). HasOnlyTree IsTree c.args.lang l (opened.Read c.in-Read.file)) c.from_vec.ensures (subst (λ (x : Opened). HasOnlyTree IsTree c.args.lang c.from_vec.result x) c.in-Read.is c.in-Ok-open_file.ensures.only) in
     only_search c.args.lang c.args.text.now c.in-Ok.pattern c.in-Ok.ensures.pattern _ _ bytes c.in-Ok-read_input.ensures.bytes end c.in-Read.file.tree (file_read c.args.lang bytes c.in-Read.file is) _ _ _
     c.in-Ok.ensures.only (only_read c.args.lang bytes c.in-Read.file one) (c.print_members.ensures.ends a) some
 
@@ -68,14 +69,14 @@ pub returns-clause-front_written : goal.returns-clause-front_written
 returns-clause-front_written g c e =
     let bytes = c.in-Ok-read_input.bytes.items in
     let end = c.in-Ok-read_input.ensures.end (omega (arith, c.in-Ok-read_input.ensures.limit, c.if-len-eq-MOST.false, c.len.ensures)) in
-    let is = subst (λ (l : List ℕ). IsOpened c.args.lang l (opened.Read c.in-Read.file)) c.from_vec.ensures (subst (λ (x : Opened). IsOpened c.args.lang c.from_vec.result x) c.in-Read.is c.in-Ok-open_file.ensures.opened) in
+    let is = subst (λ (l : List ℕ). IsOpened IsTree c.args.lang l (opened.Read c.in-Read.file)) c.from_vec.ensures (subst (λ (x : Opened). IsOpened IsTree c.args.lang c.from_vec.result x) c.in-Read.is c.in-Ok-open_file.ensures.opened) in
     front_of_search c.args.lang c.args.text.now c.in-Ok.pattern c.in-Ok.ensures.pattern _ _ bytes c.in-Ok-read_input.ensures.bytes end c.in-Read.file.tree (file_read c.args.lang bytes c.in-Read.file is) _ _ (c.print_members.ensures.front_written e)
 
 pub returns-clause-whole_lines : goal.returns-clause-whole_lines
 returns-clause-whole_lines g c e =
     let bytes = c.in-Ok-read_input.bytes.items in
     let end = c.in-Ok-read_input.ensures.end (omega (arith, c.in-Ok-read_input.ensures.limit, c.if-len-eq-MOST.false, c.len.ensures)) in
-    let is = subst (λ (l : List ℕ). IsOpened c.args.lang l (opened.Read c.in-Read.file)) c.from_vec.ensures (subst (λ (x : Opened). IsOpened c.args.lang c.from_vec.result x) c.in-Read.is c.in-Ok-open_file.ensures.opened) in
+    let is = subst (λ (l : List ℕ). IsOpened IsTree c.args.lang l (opened.Read c.in-Read.file)) c.from_vec.ensures (subst (λ (x : Opened). IsOpened IsTree c.args.lang c.from_vec.result x) c.in-Read.is c.in-Ok-open_file.ensures.opened) in
     some_of_search c.args.lang c.args.text.now c.in-Ok.pattern c.in-Ok.ensures.pattern _ _ bytes c.in-Ok-read_input.ensures.bytes end c.in-Read.file.tree (file_read c.args.lang bytes c.in-Read.file is) _ _ (c.print_members.ensures.whole_lines e)
 
 pub returns-clause-cause : goal.returns-clause-cause

@@ -1,7 +1,7 @@
 use Rattle.std.proofs.Common.{◌+◌, ◌++◌, ℕ, List, ap, ◌∙◌, map, drop}
 use Rattle.std.proofs.lemmas.List.{drop_all}
 use Rattle.meta_bind.proofs.Lookups.{opened}
-use Rattle.rule_read.specs.declared.fault.RuleOutcome.{RuleOutcome}
+use Rattle.rule_entries.specs.declared.outcome.RuleOutcome.{RuleOutcome}
 use Rattle.scan_session.specs.Running.{stated_from}
 use Rattle.scan_session.specs.Taking.{said}
 use Rattle.scan_session.proofs.Taking.{files_on, files_end}

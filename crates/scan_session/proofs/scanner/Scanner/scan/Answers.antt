@@ -3,7 +3,7 @@ use Rattle.scan_session.proofs.Scans.{not_over, passed_over, apart, found_more}
 use Rattle.scan_session.proofs.scanner.Scanner.scan.Goals as goal
 
 pub returns-then-is_over : goal.returns-then-is_over
-returns-then-is_over g c refused rule_files most files up h = passed_over refused rule_files most files c.args.self.now h _ (c.is_over.ensures.0 c.if-is_over.true)
+returns-then-is_over g c refused rule_files most files up h = passed_over (g.R.TreeReader.spells c.args.self.now.reader.now) refused rule_files most files c.args.self.now h _ (c.is_over.ensures.0 c.if-is_over.true)
 
 pub returns : goal.returns
 returns g c =
@@ -13,6 +13,6 @@ returns g c =
     on_ok_map c.append.result (λ put refused rule_files most files up h. record {
       limit = h.limit;
       rules = h.rules;
-      found = found_more refused rule_files most files s h (c.args.path.now, c.args.bytes) rules c.scan_file.new.notices.items c.in_ok-found.found c.append.new.results up c.as_slice-running.ensures.value few
-          (c.in_ok-found.ensures.results (apart refused rule_files most files s h rules c.as_slice-running.ensures.value)) c.in_ok-found.ensures.notices put;
+      found = found_more (g.R.TreeReader.spells s.reader.now) refused rule_files most files s h (c.args.path.now, c.args.bytes) rules c.scan_file.new.notices.items c.in_ok-found.found c.append.new.results up c.as_slice-running.ensures.value few
+          (c.in_ok-found.ensures.results (apart (g.R.TreeReader.spells s.reader.now) refused rule_files most files s h rules c.as_slice-running.ensures.value)) c.in_ok-found.ensures.notices put;
     }) c.append.ensures

@@ -1,3 +1,0 @@
-mod PlainTrees
-mod Mapped
-mod Outcomes

@@ -1,7 +1,0 @@
-use Rattle.std.proofs.Common.{◌≡◌, ◌++◌, take}
-use Rattle.std.specs.List.{flat_map}
-use Rattle.judge_file.specs.Findings.{after_dot}
-use Rattle.judge_file.proofs.dotted.add_dotted.Given as goal
-
-abbrev pub invariant-loop-number : goal.invariant-loop-number
-invariant-loop-number l = l.text ≡ l.initial.text ++ flat_map after_dot (take l.number-index l.numbers)

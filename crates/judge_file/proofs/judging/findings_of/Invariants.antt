@@ -1,6 +1,0 @@
-use Rattle.std.proofs.Common.{◌≡◌, take, map}
-use Rattle.judge_file.specs.Findings.{finding_of}
-use Rattle.judge_file.proofs.judging.findings_of.Given as goal
-
-abbrev pub invariant-loop-at : goal.invariant-loop-at
-invariant-loop-at l = l.findings ≡ map finding_of (take l.at l.members)

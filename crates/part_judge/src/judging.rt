@@ -1,0 +1,111 @@
+//! What a rule finds in a file.
+
+ghost use Rattle.std.specs.Prelude.{◌≡◌, ◌<◌, length, map, All, IfOk, slice_get};
+ghost use Rattle.tree_match.specs.Placed.{IsLeafPlaced};
+ghost use Rattle.part_judge.specs.declared.outcome.Outcome.{Outcome as an_outcome};
+ghost use Rattle.part_judge.specs.Findings.{finding_of as finding_at, SearchFinds, BodyFinds, PartFinds, findings_of as findings_in, IsFindingPlaced};
+
+use crate::dotted::dotted;
+use crate::found::Found;
+use crate::outcome::Outcome;
+use meta_bind::{Binding, Finding};
+use node_tree::{FileView, List, Memory, Span, Twin};
+use range_algebra::{EvalFault, MatchSet, eval};
+use rule_form::{Body, Formula, Rule};
+use rx_text::Rx;
+use std::alloc::Global;
+use tree_match::Leaf;
+
+// The finding of a member, which comes from no source.
+fn finding_of(member: &(Span, Binding)) -> Result<Finding, Memory>
+    ensures { IfOk result (λ finding. finding ≡ finding_at member.now) }
+{
+    let (span, binding) = member;
+    Ok(Finding {
+        span: *span,
+        binding: binding.copy()?,
+        source: None,
+    })
+}
+
+// The finding of each member.
+fn findings_of(alloc: Global, members: &MatchSet) -> Result<List<Finding>, Memory>
+    ensures { IfOk result (λ findings. findings ≡ map finding_at members.now) }
+{
+    let mut findings = List::new(alloc);
+    for at in 0..members.len() {
+        let Some(member) = members.get(at) else {
+            unreachable!()
+        };
+        findings.push(finding_of(member)?)?;
+    }
+    Ok(findings)
+}
+
+// What a search for the formula finds.
+fn search(
+    alloc: Global,
+    view: &FileView,
+    formula: &Formula,
+    leaves: &List<Leaf>,
+    rx: &mut List<Rx>,
+) -> Result<Found, Memory>
+    requires { All (λ leaf. IsLeafPlaced view.now.bytes leaf) leaves.now }
+    ensures finds { IfOk result (SearchFinds leaves.now rx.old view.now.bytes formula.now) }
+    ensures placed { IfOk result (λ found. All (λ finding. IsFindingPlaced view.now.bytes finding) (findings_in found)) }
+    ensures same { rx.new ≡ rx.old }
+{
+    let outcome = match eval(alloc, view, formula, leaves, rx) {
+        Ok(members) => Outcome::Findings(findings_of(alloc, &members)?),
+        Err(EvalFault::Crowded(numbers)) => Outcome::Crowded(dotted(alloc, numbers.as_slice())?),
+        Err(EvalFault::Memory) => return Err(Memory),
+    };
+    Ok(Found::of(outcome))
+}
+
+// What a body finds.
+fn look(
+    alloc: Global,
+    view: &FileView,
+    body: &Body,
+    leaves: &List<Leaf>,
+    rx: &mut List<Rx>,
+) -> Result<Found, Memory>
+    requires { All (λ leaf. IsLeafPlaced view.now.bytes leaf) leaves.now }
+    ensures finds { IfOk result (BodyFinds leaves.now rx.old view.now.bytes body.now) }
+    ensures placed { IfOk result (λ found. All (λ finding. IsFindingPlaced view.now.bytes finding) (findings_in found)) }
+    ensures same { rx.new ≡ rx.old }
+{
+    match body {
+        Body::Search(formula) => search(alloc, view, formula, leaves, rx),
+        Body::Taint(_) => Ok(Found::of(Outcome::Findings(List::new(alloc)))),
+    }
+}
+
+/// What the part of the rule with that number finds in the file, where `leaves` has the members of the part's patterns by
+/// number and `rx` the rule's regular expressions: the members of its formula in order, or the notice that a set of the formula
+/// has more than 10,000. There is one such outcome. The ends of each finding's range and of what is bound cut no character of
+/// the file, since those of `leaves` don't. So far a rule on tainted data finds nothing.
+pub fn judge(
+    alloc: Global,
+    view: &FileView,
+    rule: &Rule,
+    part: u32,
+    leaves: &List<Leaf>,
+    rx: &mut List<Rx>,
+) -> Result<Found, Memory>
+    requires part { part < length rule.now.parts }
+    requires placed { All (λ leaf. IsLeafPlaced view.now.bytes leaf) leaves.now }
+    ensures finds { IfOk result (PartFinds leaves.now rx.old view.now.bytes (slice_get rule.now.parts part)) }
+    ensures placed { IfOk result (λ found. All (λ finding. IsFindingPlaced view.now.bytes finding) (findings_in found)) }
+    ensures only { IfOk result (λ found. (o : an_outcome) → PartFinds leaves.now rx.old view.now.bytes (slice_get rule.now.parts part) o → o ≡ found) }
+    ensures same { rx.new ≡ rx.old }
+{
+    look(
+        alloc,
+        view,
+        &rule.parts.as_slice()[part as usize].body,
+        leaves,
+        rx,
+    )
+}

@@ -1,0 +1,10 @@
+//! One part of a rule in one file: what it finds there.
+#![tactic(auto)]
+
+mod dotted;
+mod found;
+mod judging;
+mod outcome;
+
+pub use found::{Found, FoundNotice};
+pub use judging::judge;
