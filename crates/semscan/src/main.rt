@@ -10,6 +10,8 @@ ghost use Rattle.scan_run.specs.Run.{Ends};
 
 mod adapters;
 mod folder;
+#[cfg(test)]
+mod folder_tests;
 
 use crate::adapters::{StdinSource, StdoutSink};
 use crate::folder::FolderTree;

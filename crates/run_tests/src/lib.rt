@@ -1,0 +1,9 @@
+//! Tests of the top call, with an input, an output and files in memory.
+#![tactic(auto)]
+
+#[cfg(test)]
+mod matches;
+#[cfg(test)]
+mod runs;
+#[cfg(test)]
+mod scans;

@@ -1,0 +1,131 @@
+//! Runs of `match`.
+
+use crate::runs::{bytes_of, outcome};
+use node_tree::List;
+use rx_text::RealPatterns;
+use shown::{parted, same};
+use std::alloc::Global;
+use std::test::Fail;
+
+// How a run over these pieces ends, of which these calls fail.
+fn matched(
+    alloc: Global,
+    lang: &str,
+    pattern: &str,
+    input: &[(u32, &[u8])],
+    failing: [u32; 3],
+) -> Result<String, Fail> {
+    let words = ["match", lang, pattern];
+    let input = bytes_of(alloc, input)?;
+    let mut patterns = RealPatterns::new(alloc);
+    outcome(
+        alloc,
+        &words,
+        List::new(alloc),
+        input,
+        failing,
+        &mut patterns,
+    )
+}
+
+// The language, the pattern, the input and how the run ends.
+#[test]
+fn prints_where_a_pattern_matches(rt: HostRuntime) -> Result<(), Fail> {
+    let rows = [
+        "json ⇒ 1 ⇒ [1,{\"a\":1}] ⇒ 1..2\n8..9\n",
+        "json ⇒ [] ⇒ [[],[1]] ⇒ 1..3\n",
+        "json ⇒ {\"a\": 1} ⇒ [{\"a\":1},{\"b\":1}] ⇒ 1..8\n",
+        "json ⇒ 2 ⇒ [1] ⇒ ",
+        "json ⇒ [..., $X, ...] ⇒ [1,[2],1] ⇒ 0..9 $X=1..2\n0..9 $X=3..6\n0..9 $X=7..8\n3..6 $X=4..5\n",
+        "json ⇒ [$X, $X] ⇒ [1,1] ⇒ 0..5 $X=1..2\n",
+        "json ⇒ [$X, $X] ⇒ [1,2] ⇒ ",
+        "json ⇒ {\"k\": <... 1 ...>} ⇒ {\"k\":[1,1]} ⇒ 0..11\n",
+        "json ⇒ [$...A, 2] ⇒ [2] ⇒ 0..3 $...A=0..0\n",
+        "json ⇒ $X ⇒ {\"a\":1} ⇒ 0..7 $X=0..7\n1..4 $X=1..4\n5..6 $X=5..6\n",
+        "json ⇒ {$K: \"...\"} ⇒ {\"a\":\"b\"} ⇒ 0..9 $K=1..4\n",
+        "json ⇒ [$_, $_] ⇒ [1,2] ⇒ 0..5\n",
+        "json ⇒ 1 ⇒  ⇒ BadTarget",
+        "json ⇒ 1 ⇒ [1,] ⇒ BadTarget",
+        "json ⇒ ... ⇒ 1 ⇒ BadPattern",
+        "json ⇒ $...A ⇒ 1 ⇒ BadPattern",
+        "json ⇒ {\"a\": $...B} ⇒ 1 ⇒ BadPattern",
+        "json ⇒ [1 ⇒ 1 ⇒ BadPattern",
+        "json ⇒  ⇒  ⇒ BadPattern",
+        "python ⇒ $X == $X ⇒ a.b == (a.b)\n ⇒ 0..12 $X=0..3\n",
+        "python ⇒ $X == $X ⇒ a == b\n ⇒ ",
+        "python ⇒ foo(..., $X, ...) ⇒ foo(1,2,1)\n ⇒ 0..10 $X=4..5\n0..10 $X=6..7\n0..10 $X=8..9\n",
+        "python ⇒ foo(...) ⇒ foo()\n ⇒ 0..5\n",
+        "python ⇒ f(<... $X + 1 ...>) ⇒ f(g(a + 1) + 1)\n ⇒ 0..15 $X=2..10\n0..15 $X=4..5\n",
+        "python ⇒ f\"{$X}\" ⇒ f\"{a + 1}\"\n ⇒ 0..10 $X=3..8\n",
+        "python ⇒ \"...\" ⇒ g(\"a\", 'b' \"c\")\n ⇒ 2..5\n7..10\n7..14\n11..14\n",
+        "python ⇒ ...\na()\nb()\n... ⇒ p()\nq()\na()\nb()\nr()\n ⇒ 0..19\n",
+        "python ⇒ a()\nb() ⇒ p()\nq()\na()\nb()\nr()\n ⇒ 8..15\n",
+        "python ⇒ f($X)\n...\nf($Y) ⇒ f(1)\nf(2)\nf(3)\n ⇒ 0..9 $X=2..3 $Y=7..8\n0..14 $X=2..3 $Y=12..13\n5..14 $X=7..8 $Y=12..13\n",
+        "python ⇒ def $F(...): ... ⇒ @d\nasync def f(a): pass\ndef g(): return 1\n ⇒ 0..23 $F=13..14\n24..41 $F=28..29\n",
+        "python ⇒ return ⇒ def f():\n    return\n    return 1\n ⇒ 13..19\n",
+        "python ⇒ x ⇒  ⇒ ",
+        "python ⇒ foo( ⇒ a\n ⇒ BadPattern",
+        "python ⇒ $...A + 1 ⇒ a\n ⇒ BadPattern",
+        "python ⇒ ... ⇒ a\n ⇒ BadPattern",
+        "python ⇒ ...\n$...A ⇒ a\n ⇒ BadPattern",
+        "python ⇒  ⇒ a\n ⇒ BadPattern",
+        "python ⇒ x ⇒ x = \n ⇒ BadTarget",
+        "python ⇒ x ⇒ match x:\n    case 1: pass\n ⇒ BadTarget",
+        "python ⇒ x ⇒ if x:\ny\n ⇒ BadTarget",
+        "c ⇒ strcpy($D, $S) ⇒ void f(char *s) { char b[4]; strcpy(b, s); } ⇒ 29..41 $D=36..37 $S=39..40\n",
+        "c ⇒ (T)$X ⇒ void f(void) { g((T)a); } ⇒ 17..21 $X=20..21\n",
+        "c ⇒ if (b) x(); else y(); ⇒ void f(void) { if (a) if (b) x(); else y(); } ⇒ 22..43\n",
+        "c ⇒ printf($F, ...) ⇒ void f(void) { printf(\"%\" PRIu64 \"\\n\", va_arg(p, int)); } ⇒ 15..54 $F=22..37\n",
+        "c ⇒ 1 ⇒ int main( { ⇒ BadTarget",
+        "c ⇒ int main( { ⇒  ⇒ BadPattern",
+    ];
+    for row in rows {
+        let (lang, rest) = parted(row);
+        let (pattern, rest) = parted(rest);
+        let (input, wanted) = parted(rest);
+        let found = matched(
+            rt.alloc(),
+            lang,
+            pattern,
+            &[(1, input.as_bytes())],
+            [0, 0, 0],
+        )?;
+        same(row, found.as_str(), wanted)?;
+    }
+    Ok(())
+}
+
+#[test]
+fn ends_at_limits_and_failing_calls(rt: HostRuntime) -> Result<(), Fail> {
+    let file: &[(u32, &[u8])] = &[(1, b"[1,{\"a\":1}]")];
+    let rows: [(&str, &[(u32, &[u8])], [u32; 3], &str); 10] = [
+        (
+            "0",
+            &[(1, b"[0"), (10_000, b",0"), (1, b"]")],
+            [0, 0, 0],
+            "TooMany(10000)",
+        ),
+        (
+            "1",
+            &[(1_000_001, b" ")],
+            [0, 0, 0],
+            "OverLimit(Target, 1000001)",
+        ),
+        ("1", &[(1_000_000, b" ")], [0, 0, 0], "BadTarget"),
+        ("1", &[(500, b"["), (500, b"]")], [0, 0, 0], "BadTarget"),
+        ("1", &[(499, b"["), (499, b"]")], [0, 0, 0], ""),
+        ("1", &[(1, b"[\"\xff\"]")], [0, 0, 0], "BadTarget"),
+        ("1", file, [0, 1, 0], "InputFault"),
+        ("1", file, [0, 4, 0], "InputFault"),
+        ("1", file, [0, 0, 1], "OutputFault1."),
+        ("1", file, [0, 0, 2], "OutputFault1..2\n8."),
+    ];
+    for (pattern, input, failing, wanted) in rows {
+        let found = matched(rt.alloc(), "json", pattern, input, failing)?;
+        same(pattern, found.as_str(), wanted)?;
+    }
+    let zeros: &[(u32, &[u8])] = &[(1, b"[0"), (9_999, b",0"), (1, b"]")];
+    let found = matched(rt.alloc(), "json", "0", zeros, [0, 0, 0])?;
+    assert_eq!(rt; found.as_str().lines().count(), 10_000);
+    Ok(())
+}
