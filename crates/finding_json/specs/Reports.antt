@@ -10,10 +10,10 @@ use Rattle.node_tree.specs.declared.span.Span.{Span}
 use Rattle.meta_bind.specs.declared.bound.Bound.{Bound}
 use Rattle.rule_form.specs.declared.rule.Severity.{Severity}
 use Rattle.rule_form.specs.declared.rule.Severity.TheVariants.{Info, Warning, Error, Low, Medium, High, Critical}
-use Rattle.fix_apply.specs.Notice.{kind_word}
-use Rattle.fix_apply.specs.declared.notice.Notice.{Notice}
-use Rattle.fix_apply.specs.declared.report.Reported.{Reported}
-use Rattle.fix_apply.specs.declared.report.Report.{Report}
+use Rattle.report_form.specs.Notice.{kind_word}
+use Rattle.report_form.specs.declared.notice.Notice.{Notice}
+use Rattle.report_form.specs.declared.report.Reported.{Reported}
+use Rattle.report_form.specs.declared.report.Report.{Report}
 
 abbrev pub number_data : ℕ → Data
 number_data n = number (unsigned n)

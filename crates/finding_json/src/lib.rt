@@ -7,5 +7,5 @@
 mod parts;
 mod report;
 
-pub use fix_apply::{Notice, NoticeKind, Report, Reported};
 pub use report::report_text;
+pub use report_form::{Notice, NoticeKind, Report, Reported};

@@ -6,9 +6,9 @@ ghost use Rattle.serde_json.specs.Events.{SendsValue};
 ghost use Rattle.meta_bind.specs.Bounds.{seen};
 ghost use Rattle.finding_json.specs.Reports.{number_data, place_data, range_data, metavar_members, extra_data, extra_len as members_of_extra, result_data, notice_data, severity_word, SendsMember};
 
-use fix_apply::{Notice, Reported};
 use meta_bind::Bound;
 use node_tree::{Place, Span, Text};
+use report_form::{Notice, Reported};
 use rule_form::Severity;
 use serde::Serializer;
 

@@ -8,8 +8,8 @@ ghost use Rattle.serde_json.specs.Written.{compact_text};
 ghost use Rattle.finding_json.specs.Reports.{report_data, result_data, notice_data};
 
 use crate::parts::{send_notice, send_result};
-use fix_apply::{Notice, Report, Reported};
 use node_tree::{Bytes, Memory};
+use report_form::{Notice, Report, Reported};
 use serde::{Described, Serialize, Serializer};
 use std::alloc::Global;
 

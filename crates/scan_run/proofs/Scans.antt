@@ -6,8 +6,8 @@ use Rattle.std.specs.Io.KnownBytes.{Appends}
 use Rattle.std.proofs.lemmas.List.{append-nil}
 use Rattle.scan_world.specs.Files.{Files}
 use Rattle.scan_world.specs.Streams.{AppendsFront}
-use Rattle.fix_apply.specs.declared.report.Report.{Report}
-use Rattle.fix_apply.specs.declared.report.Reported.{Reported}
+use Rattle.report_form.specs.declared.report.Report.{Report}
+use Rattle.report_form.specs.declared.report.Reported.{Reported}
 use Rattle.languages.specs.declared.patterns.Languages.{Languages}
 use Rattle.languages.specs.Trees.{IsTree}
 use Rattle.scan_session.specs.declared.rule_file.RuleFile.{RuleFile}

@@ -1,8 +1,8 @@
 -- What `scan` does: how it ends, and the line that it prints.
 use Rattle.std.specs.Prelude.{◌≡◌, ℕ, ◌≤◌, Bool, true, List, [], ◌∷◌, ◌++◌, length, Option, Some, None}
 use Rattle.serde_json.specs.Written.{compact_text}
-use Rattle.fix_apply.specs.declared.report.Report.{Report}
-use Rattle.fix_apply.specs.declared.report.Reported.{Reported}
+use Rattle.report_form.specs.declared.report.Report.{Report}
+use Rattle.report_form.specs.declared.report.Reported.{Reported}
 use Rattle.finding_json.specs.Reports.{report_data}
 use Rattle.scan_world.specs.Files.{Files}
 use Rattle.languages.specs.Trees.{IsTree}

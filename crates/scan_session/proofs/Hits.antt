@@ -18,8 +18,8 @@ use Rattle.tree_match.specs.Ascending.{IsAscending}
 use Rattle.tree_match.proofs.Sets.{gathered, pushed}
 use Rattle.tree_match.proofs.Placed.{all_among}
 use Rattle.part_judge.specs.Findings.{findings_of, IsFindingPlaced}
-use Rattle.fix_apply.specs.declared.notice.Notice.{Notice}
-use Rattle.fix_apply.specs.declared.report.Reported.{Reported}
+use Rattle.report_form.specs.declared.notice.Notice.{Notice}
+use Rattle.report_form.specs.declared.report.Reported.{Reported}
 use Rattle.scan_session.specs.declared.looking.Judged.{Judged}
 use Rattle.scan_session.specs.Sets.{IsExactly}
 use Rattle.scan_session.specs.Reports.{reported, reported_cmp, bound_cmp}

@@ -1,9 +1,9 @@
 -- A scan of the same files by the same rule files, with the same limit, ends in one way.
 use Rattle.std.proofs.Common.{◌≡◌, ℕ, ◌≤◌, List, length, ap, ◌∙◌}
 use Rattle.file_open.specs.Reading.{Spells}
-use Rattle.fix_apply.specs.declared.notice.Notice.{Notice}
-use Rattle.fix_apply.specs.declared.report.Reported.{Reported}
-use Rattle.fix_apply.specs.declared.report.Report.{Report}
+use Rattle.report_form.specs.declared.notice.Notice.{Notice}
+use Rattle.report_form.specs.declared.report.Reported.{Reported}
+use Rattle.report_form.specs.declared.report.Report.{Report}
 use Rattle.scan_session.specs.declared.rule_file.RuleFile.{RuleFile}
 use Rattle.scan_session.specs.Sets.{HasMore}
 use Rattle.scan_session.specs.Notes.{notice_cmp}

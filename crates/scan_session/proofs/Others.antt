@@ -8,8 +8,8 @@ use Rattle.rule_entries.specs.declared.outcome.RuleFault.{RuleFault}
 use Rattle.rule_entries.specs.declared.outcome.RuleOutcome.{RuleOutcome}
 use Rattle.rule_entries.specs.declared.outcome.RuleOutcome.TheVariants.{Good, Bad}
 use Rattle.tree_match.specs.Sets.{Among}
-use Rattle.fix_apply.specs.declared.report.Report.{Report}
-use Rattle.fix_apply.specs.declared.report.Reported.{Reported}
+use Rattle.report_form.specs.declared.report.Report.{Report}
+use Rattle.report_form.specs.declared.report.Reported.{Reported}
 use Rattle.scan_session.specs.declared.rule_file.RuleFile.{RuleFile}
 use Rattle.scan_session.specs.RuleFiles.{outcomes_of}
 use Rattle.scan_session.specs.Sets.{IsExactly}

@@ -16,8 +16,8 @@ use Rattle.tree_match.specs.Ascending.{IsAscending}
 use Rattle.file_open.specs.declared.opened.Opened.{Opened}
 use Rattle.file_open.specs.Reading.{Spells}
 use Rattle.file_open.specs.Opening.{IsOpened, HasOnlyTree}
-use Rattle.fix_apply.specs.declared.notice.Notice.{Notice}
-use Rattle.fix_apply.specs.declared.report.Reported.{Reported}
+use Rattle.report_form.specs.declared.notice.Notice.{Notice}
+use Rattle.report_form.specs.declared.report.Reported.{Reported}
 use Rattle.scan_session.specs.declared.rule_file.RuleFile.{RuleFile}
 use Rattle.scan_session.specs.declared.scanner.Scanner.{Scanner}
 use Rattle.scan_session.specs.Sets.{IsExactly}

@@ -16,10 +16,10 @@ use Rattle.part_judge.specs.declared.outcome.Outcome.{Outcome}
 use Rattle.file_open.specs.Reading.{Spells}
 use Rattle.file_open.specs.Opening.{IsOpened}
 use Rattle.part_judge.specs.Findings.{findings_of}
-use Rattle.fix_apply.specs.declared.notice.Notice.{Notice}
-use Rattle.fix_apply.specs.declared.notice.NoticeKind.TheVariants as kinds
-use Rattle.fix_apply.specs.declared.report.Reported.{Reported}
-use Rattle.fix_apply.specs.declared.report.Report.{Report}
+use Rattle.report_form.specs.declared.notice.Notice.{Notice}
+use Rattle.report_form.specs.declared.notice.NoticeKind.TheVariants as kinds
+use Rattle.report_form.specs.declared.report.Reported.{Reported}
+use Rattle.report_form.specs.declared.report.Report.{Report}
 use Rattle.scan_session.specs.declared.rule_file.RuleFile.{RuleFile}
 use Rattle.scan_session.specs.Sets.{IsExactly}
 use Rattle.scan_session.specs.Notes.{notice, notice_cmp}

@@ -16,7 +16,7 @@ use Rattle.meta_bind.specs.Bounds.{name_cmp, binding_cmp}
 use Rattle.meta_bind.proofs.BindingOrder.{binding_order}
 use Rattle.meta_bind.proofs.Chains.{span_chains, binding_chains}
 use Rattle.sorted_sets.specs.Orders.{total_of}
-use Rattle.fix_apply.specs.declared.report.Reported.{Reported}
+use Rattle.report_form.specs.declared.report.Reported.{Reported}
 use Rattle.scan_session.specs.Reports.{bound_cmp, reported_cmp}
 use Rattle.scan_session.specs.Hits.{Hit, hit_cmp}
 use Rattle.scan_session.specs.NoteOrder.{name_total, name_same}

@@ -8,8 +8,8 @@ use Rattle.tree_match.specs.Sets.{Among}
 use Rattle.meta_bind.specs.declared.finding.Finding.{Finding}
 use Rattle.part_judge.specs.declared.outcome.Outcome.{Outcome}
 use Rattle.part_judge.specs.Findings.{findings_of, IsFindingPlaced}
-use Rattle.fix_apply.specs.declared.notice.Notice.{Notice}
-use Rattle.fix_apply.specs.declared.report.Reported.{Reported}
+use Rattle.report_form.specs.declared.notice.Notice.{Notice}
+use Rattle.report_form.specs.declared.report.Reported.{Reported}
 use Rattle.scan_session.specs.declared.looking.Judged.{Judged}
 use Rattle.scan_session.specs.Looking.{Allows, LooksAt, PartFindsIn, RuleFinds}
 use Rattle.scan_session.specs.Reports.{reported, outcome_notices}

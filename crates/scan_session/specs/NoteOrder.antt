@@ -8,10 +8,10 @@ use Rattle.std.specs.Cmp.{IsTotalOrder}
 use Rattle.std.proofs.lemmas.Cmp.{nat_list_cmp_total, on_total, then_total}
 use Rattle.node_tree.proofs.Orders.{nat_order, lists_order, then_first, then_second}
 use Rattle.meta_bind.specs.Bounds.{name_cmp}
-use Rattle.fix_apply.specs.declared.notice.Notice.{Notice}
-use Rattle.fix_apply.specs.declared.notice.NoticeKind.{NoticeKind}
-use Rattle.fix_apply.specs.declared.notice.NoticeKind.TheVariants.{NotUtf8, TooLarge, NoTree, Crowded, FlowTooLarge, MissingKey, UnknownKey, WrongShape, BadPattern, BadComparison, OutsideProfile, DuplicateId, YamlProfile, YamlNoValue, NoRules, OptionUnread, Regex}
-use Rattle.fix_apply.specs.Notice.{kind_word}
+use Rattle.report_form.specs.declared.notice.Notice.{Notice}
+use Rattle.report_form.specs.declared.notice.NoticeKind.{NoticeKind}
+use Rattle.report_form.specs.declared.notice.NoticeKind.TheVariants.{NotUtf8, TooLarge, NoTree, Crowded, FlowTooLarge, MissingKey, UnknownKey, WrongShape, BadPattern, BadComparison, OutsideProfile, DuplicateId, YamlProfile, YamlNoValue, NoRules, OptionUnread, Regex}
+use Rattle.report_form.specs.Notice.{kind_word}
 use Rattle.scan_session.specs.Notes.{notice, notice_cmp}
 
 pub name_total : IsTotalOrder name_cmp

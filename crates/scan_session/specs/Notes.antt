@@ -7,10 +7,10 @@ use Rattle.yaml_lines.specs.declared.fault.Feature.TheVariants as features
 use Rattle.meta_bind.specs.Bounds.{name_cmp}
 use Rattle.rule_keys.specs.declared.fault.RuleFaultKind.{RuleFaultKind}
 use Rattle.rule_keys.specs.declared.fault.RuleFaultKind.TheVariants as faults
-use Rattle.fix_apply.specs.declared.notice.Notice.{Notice}
-use Rattle.fix_apply.specs.declared.notice.NoticeKind.{NoticeKind}
-use Rattle.fix_apply.specs.declared.notice.NoticeKind.TheVariants as kinds
-use Rattle.fix_apply.specs.Notice.{kind_word}
+use Rattle.report_form.specs.declared.notice.Notice.{Notice}
+use Rattle.report_form.specs.declared.notice.NoticeKind.{NoticeKind}
+use Rattle.report_form.specs.declared.notice.NoticeKind.TheVariants as kinds
+use Rattle.report_form.specs.Notice.{kind_word}
 
 abbrev pub notice : List ℕ → List ℕ → NoticeKind → List ℕ → Notice
 notice path rule_id kind detail = record { path = path; rule_id = rule_id; kind = kind; detail = detail }

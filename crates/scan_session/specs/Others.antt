@@ -5,8 +5,8 @@ use Rattle.file_open.specs.Reading.{Spells}
 use Rattle.rule_entries.specs.declared.outcome.RuleFault.{RuleFault}
 use Rattle.rule_entries.specs.declared.outcome.RuleOutcome.{RuleOutcome}
 use Rattle.rule_entries.specs.declared.outcome.RuleOutcome.TheVariants.{Bad}
-use Rattle.fix_apply.specs.declared.report.Report.{Report}
-use Rattle.fix_apply.specs.declared.report.Reported.{Reported}
+use Rattle.report_form.specs.declared.report.Report.{Report}
+use Rattle.report_form.specs.declared.report.Reported.{Reported}
 use Rattle.scan_session.specs.declared.rule_file.RuleContent.TheVariants.{Rules}
 use Rattle.scan_session.specs.declared.rule_file.RuleFile.{RuleFile}
 use Rattle.scan_session.specs.Fresh.{File, IsFresh}

@@ -12,9 +12,9 @@ use Rattle.meta_bind.specs.Fills.{filled}
 use Rattle.rule_form.specs.declared.rule.Rule.{Rule}
 use Rattle.part_judge.specs.declared.outcome.Outcome.{Outcome}
 use Rattle.part_judge.specs.declared.outcome.Outcome.TheVariants as outcomes
-use Rattle.fix_apply.specs.declared.notice.Notice.{Notice}
-use Rattle.fix_apply.specs.declared.notice.NoticeKind.TheVariants as kinds
-use Rattle.fix_apply.specs.declared.report.Reported.{Reported}
+use Rattle.report_form.specs.declared.notice.Notice.{Notice}
+use Rattle.report_form.specs.declared.notice.NoticeKind.TheVariants as kinds
+use Rattle.report_form.specs.declared.report.Reported.{Reported}
 use Rattle.scan_session.specs.Notes.{notice}
 
 -- by binding, then source; no source comes before any source, and sources go by their ranges

@@ -10,8 +10,8 @@ use Rattle.rule_form.specs.declared.rule.Body.TheVariants as bodies
 use Rattle.tree_match.specs.Sets.{Among}
 use Rattle.rule_entries.specs.declared.outcome.RuleOutcome.{RuleOutcome}
 use Rattle.rule_entries.specs.declared.outcome.RuleOutcome.TheVariants.{Good, Bad}
-use Rattle.fix_apply.specs.declared.notice.Notice.{Notice}
-use Rattle.fix_apply.specs.declared.notice.NoticeKind.TheVariants as kinds
+use Rattle.report_form.specs.declared.notice.Notice.{Notice}
+use Rattle.report_form.specs.declared.notice.NoticeKind.TheVariants as kinds
 use Rattle.scan_session.specs.declared.rule_file.RuleContent.{RuleContent}
 use Rattle.scan_session.specs.declared.rule_file.RuleContent.TheVariants as contents
 use Rattle.scan_session.specs.declared.rule_file.RuleFile.{RuleFile}

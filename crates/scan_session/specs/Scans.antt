@@ -4,8 +4,8 @@ use Rattle.tree_match.specs.Sets.{Adds}
 use Rattle.tree_match.specs.Ascending.{IsAscending}
 use Rattle.rule_form.specs.declared.rule.Rule.{Rule}
 use Rattle.file_open.specs.Reading.{Spells}
-use Rattle.fix_apply.specs.declared.notice.Notice.{Notice}
-use Rattle.fix_apply.specs.declared.report.Reported.{Reported}
+use Rattle.report_form.specs.declared.notice.Notice.{Notice}
+use Rattle.report_form.specs.declared.report.Reported.{Reported}
 use Rattle.scan_session.specs.declared.rule_file.RuleFile.{RuleFile}
 use Rattle.scan_session.specs.declared.scanner.Scanner.{Scanner}
 use Rattle.scan_session.specs.Sets.{IsExactly, HasMore}

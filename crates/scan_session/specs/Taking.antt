@@ -5,7 +5,7 @@ use Rattle.std.specs.Ordering.{nat_cmp}
 use Rattle.std.specs.Cmp.Lexicographic.{slice_cmp}
 use Rattle.std.specs.BTreeSet.{BTreeSet, contains}
 use Rattle.rule_form.specs.declared.rule.Rule.{Rule}
-use Rattle.fix_apply.specs.declared.notice.Notice.{Notice}
+use Rattle.report_form.specs.declared.notice.Notice.{Notice}
 use Rattle.scan_session.specs.declared.running.Entry.{Entry}
 use Rattle.scan_session.specs.Running.{Stated, is_taken, is_out, first_notices, repeat_notice}
 

@@ -3,11 +3,11 @@
 ghost use Rattle.std.specs.Prelude.{◌≡◌, ◌↔◌, [], ◌∷◌, ◌++◌, List as list, IfOk, OnOk};
 ghost use Rattle.tree_match.specs.Sets.{Among};
 ghost use Rattle.tree_match.specs.Ascending.{IsAscending};
-ghost use Rattle.fix_apply.specs.declared.notice.Notice.{Notice as a_notice};
+ghost use Rattle.report_form.specs.declared.notice.Notice.{Notice as a_notice};
 ghost use Rattle.scan_session.specs.Notes.{notice as a_note, notice_cmp};
 
-use fix_apply::{Notice, NoticeKind};
 use node_tree::{List, Memory, Text};
+use report_form::{Notice, NoticeKind};
 use sorted_sets::{Ordered, settled};
 use std::alloc::Global;
 use std::cmp::Ordering;
@@ -20,8 +20,8 @@ pub struct Noted {
 }
 
 impl Model for Noted {
-    ghost use Rattle.fix_apply.specs.declared.notice.Notice.{Notice as notice_value};
-    ghost use Rattle.fix_apply.specs.contracts.notice.Notice as notices;
+    ghost use Rattle.report_form.specs.declared.notice.Notice.{Notice as notice_value};
+    ghost use Rattle.report_form.specs.contracts.notice.Notice as notices;
 
     ghost Value = { notice_value };
 

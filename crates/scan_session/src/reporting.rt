@@ -15,10 +15,10 @@ use crate::looking::Judged;
 use crate::note::{Noted, add_notice};
 use crate::row::Row;
 use crate::runner::{Runner, rule_at};
-use fix_apply::{NoticeKind, Reported};
 use meta_bind::{Binding, Finding, fill};
 use node_tree::{FileView, List, Memory, Places, Text, Twin};
 use part_judge::FoundNotice;
+use report_form::{NoticeKind, Reported};
 use rule_form::Rule;
 use std::alloc::Global;
 

@@ -1,7 +1,7 @@
 //! Scans of files that come one after the other.
 
 ghost use Rattle.std.specs.Prelude.{◌≡◌, ◌≤◌, ◌++◌, ◌∷◌, ◌<◌, ◌↔◌, [], ℕ, length, Err, IsTrue, IfOk, OnOk};
-ghost use Rattle.fix_apply.specs.declared.report.Report.{Report as a_report};
+ghost use Rattle.report_form.specs.declared.report.Report.{Report as a_report};
 ghost use Rattle.scan_session.specs.declared.fault.ScanFault.TheVariants.{TooMany};
 ghost use Rattle.scan_session.specs.Sets.{HasMore};
 ghost use Rattle.scan_session.specs.Reports.{reported_cmp};
@@ -18,8 +18,8 @@ use crate::runner::Runner;
 use crate::running::take_files;
 use crate::scanning::scan_file;
 use code_reader::TreeReader;
-use fix_apply::{Report, Reported};
 use node_tree::{Bytes, List, Memory, Steps};
+use report_form::{Report, Reported};
 use rx_text::Patterns;
 use std::alloc::Global;
 use std::sync::ledger::Ledger;

@@ -5,7 +5,7 @@ use Rattle.meta_bind.specs.declared.finding.Finding.{Finding}
 use Rattle.meta_bind.proofs.Lookups.{opened}
 use Rattle.part_judge.specs.Findings.{IsFindingPlaced}
 use Rattle.tree_match.proofs.Ascents.{among_at}
-use Rattle.fix_apply.specs.declared.report.Reported.{Reported}
+use Rattle.report_form.specs.declared.report.Reported.{Reported}
 use Rattle.scan_session.specs.Reports.{reported}
 use Rattle.scan_session.proofs.Hits.{reports_start, reports_on, reports_end}
 use Rattle.scan_session.proofs.reporting.placed_rows.Goals as goal

@@ -1,5 +1,5 @@
 use Rattle.std.proofs.Common.{◌++◌, List, ap, ◌∙◌, reverse}
-use Rattle.fix_apply.specs.declared.report.Reported.{Reported}
+use Rattle.report_form.specs.declared.report.Reported.{Reported}
 use Rattle.std.proofs.lemmas.List.{reverse-reverse}
 use Rattle.scan_session.proofs.scanner.append.Goals as goal
 

@@ -1,5 +1,5 @@
 use Rattle.std.proofs.Common.{◌++◌, List, inl, refl, ap, ◌∙◌}
-use Rattle.fix_apply.specs.declared.notice.Notice.{Notice}
+use Rattle.report_form.specs.declared.notice.Notice.{Notice}
 use Rattle.scan_session.specs.Refused.{gained}
 use Rattle.scan_session.specs.Running.{stated, texts_of, running, rule_notices}
 use Rattle.scan_session.proofs.Asking.{gains, gained_of}

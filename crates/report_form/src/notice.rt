@@ -1,7 +1,7 @@
 //! What a scan could not do.
 
 ghost use Rattle.std.specs.Prelude.{◌≡◌};
-ghost use Rattle.fix_apply.specs.Notice.{kind_word};
+ghost use Rattle.report_form.specs.Notice.{kind_word};
 
 use node_tree::Text;
 

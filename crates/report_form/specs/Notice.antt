@@ -1,7 +1,7 @@
 -- Kinds of notices.
 use Rattle.std.specs.Prelude.{ℕ, List, codes}
-use Rattle.fix_apply.specs.declared.notice.NoticeKind.{NoticeKind}
-use Rattle.fix_apply.specs.declared.notice.NoticeKind.TheVariants.{NotUtf8, TooLarge, NoTree, Crowded, FlowTooLarge, MissingKey, UnknownKey, WrongShape, BadPattern, BadComparison, OutsideProfile, DuplicateId, YamlProfile, YamlNoValue, NoRules, OptionUnread, Regex}
+use Rattle.report_form.specs.declared.notice.NoticeKind.{NoticeKind}
+use Rattle.report_form.specs.declared.notice.NoticeKind.TheVariants.{NotUtf8, TooLarge, NoTree, Crowded, FlowTooLarge, MissingKey, UnknownKey, WrongShape, BadPattern, BadComparison, OutsideProfile, DuplicateId, YamlProfile, YamlNoValue, NoRules, OptionUnread, Regex}
 
 -- the word of a kind is its name
 abbrev pub kind_word : NoticeKind → List ℕ
