@@ -15,6 +15,11 @@ def lost():
         work()
     except ValueError:
         pass
+    try:  # not found: python-every-error-caught
+        work()
+    except:
+        undo()
+        raise
     try:  # found: python-error-lost, python-every-error-caught
         work()
     except:

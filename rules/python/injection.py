@@ -37,6 +37,9 @@ def queries(cursor, server, tree, name):
     cursor.execute("SELECT * FROM users WHERE name = '%s'" % name)  # found: python-sql-built-from-text
     cursor.execute("SELECT * FROM users WHERE name = '" + name + "'")  # found: python-sql-built-from-text
     cursor.execute(f"SELECT * FROM users WHERE name = '{name}'")  # found: python-sql-built-from-text
+    cursor.execute(f"""SELECT * FROM users -- found: python-sql-built-from-text
+        WHERE name = '{name}'""")
+    cursor.execute(f"SELECT * FROM users")  # not found: python-sql-built-from-text
     cursor.execute("SELECT * FROM {}".format(name), ())  # found: python-sql-built-from-text
     sqlalchemy.text("DELETE FROM users WHERE id = %d" % name)  # found: python-sql-built-from-text
     cursor.execute("SELECT * FROM users WHERE name = ?", (name,))  # not found: python-sql-built-from-text
