@@ -35,7 +35,7 @@ class Outcome:
 
 def read_text(path: str) -> str:
     try:
-        with open(path, encoding='utf-8') as file:
+        with open(path, encoding='utf-8', newline='') as file:
             return file.read()
     except (OSError, UnicodeDecodeError) as error:
         raise Refusal("%s can't be read: %s" % (path, error)) from None

@@ -106,13 +106,15 @@ def entries_under(prefix: str) -> list[Entry]:
 
 def read_front(path: str, most: int) -> Optional[bytes]:
     """The first bytes of a file, if a regular file is still there."""
+    found = status_at(path)
+    if found is None or not stat.S_ISREG(found.st_mode):
+        return None
     try:
-        number = os.open(path, os.O_RDONLY | os.O_NOFOLLOW | os.O_NONBLOCK | os.O_CLOEXEC)
-        with open(number, 'rb') as file:
-            return file.read(most) if stat.S_ISREG(os.fstat(number).st_mode) else None
+        with open(os.open(path, os.O_RDONLY | os.O_NOFOLLOW | os.O_NONBLOCK | os.O_CLOEXEC), 'rb') as file:
+            return file.read(most)
+    except FileNotFoundError:
+        return None
     except OSError as error:
-        if status_at(path) is None or stat.S_ISLNK(status_at(path).st_mode):
-            return None
         raise failed(path, error) from None
 
 

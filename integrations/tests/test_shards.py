@@ -139,6 +139,9 @@ class Parts(Tree):
         self.ends(run('semscan-shards', '--max', '2', '--files', '9', '--config', 'rules.yaml', 'src', cwd=self.folder), 9, b'more than 2')
         self.ends(run('semscan-shards', '--config', 'none.yaml', 'src', cwd=self.folder), 10, b'no config')
         self.ends(run('semscan-shards', '--config', 'rules.yaml', './src', cwd=self.folder), 2, b'write src instead of ./src')
+        self.ends(run('semscan-shards', '--config', 'src', 'src', cwd=self.folder), 10, b'no config')
+        os.symlink('rules.yaml', os.path.join(self.folder, 'linked.yaml'))
+        self.ends(run('semscan-shards', '--config', 'linked.yaml', 'src', cwd=self.folder), 10, b'no config')
         self.put('long.yaml', RULES + '#' * 262_144)
         self.ends(run('semscan-shards', '--config', 'long.yaml', 'src', cwd=self.folder), 8, b'over limit 26')
 
