@@ -20,7 +20,7 @@ def weaknesses(message: str) -> list[str]:
 
 
 def artifact(path: str) -> dict:
-    return {'uri': quote(path, safe='/'), 'uriBaseId': 'SRCROOT'}
+    return {'uri': quote(path, safe='/'), 'uriBaseId': '%SRCROOT%'}
 
 
 def region(source: SourceFile, start: int, end: int) -> dict:
@@ -101,6 +101,6 @@ def sarif_of(report: Report, sources: dict[str, SourceFile]) -> dict:
     driver = {'name': 'semscan', 'rules': [rule(name, findings[name]) for name in names]}
     run = {
         'tool': {'driver': driver}, 'columnKind': 'unicodeCodePoints', 'invocations': [invocation(report.notices)],
-        'originalUriBaseIds': {'SRCROOT': {'description': {'text': 'The folder that the scan was run in'}}},
+        'originalUriBaseIds': {'%SRCROOT%': {'description': {'text': 'The folder that the scan was run in'}}},
         'results': [result(sources[finding.path], finding, names) for finding in report.findings]}
     return {'$schema': SCHEMA, 'version': '2.1.0', 'runs': [run]}

@@ -73,12 +73,16 @@ class SourceFile:
             if offset > len(self.content):
                 raise Changed('it has fewer than %d bytes' % offset)
             self.column(offset)
+            self.line_text(self.line_at(offset))
 
 
 def read_source(folder: str, path: str) -> SourceFile:
     """The file at a path of a report."""
+    place = os.path.join(folder, path)
+    if os.path.exists(place) and not os.path.isfile(place):
+        raise Changed('it is no file')
     try:
-        with open(os.path.join(folder, path), 'rb') as file:
+        with open(place, 'rb') as file:
             return SourceFile(file.read())
     except OSError as error:
         raise Changed("it can't be read (%s)" % (error.strerror or error)) from None

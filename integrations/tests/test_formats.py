@@ -80,7 +80,7 @@ class Formats(InFolder):
     def test_sarif_says_what_the_report_says(self):
         first, second, third = self.written('--sarif')['runs'][0]['results']
         physical = first['locations'][0]['physicalLocation']
-        self.assertEqual(physical['artifactLocation'], {'uri': 'some%20folder/%C3%A4.py', 'uriBaseId': 'SRCROOT'})
+        self.assertEqual(physical['artifactLocation'], {'uri': 'some%20folder/%C3%A4.py', 'uriBaseId': '%SRCROOT%'})
         self.assertEqual(physical['region'], {'startLine': 1, 'startColumn': 1, 'endLine': 1, 'endColumn': 4, 'byteOffset': 3, 'byteLength': 3})
         region = second['locations'][0]['physicalLocation']['region']
         self.assertEqual((region['startColumn'], region['endColumn']), (9, 13))

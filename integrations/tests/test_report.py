@@ -217,7 +217,10 @@ class BadInput(InFolder):
 
     def test_file_that_is_not_there(self):
         self.ends(run('semscan-report', 'none', cwd=self.folder), 2, b"none can't be read: No such file")
-        self.refuses(line([result(PYTHON, b'eval')]), b"a.py is not the file that was scanned: it can't be read (No such file or directory)")
+        given = line([result(PYTHON, b'eval')])
+        self.refuses(given, b"a.py is not the file that was scanned: it can't be read (No such file or directory)")
+        os.mkfifo(os.path.join(self.folder, 'a.py'))
+        self.refuses(given, b'a.py is not the file that was scanned: it is no file')
 
     def test_folder_that_changed(self):
         given = line([result(PYTHON, b'eval(terms)')])
@@ -225,6 +228,9 @@ class BadInput(InFolder):
         for content, said in ((PYTHON[:20], b'fewer than'), (b'\n' + PYTHON, moved), (b'\xe9' * 99, moved), (b'#' * 99, moved)):
             self.put('a.py', content)
             self.refuses(given, said)
+        self.put('a.py', b'f(1)\ng(\xff)\n')
+        self.refuses(line([result(b'f(1)\ng(2)\n', b'f(1)', source=[5, 6])]), b'no text from byte')
+        self.refuses(line([result(b'f(1)\ng(2)\n', b'f(1)', trace=[[5, 'Head']])]), b'no text from byte')
         content = '\u00e9f(1)'.encode()
         self.put('a.py', content)
         self.refuses(line([result(b'xxf(1)', b'xf(1)')]), b'no text from byte')
