@@ -62,12 +62,15 @@ def joined_rules(paths: Iterable[str]) -> str:
     return '\n'.join(pieces)
 
 
-def rule_files(path: str) -> list[str]:
-    """The rule files at a path: itself, or the .yaml files below a folder that have examples beside them."""
-    if not os.path.isdir(path):
-        return [path]
-    files = sorted(glob.glob(os.path.join(glob.escape(path), '**', '*.yaml'), recursive=True))
-    return [file for file in files if examples_of(file)]
+def rule_files(paths: list[str]) -> list[str]:
+    """The rule files at these paths: each itself, or the .yaml files below a folder."""
+    files = []
+    for path in paths:
+        below = sorted(glob.glob(os.path.join(glob.escape(path), '**', '*.yaml'), recursive=True))
+        files += below if os.path.isdir(path) else [path]
+    if not files:
+        raise Refusal('there are no rule files at %s' % ' '.join(paths))
+    return files
 
 
 def examples_of(rule_file: str) -> list[str]:

@@ -32,11 +32,12 @@ class Rules(InFolder):
         self.assertIn('in %d files' % len(FILES), said)
         self.assertIn(', 0 differences\n', said)
         for waiting in re.findall('(.*) follows data', said):
-            self.assertRegex(waiting, '^python-request-to-')
+            self.assertRegex(waiting, '^python-request-to-')  # rules/flow
 
     @needs_program
     def test_all_rules_load_together_without_a_notice(self):
-        joined = run('semscan-rules', 'join', *(file for file in FILES if not file.endswith('flow.yaml')), cwd=self.folder)
+        joined = run('semscan-rules', 'join', *('rules/' + name for name in ('python', 'c', 'json', 'texts')), cwd=TOP)
+        self.assertEqual((joined.returncode, joined.stderr), (0, b''))
         self.put('rules.yaml', joined.stdout)
         self.put('src/a.py', b'f(1)\n')
         found = run('semscan-report', 'scan', '--config', 'rules.yaml', 'src', cwd=self.folder)
@@ -85,3 +86,5 @@ class Program(InFolder):
         self.put('a.yaml', 'rule: 1\n')
         self.ends(run('semscan-rules', 'join', 'a.yaml', cwd=self.folder), 2, b"doesn't begin with the line rules:")
         self.ends(run('semscan-rules', 'test', '.', cwd=self.folder, SEMSCAN='/nowhere'), 127, b'no built program')
+        os.mkdir(os.path.join(self.folder, 'empty'))
+        self.ends(run('semscan-rules', 'join', 'empty', cwd=self.folder), 2, b'there are no rule files')
