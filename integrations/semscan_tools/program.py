@@ -1,0 +1,70 @@
+"""Runs the built program, and says what its statuses mean (docs/SCANS.md)."""
+import os
+import shutil
+import subprocess
+from typing import Mapping, Optional
+
+from .path_words import fault_of_path
+from .refusal import Refusal
+
+BUILT = os.path.join(os.path.dirname(os.path.dirname(os.path.dirname(os.path.abspath(__file__)))), 'crates', 'semscan', 'out', 'semscan')
+NO_PROGRAM = 127
+MEANING = {
+    2: 'the words are none of the program\'s: semscan scan [--error] [--max N] --config PATH PREFIX',
+    3: 'memory ran out; scan fewer files at once',
+    5: 'the report could not be written',
+    6: 'a file or folder could not be read; look at its permissions',
+    8: 'there is more than one run takes; use semscan-shards for many files, and split a rule file of over 262,144 bytes or 1,000 rules',
+    9: 'there are more findings than asked for with --max (50,000 where nothing is said)',
+    10: 'the rule file is not there',
+}
+
+
+def find_program(environment: Mapping[str, str]) -> Optional[str]:
+    """The built program: what SEMSCAN names, else the one of this repository, else the one on PATH."""
+    if environment.get('SEMSCAN'):
+        return os.path.abspath(environment['SEMSCAN'])
+    return BUILT if os.access(BUILT, os.X_OK) else shutil.which('semscan')
+
+
+def needed_program(environment: Mapping[str, str]) -> str:
+    program = find_program(environment)
+    if program is None or not os.access(program, os.X_OK):
+        raise Refusal('there is no built program at %s; build it with ./semscan, or say with SEMSCAN where it is' % (program or BUILT), NO_PROGRAM)
+    return program
+
+
+def check_words(words: list[str], folder: str) -> None:
+    """Says in one line how a path among the words of a scan must be written, where it is written otherwise."""
+    faults, before = [], ''
+    for word in words:
+        if before == '--config':
+            faults.append(fault_of_path(word, folder, False))
+        elif before != '--max' and not word.startswith('--'):
+            faults.append(fault_of_path(word, folder, True))
+        before = word if before not in ('--config', '--max') else ''
+    faults = [fault for fault in faults if fault]
+    if faults:
+        raise Refusal(faults[0])
+
+
+def run_scan(program: str, words: list[str], folder: str) -> subprocess.CompletedProcess:
+    """A scan in a folder by these words, which come after `scan`."""
+    try:
+        return subprocess.run([program, 'scan', *words], cwd=folder, stdin=subprocess.DEVNULL, capture_output=True, check=False)
+    except (OSError, ValueError) as error:
+        raise Refusal("%s can't be run: %s" % (program, error), NO_PROGRAM) from None
+
+
+def fault_of_run(run: subprocess.CompletedProcess) -> Optional[str]:
+    """What is wrong with a run that printed no report, in the program's words and in ours; None where there is a report."""
+    if run.returncode in (0, 1):
+        return None
+    said = run.stderr.decode('utf-8', 'replace').strip() or 'semscan: nothing was said'
+    meaning = MEANING.get(run.returncode, 'the program ended with status %d' % run.returncode)
+    return '%s: %s' % (said.removeprefix('semscan: '), meaning)
+
+
+def status_of_run(run: subprocess.CompletedProcess) -> int:
+    """The status to end with: the program's own, or as shells say it of a program that a signal ended."""
+    return run.returncode if run.returncode >= 0 else 128 - run.returncode

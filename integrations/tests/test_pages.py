@@ -1,0 +1,89 @@
+"""docs/INTEGRATIONS.md and docs/FROM_SEMGREP.md say what is so."""
+import json
+import os
+import re
+
+from .support import INTEGRATIONS, TOP, InFolder, needs_program, run, scan
+
+HEAD = 'rules:\n- id: r\n  languages: [%s]\n  severity: %s\n  message: m\n'
+ROWS = [  # the language, the severity, what else a rule says, and the kind and key of its notice, if it has one
+    ('python', 'INFO', 'pattern: f($X)\n  metadata:\n    cwe: x\n  fix-regex: x\n  min-version: 1\n', None),
+    ('python', 'INFO', 'pattern: f($X)\n  options:\n    symmetric_eq: true\n', ('OptionUnread', 'symmetric_eq')),
+    ('generic', 'INFO', 'pattern: f($X)\n', ('OutsideProfile', 'rules.0.languages.0')),
+    ('python, javascript', 'INFO', 'pattern: f($X)\n', ('OutsideProfile', 'rules.0.languages.1')),
+    ('python', 'info', 'pattern: f($X)\n', ('WrongShape', 'rules.0.severity')),
+    ('python', 'INFO', 'match:\n    all: f($X)\n', ('MissingKey', 'rules.0')),
+    ('python', 'INFO', 'pattern: "($X: int)"\n', ('BadPattern', 'rules.0.pattern')),
+    ('c', 'INFO', 'pattern: f((char *$X))\n', ('BadPattern', 'rules.0.pattern')),
+    ('regex', 'INFO', 'pattern-regex: a(?!b)\n', ('Regex', 'a(?!b)')),
+    ('python', 'INFO', 'mode: join\n', ('OutsideProfile', 'rules.0.mode')),
+    ('python', 'INFO', 'patterns:\n  - pattern: f($X)\n  - metavariable-analysis:\n      metavariable: $X\n',
+     ('UnknownKey', 'rules.0.patterns.1.metavariable-analysis')),
+    ('python', 'INFO', 'patterns:\n  - pattern: f($X)\n  - metavariable-comparison:\n      comparison: re.match("a", $X)\n',
+     ('BadComparison', 'rules.0.patterns.1.metavariable-comparison.comparison')),
+]
+MATCHES = [  # the pattern, the code, and the lines that are found
+    ('f(a=1, b=2)', 'f(a=1, b=2)\nf(b=2, a=1)\n', [1]),
+    ('f(a)', 'f(a)\nf(a, b)\n', [1]),
+    ('$X == None', 'x == None\nNone == x\n', [1]),
+    ('os.system(...)', 'from os import system\nsystem(x)\nos.system(x)\n', [3]),
+    ('f("=~/x/")', 'f("x")\nf("=~/x/")\n', [2]),
+    ('|\n    a()\n    ...\n    b()', 'a()\nif x:\n    b()\nb()\na()\nif x:\n    b()\n', [1]),
+    ('|\n    a()\n    b()', 'x = a()\nb()\na()\nb()\n', [3]),
+    ('def $F(...): ...', '@d\nasync def f(a) -> int: pass\n', [1]),
+    ('def $F(): ...', 'def f(a): pass\n', []),
+]
+
+
+def page(name):
+    with open(os.path.join(TOP, 'docs', name), encoding='utf-8') as file:
+        return file.read()
+
+
+class Integrations(InFolder):
+    """docs/INTEGRATIONS.md."""
+
+    @needs_program
+    def test_pictures(self):
+        blocks = re.findall('```\n(.*?)```', page('INTEGRATIONS.md'), re.DOTALL)
+        found = run('semscan-report', 'scan', '--config', 'examples/rules.yaml', 'examples/shop', cwd=TOP)
+        pictures = [block for block in blocks if block.startswith(('examples/', '17 '))]
+        self.assertEqual(len(pictures), 2)
+        for picture in pictures:
+            self.assertIn(picture, found.stdout.decode())
+        command, said = next(block for block in blocks if block.startswith('$ ')).splitlines()
+        self.assertEqual(run('semscan-report', *command.split()[2:], cwd=TOP).stderr.decode(), said + '\n')
+
+    def test_all_that_is_there_is_told(self):
+        text = page('INTEGRATIONS.md')
+        for name in os.listdir(os.path.join(INTEGRATIONS, 'build-servers')) + ['semscan-report', 'semscan-shards', 'semscan-rules']:
+            self.assertIn(name, text)
+
+
+class FromSemgrep(InFolder):
+    """docs/FROM_SEMGREP.md."""
+
+    @needs_program
+    def test_keys(self):
+        for language, severity, body, expected in ROWS:
+            self.put('r.yaml', HEAD % (language, severity) + '  ' + body)
+            report = json.loads(scan(self.folder, '--config', 'r.yaml', 'none').stdout)
+            self.assertEqual([(notice['kind'], notice['detail']) for notice in report['notices']], [expected] if expected else [], body)
+
+    @needs_program
+    def test_patterns(self):
+        for pattern, code, lines in MATCHES:
+            self.put('r.yaml', HEAD % ('python', 'INFO') + '  pattern: %s\n' % (pattern if pattern.startswith('|') else json.dumps(pattern)))
+            self.put('src/a.py', code)
+            report = json.loads(scan(self.folder, '--config', 'r.yaml', 'src').stdout)
+            self.assertEqual((report['notices'], [found['start']['line'] for found in report['results']]), ([], lines), pattern)
+
+    @needs_program
+    def test_files(self):
+        self.put('r.rules', HEAD % ('regex', 'INFO') + '  pattern-regex: (?m)^b\n')
+        for path in ('src/a.sh', 'src/.b/a.sh', 'src/a.rb', '.github/a.yml'):
+            self.put(path, 'a\nb\n')
+        os.symlink('src', os.path.join(self.folder, 'link'))
+        for prefix, count in (('.', 1), ('.github', 0), ('link', 0), ('src/a.sh', 1)):
+            report = json.loads(scan(self.folder, '--config', 'r.rules', prefix).stdout)
+            self.assertEqual(len(report['results']), count, prefix)

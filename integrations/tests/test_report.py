@@ -1,0 +1,281 @@
+"""semscan-report: the text for people, colours, words and bad input."""
+import os
+import pty
+import subprocess
+import sys
+
+from .support import INTEGRATIONS, InFolder, line, needs_program, notice, put, result, run
+
+PYTHON = b'def show(terms):\n    return eval(terms)\n'
+WIDE = 'x = "\u6f22\u5b57"; \tf(1)\n'.encode()
+MARKED = '\ufefff(1)\nf(\u00e9)\n'.encode()
+LINES = b'try:\n    a()\n    b()\n    c()\n    d()\n\n    e()\nexcept E:\n    pass\nlast()\n'
+FLOW = b'def f(q):\n    s = read()\n    t = s\n    run(t)\n'
+
+RULES = """\
+rules:
+- id: no-eval
+  languages: [python]
+  severity: ERROR
+  message: eval runs $X.
+  pattern: eval($X)
+  fix: parse($X)
+"""
+
+SHOWN = """\
+a.py (1 finding)
+
+a.py:2:12: error: eval runs terms. [no-eval]
+     2 |     return eval(terms)
+       |            ^^^^^^^^^^^
+  fix:
+     2 -     return eval(terms)
+     2 +     return parse(terms)
+
+Notices: what the scan could not do
+
+b.py: NoTree: it can't be read in its language; only regular expressions looked at it
+r.yaml: old: BadPattern: a pattern can't be read in the rule's language, so the rule didn't run (rules.1.pattern)
+
+1 finding in 1 file (1 ERROR), 2 notices (1 NoTree, 1 BadPattern)
+"""
+
+FLOWS = """\
+a.py:4:5: high: m [r]
+     4 |     run(t)
+       |     ^^^^^^
+  data flows:
+     1 | a.py:2:5: runs: s = read()
+     2 | a.py:2:9: source: s = read()
+     3 | a.py:3:5: runs: t = s
+     4 | a.py:4:5: runs: run(t)
+     5 | a.py:4:5: sink: run(t)
+"""
+
+LONG = """\
+a.py:1:1: error: m [r]
+     1 | try:
+       | ^^^^
+     2 |     a()
+       |     ^^^
+     3 |     b()
+       |     ^^^
+     4 |     c()
+       |     ^^^
+   ... | 4 more lines
+     9 |     pass
+       |     ^^^^
+"""
+
+
+class Texts(InFolder):
+    """What is printed for people."""
+
+    def shows(self, content, results, expected, notices=()):
+        self.put('a.py', content)
+        found = run('semscan-report', cwd=self.folder, stdin=line(results, notices))
+        self.assertEqual((found.returncode, found.stderr), (0, b''))
+        self.assertIn(expected, found.stdout.decode())
+        return found.stdout.decode()
+
+    def test_finding_fix_and_notices(self):
+        finding = result(PYTHON, b'eval(terms)', rule='no-eval', message='eval runs terms.', fix='parse(terms)')
+        notices = [notice('NoTree', 'b.py'), notice('BadPattern', 'r.yaml', 'old', 'rules.1.pattern')]
+        self.assertEqual(self.shows(PYTHON, [finding], '', notices), SHOWN)
+
+    def test_nothing_found(self):
+        self.assertEqual(self.shows(b'', [], ''), '0 findings, 0 notices\n')
+
+    def test_wide_characters_and_tabs(self):
+        self.shows(WIDE, [result(WIDE, b'f(1)')],
+                   'a.py:1:12: error: m [r]\n     1 | x = "\u6f22\u5b57";     f(1)\n       |                 ^^^^\n')
+
+    def test_byte_order_mark_and_accents(self):
+        findings = [result(MARKED, b'f(1)'), result(MARKED, '\u00e9'.encode())]
+        text = self.shows(MARKED, findings, 'a.py:1:1: error: m [r]\n     1 | f(1)\n       | ^^^^\n')
+        self.assertIn('a.py:2:3: error: m [r]\n     2 | f(\u00e9)\n       |   ^\n', text)
+
+    def test_many_lines(self):
+        self.shows(LINES, [result(LINES, LINES[:-8])], LONG)
+
+    def test_range_that_ends_with_a_line(self):
+        text = self.shows(b'a\nb\n', [result(b'a\nb\n', b'a\n')], '     1 | a\n       | ^\n')
+        self.assertNotIn('     2 |', text)
+
+    def test_line_ends_of_windows(self):
+        self.shows(b'f(1)\r\n', [result(b'f(1)\r\n', b'f(1)', fix='g(1)')],
+                   '     1 | f(1)\n       | ^^^^\n  fix:\n     1 - f(1)\n     1 + g(1)\n')
+
+    def test_long_line(self):
+        content = b'a' * 5_000 + b'f(1)' + b'b' * 5_000
+        text = self.shows(content, [result(content, b'f(1)')], '...f(1)'[3:])
+        code, carets = text.split('\n')[3:5]
+        self.assertLess(len(code), 200)
+        self.assertEqual(code[carets.index('^'):carets.rindex('^') + 1], 'f(1)')
+
+    def test_text_cannot_steer_the_terminal(self):
+        content = 'f("\x1b[2J\u202e")\n'.encode()
+        text = self.shows(content, [result(content, content[:-1], message='\x1b]0;x\x07')], 'f("<U+001B>[2J<U+202E>")')
+        self.assertFalse(set(text) & {'\x1b', '\x07', '\u202e'})
+
+    def test_fix_of_several_lines(self):
+        content = b'a\nb\nc\nd\n'
+        self.shows(content, [result(content, b'b\nc', fix='b\nx\ny')], '  fix:\n     3 - c\n     3 + x\n     4 + y\n')
+
+    def test_steps_of_taint(self):
+        source = [FLOW.index(b'read()'), FLOW.index(b'read()') + 6]
+        trace = [[FLOW.index(words), 'Head'] for words in (b's =', b't =', b'run')]
+        finding = result(FLOW, b'run(t)', severity='HIGH', source=source, trace=trace)
+        self.shows(FLOW, [finding], FLOWS)
+        without = '  data flows:\n     1 | a.py:2:9: source: s = read()\n     2 | a.py:4:5: sink: run(t)\n'
+        self.shows(FLOW, [result(FLOW, b'run(t)', source=source)], without)
+
+    def test_counts_by_kind(self):
+        findings = [result(b'f f', b'f', severity='INFO'), result(b'f f', b'f', at=1, severity='CRITICAL')]
+        self.shows(b'f f', findings, '2 findings in 1 file (1 CRITICAL, 1 INFO), 1 notice (1 Later)\n', [notice('Later')])
+
+
+class Words(InFolder):
+    """Options, statuses and colours."""
+
+    def test_statuses(self):
+        self.put('a.py', PYTHON)
+        self.put('report', line([result(PYTHON, b'eval')]))
+        self.put('noted', line([], [notice('NoTree', 'a.py')]))
+        for words, status in ((['report'], 0), (['--error', 'report'], 1), (['--error', 'noted'], 0), (['--strict', 'noted'], 1)):
+            self.assertEqual(run('semscan-report', *words, cwd=self.folder).returncode, status, words)
+
+    def test_other_folder(self):
+        self.put('tree/a.py', PYTHON)
+        self.put('report', line([result(PYTHON, b'eval')]))
+        self.assertEqual(run('semscan-report', '--folder', 'tree', 'report', cwd=self.folder).returncode, 0)
+        self.ends(run('semscan-report', '--folder', 'none', 'report', cwd=self.folder), 2, b'none is no folder')
+
+    def test_help_and_bad_words(self):
+        found = run('semscan-report', '--help', cwd=self.folder)
+        self.assertEqual((found.returncode, b'semscan scan --config' in found.stdout), (0, True))
+        self.ends(run('semscan-report', '--sarif', '--gitlab', cwd=self.folder), 2)
+        self.ends(run('semscan-report', 'a', 'b', cwd=self.folder), 2, b'b is too much')
+
+    def on_terminal(self, **environment):
+        """What a terminal gets."""
+        self.put('a.py', PYTHON)
+        self.put('report', line([result(PYTHON, b'eval')]))
+        ours, theirs = pty.openpty()
+        variables = {**{key: value for key, value in os.environ.items() if key != 'NO_COLOR'}, 'TERM': 'xterm', **environment}
+        program = os.path.join(INTEGRATIONS, 'semscan-report')
+        subprocess.run([sys.executable, program, 'report'], cwd=self.folder, stdout=theirs, env=variables, check=True)
+        os.close(theirs)
+        said = os.read(ours, 100_000)
+        os.close(ours)
+        return said
+
+    def test_colours_only_on_terminals(self):
+        self.assertIn(b'\x1b[1;31m', self.on_terminal())
+        self.assertNotIn(b'\x1b', self.on_terminal(NO_COLOR='1'))
+        self.assertNotIn(b'\x1b', self.on_terminal(TERM='dumb'))
+        self.assertNotIn(b'\x1b', run('semscan-report', 'report', cwd=self.folder).stdout)
+
+    def test_reader_that_goes_away(self):
+        content = b'f\n' * 20_000
+        self.put('a.py', content)
+        self.put('report', line([result(content, b'f', at=2 * k) for k in range(20_000)]))
+        words = '%s %s/semscan-report report | head -n 1' % (sys.executable, INTEGRATIONS)
+        found = subprocess.run(['sh', '-c', words], cwd=self.folder, capture_output=True, check=False)
+        self.assertEqual((found.stdout, found.stderr), (b'a.py (20000 findings)\n', b''))
+
+
+class BadInput(InFolder):
+    """What is wrong is told in clear words, with status 2."""
+
+    def refuses(self, given, said):
+        self.ends(run('semscan-report', cwd=self.folder, stdin=given), 2, said)
+
+    def test_line_that_is_cut_off(self):
+        from semscan_tools.refusal import Refusal
+        from semscan_tools.report_line import read_report
+        whole = line([result(PYTHON, b'eval', fix='\u00e9')], [notice('NoTree', 'a.py')])
+        read_report(whole)
+        for end in range(len(whole) - 1):
+            with self.assertRaises(Refusal) as refused:
+                read_report(whole[:end])
+            self.assertEqual(refused.exception.status, 2)
+        self.refuses(whole[:100], b"the report can't be read, maybe it is cut off")
+
+    def test_no_report(self):
+        self.refuses(b'', b'the scan printed nothing')
+        self.refuses(b'[]', b'this is no report of semscan')
+        self.refuses(b'{"notices":[],"results":[{}]}', b'result 1 has no extra')
+        self.refuses(b'\xff', b"can't be read")
+        self.refuses(b'[' * 200_000, b"can't be read")
+        self.refuses(b'1' * 20_000, b"can't be read")
+        self.refuses(line() + line(), b"can't be read")
+        self.refuses(b'{"notices":[],"results":[{"check_id":"\\ud800"}]}', b"can't be read")
+        self.refuses(line([result(b'f', b'f', path='../a.py')]), b'has the path')
+        self.refuses(line([result(b'f', b'f', trace=[['x']])]), b'a trace with a point that is none')
+        self.refuses(line([result(b'f', b'f', source=[2, 1])]), b'a source that is no range')
+
+    def test_file_that_is_not_there(self):
+        self.ends(run('semscan-report', 'none', cwd=self.folder), 2, b"none can't be read: No such file")
+        given = line([result(PYTHON, b'eval')])
+        self.refuses(given, b"a.py is not the file that was scanned: it can't be read (No such file or directory)")
+        os.mkfifo(os.path.join(self.folder, 'a.py'))
+        self.refuses(given, b'a.py is not the file that was scanned: it is no file')
+
+    def test_folder_that_changed(self):
+        given = line([result(PYTHON, b'eval(terms)')])
+        moved = b'is not at line'
+        for content, said in ((PYTHON[:20], b'fewer than'), (b'\n' + PYTHON, moved), (b'\xe9' * 99, moved), (b'#' * 99, moved)):
+            self.put('a.py', content)
+            self.refuses(given, said)
+        self.put('a.py', b'f(1)\ng(\xff)\n')
+        self.refuses(line([result(b'f(1)\ng(2)\n', b'f(1)', source=[5, 6])]), b'no text from byte')
+        self.refuses(line([result(b'f(1)\ng(2)\n', b'f(1)', trace=[[5, 'Head']])]), b'no text from byte')
+        content = '\u00e9f(1)'.encode()
+        self.put('a.py', content)
+        self.refuses(line([result(b'xxf(1)', b'xf(1)')]), b'no text from byte')
+
+    def test_place_to_save_that_cannot_be_written(self):
+        self.ends(run('semscan-report', '--save', 'none/report', cwd=self.folder, stdin=line()), 2, b"can't be written")
+
+
+class Runner(InFolder):
+    """semscan-report scan WORDS.."""
+
+    def test_how_paths_must_be_written(self):
+        os.mkdir(os.path.join(self.folder, 'src'))
+        rows = [('./src', b'write src instead of ./src'), ('src/', b'write src instead of src/'), ('src//a', b'write src/a instead of'),
+                (os.path.join(self.folder, 'src'), b'write src instead of'), ('./', b'write . instead of ./'),
+                ('..', b"isn't below the current folder"), ('/usr', b"isn't below the current folder"), ('', b'is no path')]
+        for word, said in rows:
+            found = run('semscan-report', 'scan', '--config', 'r.yaml', word, cwd=self.folder)
+            self.ends(found, 2, said)
+            self.assertEqual(found.stderr.count(b'\n'), 1)
+        self.ends(run('semscan-report', 'scan', '--config', './r.yaml', 'src', cwd=self.folder), 2, b'write r.yaml instead of ./r.yaml')
+
+    def test_no_program(self):
+        found = run('semscan-report', 'scan', '--config', 'r.yaml', '.', cwd=self.folder, SEMSCAN='/nowhere/semscan')
+        self.ends(found, 127, b'there is no built program at /nowhere/semscan')
+
+    def test_program_that_ends_otherwise(self):
+        for status in (3, 5, 6, 8, 9, 77):
+            self.put('fake', '#!/bin/sh\necho "semscan: words" >&2\nexit %d\n' % status)
+            os.chmod(os.path.join(self.folder, 'fake'), 0o755)
+            self.ends(run('semscan-report', 'scan', '--config', 'r', '.', cwd=self.folder, SEMSCAN='./fake'), status, b'semscan-report: words: ')
+        self.put('fake', '#!/bin/sh\nkill -9 $$\n')
+        self.ends(run('semscan-report', 'scan', '--config', 'r', '.', cwd=self.folder, SEMSCAN='./fake'), 137, b'nothing was said')
+        self.put('fake', 'no program')
+        self.ends(run('semscan-report', 'scan', '--config', 'r', '.', cwd=self.folder, SEMSCAN='./fake'), 127, b"can't be run")
+
+    @needs_program
+    def test_scan(self):
+        put(self.folder, 'rules.yaml', RULES)
+        put(self.folder, 'src/a.py', PYTHON)
+        found = run('semscan-report', '--save', 'line', 'scan', '--error', '--config', 'rules.yaml', 'src', cwd=self.folder)
+        self.assertEqual((found.returncode, found.stderr), (1, b''))
+        self.assertIn(b'src/a.py:2:12: error: eval runs terms. [no-eval]\n', found.stdout)
+        again = run('semscan-report', 'line', cwd=self.folder)
+        self.assertEqual((again.returncode, again.stdout), (0, found.stdout))
+        self.ends(run('semscan-report', 'scan', '--config', 'none.yaml', 'src', cwd=self.folder), 10, b'no config: the rule file is not there')
+        self.ends(run('semscan-report', 'scan', '--max', '0', '--config', 'rules.yaml', 'src', cwd=self.folder), 9, b'more than 0: ')
+        self.ends(run('semscan-report', 'scan', 'src', cwd=self.folder), 2, b'usage: the words are none of')
