@@ -2,11 +2,11 @@ use Rattle.scan_session.proofs.Members.{on_ok_map}
 use Rattle.scan_session.proofs.Scans.{not_over, passed_over, apart, found_more}
 use Rattle.scan_session.proofs.scanner.Scanner.scan.Goals as goal
 
-pub returns-then-is_over : goal.returns-then-is_over
-returns-then-is_over g c refused rule_files most files up h = passed_over (g.R.TreeReader.spells c.args.self.now.reader.now) refused rule_files most files c.args.self.now h _ (c.is_over.ensures.0 c.if-is_over.true)
+pub returns-then-is_over-clause-scanned : goal.returns-then-is_over-clause-scanned
+returns-then-is_over-clause-scanned g c refused rule_files most files up h = passed_over (g.R.TreeReader.spells c.args.self.now.reader.now) refused rule_files most files c.args.self.now h _ (c.is_over.ensures.0 c.if-is_over.true)
 
-pub returns : goal.returns
-returns g c =
+pub returns-clause-scanned : goal.returns-clause-scanned
+returns-clause-scanned g c =
     let s = c.args.self.now in
     let few = not_over s c.is_over.result c.is_over.ensures c.if-is_over.false in
     let rules = c.as_slice-running.result.now in
