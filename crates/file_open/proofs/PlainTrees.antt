@@ -1,5 +1,5 @@
 -- The tree of a text that is only searched.
-use Rattle.std.proofs.Common.{◌≡◌, ℕ, List, [], length, sym, subst, arith}
+use Rattle.std.proofs.Common.{ℕ, List, [], length, sym, subst, arith}
 use Rattle.std.specs.Str.{IsUtf8}
 use Rattle.std.proofs.lemmas.Str.{IsCharBoundary-start, IsCharBoundary-end}
 use Rattle.node_tree.specs.declared.node.Node.{Node}
