@@ -304,7 +304,7 @@ fn keeps_to_its_limits(rt: HostRuntime) -> Result<(), Fail> {
     ];
     for (count, size, wanted) in rows {
         let mut files = files_of(rt.alloc(), &[("r.rules", &[(1, CALLS)])])?;
-        for number in 0_u32..count {
+        for number in 10_000_u32..count.saturating_add(10_000) {
             let path = format!(in rt.alloc(); "f{number}.txt")?;
             let path = Text::from_str(rt.alloc(), path.as_str())?;
             let bytes = Bytes::from_vec(vec![in rt.alloc(); b'#'; size]?);
