@@ -2,13 +2,13 @@
 #![tactic(auto)]
 
 mod config;
+mod entry;
 mod input;
 mod matching;
 mod output;
-mod run;
 mod scan;
 mod status;
 mod taking;
 
-pub use run::run;
+pub use entry::run;
 pub use status::{LimitKind, Status};

@@ -6,7 +6,7 @@ use Rattle.scan_run.specs.declared.status.Status.TheVariants as statuses
 use Rattle.scan_run.specs.Status.{IsOfMatch}
 use Rattle.scan_run.proofs.Files.{keeps_self}
 use Rattle.scan_run.proofs.Requests.{ends_usage, only_usage, ends_match, only_match, front_match, some_match, ends_scan, only_scan, front_scan, no_match}
-use Rattle.scan_run.proofs.run.run.Goals as goal
+use Rattle.scan_run.proofs.entry.run.Goals as goal
 
 -- what is said of the command that was read holds of its request
 asks : (words : List (List ℕ)) (a b : Command) → a ≡ b → IsCommand words (request a) → IsCommand words (request b)
