@@ -174,7 +174,7 @@ fn reads_each_level(rt: HostRuntime) -> Result<(), Fail> {
 }
 
 // The rows of texts, each by a front and how often it stands, `a` and a back as often, and whether it has a tree.
-fn check(alloc: Global, rows: &[(&str, u32, &str, &str)]) -> Result<(), Fail> {
+fn check<'r>(alloc: Global, rows: &[(&'r str, u32, &'r str, &'r str)]) -> Result<(), Fail> {
     for (front, times, back, wanted) in rows {
         let text = repeated(alloc, &[(*times, *front), (1, "a"), (*times, *back)])?;
         let found = length(alloc, text.as_str(), PyLevel::Exprs)?;
