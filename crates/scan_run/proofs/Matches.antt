@@ -9,10 +9,7 @@ use Rattle.node_tree.specs.declared.view.Pattern.{Pattern}
 use Rattle.node_tree.specs.declared.view.FileView.{FileView}
 use Rattle.node_tree.specs.declared.view.Lang.{Lang}
 use Rattle.pattern_read.specs.Patterns.{IsPatternOf}
-use Rattle.tree_match.specs.declared.leaf.Leaf.{Leaf}
-use Rattle.tree_match.specs.declared.leaf.Leaf.TheVariants.{Full, Crowded}
-use Rattle.tree_match.specs.Members.{Member, IsMember}
-use Rattle.tree_match.specs.Leaf.{IsLeaf}
+use Rattle.tree_match.specs.Members.{IsMember}
 use Rattle.tree_match.proofs.Exclusion.{few_or_more, whole_once}
 use Rattle.file_open.specs.declared.opened.Opened.{Opened}
 use Rattle.file_open.specs.declared.opened.Opened.TheVariants as opened
@@ -26,7 +23,7 @@ use Rattle.scan_run.specs.Status.{IsOfSearch, IsOfMatch}
 use Rattle.scan_run.specs.Steps.{TakesSteps}
 use Rattle.scan_run.specs.Reading.{IsFileOf, IsOnlyFile, HasNoFile}
 use Rattle.scan_run.specs.Lines.{line_of}
-use Rattle.scan_run.specs.Streams.{Tells, AppendsSome}
+use Rattle.scan_run.specs.Streams.{Tells}
 use Rattle.scan_run.specs.Ways.{Printed, PrintedFront, PrintedSome, IsOnlyEnd}
 use Rattle.scan_run.specs.Matching.{HasNoPattern, SearchEnds, too_many, done, MatchEnds, bad_pattern, over_limit, bad_target, searched, Matches}
 use Rattle.scan_run.proofs.Streaming.{nothing_written}

@@ -1,8 +1,6 @@
 -- A run ends as what its words ask for ends.
-use Rattle.std.proofs.Common.{◌≡◌, ◌⊎◌, inl, inr, ℕ, List, [], refl, sym, ap, ◌∙◌, subst}
-use Rattle.std.specs.Prelude.{Option, Some, None, IsSome}
-use Rattle.std.specs.List.{concat}
-use Rattle.std.specs.Io.KnownBytes.{Appends}
+use Rattle.std.proofs.Common.{◌≡◌, ◌⊎◌, inl, inr, ℕ, List, [], refl, subst}
+use Rattle.std.specs.Prelude.{Option, IsSome}
 use Rattle.node_tree.specs.declared.view.Lang.{Lang}
 use Rattle.scan_world.specs.Files.{Files}
 use Rattle.wire_words.specs.Commands.{Task, Request, Matching, Scanning, IsCommand}

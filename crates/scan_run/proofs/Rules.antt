@@ -1,5 +1,5 @@
 -- What a config ends a scan with is one thing.
-use Rattle.std.proofs.Common.{◌≡◌, ℕ, ◌<◌, ◌≤◌, List, length, refl, sym, ap, ◌∙◌, subst, arith}
+use Rattle.std.proofs.Common.{◌≡◌, ℕ, ◌≤◌, List, length, refl, sym, ap, ◌∙◌, subst, arith}
 use Rattle.std.specs.Prelude.{Option, Some, None, Result, Ok, Err, IfErr}
 use Rattle.scan_world.specs.Files.{Files}
 use Rattle.scan_world.specs.Trees.{HasFront}
@@ -8,7 +8,7 @@ use Rattle.scan_session.specs.declared.rule_file.RuleFile.{RuleFile}
 use Rattle.scan_session.specs.RuleFiles.{IsRuleFile}
 use Rattle.scan_run.specs.declared.status.Status.{Status}
 use Rattle.scan_run.specs.declared.status.Status.TheVariants as statuses
-use Rattle.scan_run.specs.declared.status.LimitKind.TheVariants.{RuleBytes, Rules}
+use Rattle.scan_run.specs.declared.status.LimitKind.TheVariants.{Rules}
 use Rattle.scan_run.specs.Status.{HasReadingCause, IsOfLimit}
 use Rattle.scan_run.specs.Config.{entry_count, IsRules, ConfigEnds, absent, too_long, too_many_rules, IsOneFile, HasConfigEnd}
 

@@ -1,5 +1,5 @@
 -- What `match` does: how it ends, and the lines that it prints.
-use Rattle.std.specs.Prelude.{◌≡◌, ℕ, ◌≤◌, List, [], length, map, Option}
+use Rattle.std.specs.Prelude.{ℕ, ◌≤◌, List, [], length, map, Option}
 use Rattle.node_tree.specs.declared.node.Node.{Node}
 use Rattle.node_tree.specs.declared.view.Pattern.{Pattern}
 use Rattle.node_tree.specs.declared.view.Lang.{Lang}

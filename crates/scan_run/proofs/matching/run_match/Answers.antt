@@ -1,5 +1,4 @@
-use Rattle.std.proofs.Common.{◌≡◌, ◌≤◌, ℕ, List, arith, length, subst}
-use Rattle.node_tree.specs.declared.view.FileView.{FileView}
+use Rattle.std.proofs.Common.{◌≤◌, ℕ, List, arith, length, subst}
 use Rattle.pattern_read.proofs.Laws.{refused}
 use Rattle.file_open.specs.declared.opened.Opened.{Opened}
 use Rattle.file_open.specs.declared.opened.Opened.TheVariants as opened

@@ -1,4 +1,4 @@
-use Rattle.std.proofs.Common.{◌≡◌, ◌++◌, List, ℕ, sym, ap, ◌∙◌, string_bytes, codes}
+use Rattle.std.proofs.Common.{◌≡◌, ◌++◌, List, ℕ, ap, ◌∙◌, string_bytes, codes}
 use Rattle.scan_run.specs.Lines.{span_text, bound_text}
 use Rattle.scan_run.proofs.Streaming.{one_name}
 use Rattle.scan_run.proofs.output.line.Goals as goal
