@@ -17,8 +17,10 @@ use Rattle.rule_entries.specs.declared.found.Found.{Found}
 use Rattle.rule_keys.specs.declared.stop.Stop.{Stop}
 use Rattle.rule_keys.specs.Values.{Entry}
 use Rattle.rule_entries.specs.Readings.{Reading, Only, Reads, Then, Below, gives}
+use Rattle.rule_entries.specs.declared.found.Setting.{Setting}
+use Rattle.rule_entries.specs.Finds.{Writes}
 use Rattle.rule_entries.specs.Formulas.{Inner, IsOne, IsFormulaAt}
-use Rattle.rule_entries.specs.Bodies.{IsFormulas, IsPropagators, with_sources, with_sinks, with_sanitizers, with_propagators, IsBody, IsTaint, IsAdded, no_taint, taint_key}
+use Rattle.rule_entries.specs.Bodies.{IsFormulas, IsPropagators, with_sources, with_sinks, with_sanitizers, with_propagators, IsBody, IsTaint, IsAdded, IsFormulaOf, IsPart, no_taint, taint_key, takes_patterns}
 use Rattle.rule_entries.proofs.Laws.{gives_reads, then_goes, then_stops}
 
 module _ (inner : Inner) (all : List Entry) (begin : Found) where
@@ -68,6 +70,13 @@ module _ (inner : Inner) (es : List Entry) (s t : Found) where
 -- the body of a search
 pub search_at : (inner : Inner) (mode : RuleMode) (es : List Entry) (s t : Found) (r : Result Body Stop) → mode ≡ modes.Search → Reads (IsBody inner modes.Search es) s r t → Reads (IsBody inner mode es) s r t
 search_at inner mode es s t r e h = subst (λ (m : RuleMode). Reads (IsBody inner m es) s r t) (sym e) h
+
+-- and that of a rule that follows data
+pub taint_stops : (inner : Inner) (mode : RuleMode) (es : List Entry) (s t : Found) (e : Stop) → mode ≡ modes.Taint → Reads (IsTaint inner no_taint es) s (Err e) t → Reads (IsBody inner mode es) s (Err e) t
+taint_stops inner mode es s t e is h = subst (λ (m : RuleMode). Reads (IsBody inner m es) s (Err e) t) (sym is) (then_stops (IsTaint inner no_taint es) (λ r. gives (bodies.Taint r)) e s t t h)
+
+pub part_stops : (writes : Writes) (setting : Setting) (mode : RuleMode) (es : List Entry) (s t : Found) (e : Stop) → Reads (IsBody (IsFormulaOf writes setting) mode es) s (Err e) t → Reads (IsPart writes setting mode es) s (Err e) t
+part_stops writes setting mode es s t e h = then_stops (IsBody (IsFormulaOf writes setting) mode es) (takes_patterns setting.lang) e s t t h
 
 -- one list of taint
 module _ (inner : Inner) (rule : TaintRule) (e : Entry) (s t : Found) (key : TaintKey) where

@@ -9,8 +9,10 @@ use Rattle.rule_form.specs.declared.formula.Child.{Child}
 use Rattle.rule_form.specs.declared.formula.Child.TheVariants as children
 use Rattle.rule_form.specs.declared.rule.Propagator.{Propagator}
 use Rattle.rule_entries.specs.declared.found.Found.{Found}
+use Rattle.rule_keys.specs.declared.key.FormulaKey.{FormulaKey}
 use Rattle.rule_keys.specs.declared.key.ChildKey.{ChildKey}
 use Rattle.rule_keys.specs.declared.key.ChildKey.TheVariants as keys
+use Rattle.rule_keys.specs.declared.key.Role.{Role}
 use Rattle.rule_keys.specs.declared.key.Role.TheVariants as roles
 use Rattle.rule_keys.specs.declared.stop.Stop.{Stop}
 use Rattle.rule_keys.specs.Misfits.{Fits, IsUnder}
@@ -18,8 +20,12 @@ use Rattle.rule_keys.specs.Values.{Entry, items_of, required_text, required_name
 use Rattle.rule_keys.specs.Keys.{Counted, map_of, one_of}
 use Rattle.rule_entries.specs.Readings.{Reading, Only, Reads, Then, After, Below, Each, AtPlace, gives, tells}
 use Rattle.rule_entries.specs.Finds.{Leaf, IsCompared}
-use Rattle.rule_entries.specs.Formulas.{Inner, IsOne, IsFormulaAt, IsMapped, IsAlternative, IsEither, IsMetaCompare, IsMetaPattern, IsChildAt, IsChild, IsPatterns, IsPropagator, all_of}
+use Rattle.rule_entries.specs.Formulas.{Inner, IsOne, IsFormulaAt, IsMapped, IsAlternativeAt, IsAlternative, IsEither, IsMetaCompare, IsMetaPattern, IsChildAt, IsChild, IsPatterns, IsPropagator, all_of}
 use Rattle.rule_entries.proofs.Laws.{gives_reads, tells_reads, after_goes, after_stops, then_goes, then_stops, below_reads}
+
+-- the value of the one key that counts in a map
+pub one_goes : (at : ChildKey → YValue → Reading Formula) (role : Role) (s t : Found) (es : List Entry) (c : Counted) (read r : Result Formula Stop) → one_of role es ≡ Ok c → Reads (at c.0 c.1.1) s read t → IsUnder c.1.0 read r → Reads (IsOne at role es) s r t
+one_goes at role s t es c read r one h under = after_goes (λ (d : Counted). d) (one_of role es) (λ d. Below d.1.0 (at d.0 d.1.1)) c s t r one (below_reads c.1.0 (at c.0 c.1.1) s t read r h under)
 
 module _ (leaf : Leaf) (inner : Inner) (v : YValue) (s t : Found) where
   module _ (vs : List YValue) (items : items_of v ≡ Ok vs) where
@@ -70,6 +76,16 @@ module _ (leaf : Leaf) (inner : Inner) (v : YValue) (s t : Found) where
 
   pub compare_at : (key : ChildKey) (r : Result Child Stop) → key ≡ keys.MetaCompare → Reads (IsMetaCompare v) s r t → Reads (IsChildAt leaf inner key v) s r t
   compare_at key r e h = subst (λ (k : ChildKey). Reads (IsChildAt leaf inner k v) s r t) (sym e) h
+
+  pub meta_pattern_at : (key : ChildKey) (r : Result Child Stop) → key ≡ keys.MetaPattern → Reads (IsMetaPattern inner v) s r t → Reads (IsChildAt leaf inner key v) s r t
+  meta_pattern_at key r e h = subst (λ (k : ChildKey). Reads (IsChildAt leaf inner k v) s r t) (sym e) h
+
+  pub positive_stops : (key : ChildKey) (k : FormulaKey) (e : Stop) → key ≡ keys.Formula k → Reads (inner false k v) s (Err e) t → Reads (IsChildAt leaf inner key v) s (Err e) t
+  positive_stops key k e is h = subst (λ (x : ChildKey). Reads (IsChildAt leaf inner x v) s (Err e) t) (sym is) (then_stops (inner false k v) (λ f. gives (children.Positive f)) e s t t h)
+
+  pub alternative_goes : (es : List Entry) (c : Counted) (read r : Result Formula Stop) → map_of roles.Alternative v ≡ Ok es → one_of roles.Alternative es ≡ Ok c → Reads (IsAlternativeAt leaf inner c.0 c.1.1) s read t → IsUnder c.1.0 read r → Reads (IsAlternative leaf inner v) s r t
+  alternative_goes es c read r map one h under =
+      after_goes (λ (l : List Entry). l) (map_of roles.Alternative v) (λ xs. IsOne (IsAlternativeAt leaf inner) roles.Alternative xs) es s t r map (one_goes (IsAlternativeAt leaf inner) roles.Alternative s t es c read r one h under)
 
   pub child_goes : (es : List Entry) (c : Counted) (read r : Result Child Stop) → map_of roles.Child v ≡ Ok es → one_of roles.Child es ≡ Ok c → Reads (IsChildAt leaf inner c.0 c.1.1) s read t → IsUnder c.1.0 read r → Reads (IsChild leaf inner v) s r t
   child_goes es c read r map one h under =

@@ -7,9 +7,9 @@ use Rattle.rule_form.specs.declared.formula.Child.TheVariants as children
 use Rattle.rule_keys.specs.Misfits.{IsUnder}
 use Rattle.rule_entries.specs.Readings.{AtPlace, Reads}
 use Rattle.rule_entries.specs.Finds.{IsLeaf}
-use Rattle.rule_entries.specs.Formulas.{IsFormula, IsAlternative, IsChild, IsMetaPattern}
+use Rattle.rule_entries.specs.Formulas.{IsFormula, IsFormulaAt, IsAlternative, IsChild, IsMetaPattern}
 use Rattle.rule_entries.proofs.Laws.{Rest, below_reads, turn_goes, turn_stops, turns_end}
-use Rattle.rule_entries.proofs.Shapes.{either_stops, either_goes, patterns_stops, patterns_goes, mapped_goes, meta_pattern_stops, meta_pattern_goes, compare_at, child_goes}
+use Rattle.rule_entries.proofs.Shapes.{either_stops, either_goes, patterns_stops, patterns_goes, mapped_goes, meta_pattern_stops, meta_pattern_goes, compare_at, child_goes, one_goes, alternative_goes, meta_pattern_at, positive_stops}
 use Rattle.rule_entries.proofs.Levels.{at_pattern, at_patterns, at_either, at_regex}
 use Rattle.rule_entries.proofs.formula.+formula.Goals as goal
 
@@ -139,3 +139,29 @@ child-returns g t c =
     let inner = IsFormula c.args.room leaf in
     child_goes leaf inner c.args.item.now c.args.found.now c.child_at-child.new.found c.in_ok-entries.entries.now (c.in_ok-key.key, c.in_ok-key.entry.now) c.child_at-child.result c.within.result
     c.in_ok-entries.ensures c.in_ok-key.ensures c.child_at-child.ensures (subst (λ (k : List ℕ). IsUnder k c.child_at-child.result c.within.result) c.as_str.ensures c.within.ensures)
+
+pub alternative-returns : goal.alternative-returns
+alternative-returns g t c =
+    let leaf = IsLeaf (g.R.PatternReader.writes c.args.reader.now) c.args.setting in
+    let inner = IsFormula c.args.room leaf in
+    alternative_goes leaf inner c.args.item.now c.args.found.now c.alternative_at-formula.new.found c.in_ok-entries.entries.now (c.in_ok-key.key, c.in_ok-key.entry.now) c.alternative_at-formula.result c.within.result
+    c.in_ok-entries.ensures c.in_ok-key.ensures c.alternative_at-formula.ensures (subst (λ (k : List ℕ). IsUnder k c.alternative_at-formula.result c.within.result) c.as_str.ensures c.within.ensures)
+
+pub one_formula-returns : goal.one_formula-returns
+one_formula-returns g t c =
+    let inner = IsFormula c.args.room (IsLeaf (g.R.PatternReader.writes c.args.reader.now) c.args.setting) in
+    one_goes (IsFormulaAt inner c.args.bare) c.args.role c.args.found.now c.formula_at-formula.new.found c.args.entries.now (c.in_ok-key.key, c.in_ok-key.entry.now) c.formula_at-formula.result c.within.result
+    c.in_ok-key.ensures c.formula_at-formula.ensures (subst (λ (k : List ℕ). IsUnder k c.formula_at-formula.result c.within.result) c.as_str.ensures c.within.ensures)
+
+pub child_at-returns-in-MetaPattern : goal.child_at-returns-in-MetaPattern
+child_at-returns-in-MetaPattern g t c =
+    let leaf = IsLeaf (g.R.PatternReader.writes c.args.reader.now) c.args.setting in
+    let inner = IsFormula c.args.room leaf in
+    meta_pattern_at leaf inner c.args.value.now c.args.found.now c.meta_pattern.new.found c.args.key c.meta_pattern.result c.in-MetaPattern.is c.meta_pattern.ensures
+
+pub child_at-returns-in_err-formula-in-Formula : goal.child_at-returns-in_err-formula-in-Formula
+child_at-returns-in_err-formula-in-Formula g t c =
+    let leaf = IsLeaf (g.R.PatternReader.writes c.args.reader.now) c.args.setting in
+    let inner = IsFormula c.args.room leaf in
+    let p = err_from_is_err_and c.from_residual.result c.from_residual.ensures.1 in
+    rw (p.1, p.2) (positive_stops leaf inner c.args.value.now c.args.found.now _ c.args.key _ c.in_err-formula-in-Formula.field-0.0 c.in-Formula.is c.in_err-formula-in-Formula.ensures)
