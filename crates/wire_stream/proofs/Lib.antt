@@ -1,0 +1,5 @@
+pub mod Firsts
+pub mod Streams
+pub mod Lines
+pub mod Commands
+pub mod Fills

@@ -1,0 +1,7 @@
+pub mod Lines
+pub mod Asked
+pub mod Commands
+pub mod Heads
+pub mod Bodies
+pub mod Streams
+pub mod Feeds

@@ -1,0 +1,90 @@
+//! What stands in a command before its body.
+
+ghost use Rattle.std.specs.Prelude.{◌≡◌, ◌+◌, ◌<◌, ◌++◌, [], false, List, ℕ, length, take, drop, IsTrue, IfOk, OnOk, IsErrOf};
+ghost use Rattle.wire_stream.specs.Lines.{Line};
+ghost use Rattle.wire_stream.specs.Asked.{line_of, IsLineOf, IsNoLine};
+ghost use Rattle.wire_stream.specs.Commands.{BeginsNone};
+ghost use Rattle.wire_stream.specs.Heads.{IsHead, IsLineEnd, Lacks};
+ghost use Rattle.wire_stream.specs.Streams.{Uses, OfStream, HasCauseOf};
+
+use crate::hand::{fill, Hand};
+use crate::line::{asked_of, Asked};
+use crate::trouble::Trouble;
+use crate::wire::Wire;
+use node_tree::{Memory, Text};
+use scan_world::Source;
+use std::alloc::Global;
+use memchr::memchr;
+
+// More bytes than the longest line has.
+const MOST_LINE: usize = 1040;
+
+/// A command without its body.
+#[derive(Drop)]
+pub enum Head {
+    /// A command that has none.
+    Whole(Wire),
+    /// The length of the body that a file's path is put with.
+    Put(u64, Text),
+    /// The same of a rule file.
+    Rule(u64, Text),
+}
+
+/// The command that a line asks for, without its body.
+fn head_of(alloc: Global, asked: Asked<'_>) -> Result<Head, Memory>
+    ensures { IfOk result (IsHead (line_of asked.entry)) }
+{
+    Ok(match asked {
+        Asked::Put(size, path) => Head::Put(size, Text::from_str(alloc, path)?),
+        Asked::Del(path) => Head::Whole(Wire::Del(Text::from_str(alloc, path)?)),
+        Asked::Rule(size, name) => Head::Rule(size, Text::from_str(alloc, name)?),
+        Asked::Unrule(name) => Head::Whole(Wire::Unrule(Text::from_str(alloc, name)?)),
+        Asked::Sync(prefix) => Head::Whole(Wire::Sync(Text::from_str(alloc, prefix)?)),
+        Asked::Scan => Head::Whole(Wire::Scan),
+        Asked::Fix => Head::Whole(Wire::Fix),
+        Asked::End => Head::Whole(Wire::End),
+    })
+}
+
+/// Whether bytes without a line's end may go on to a line.
+fn is_open(bytes: &[u8]) -> bool
+    requires { Lacks 10 bytes.now }
+    ensures open { IsTrue result → length bytes.now < MOST_LINE }
+    ensures closed { (result ≡ false) → (more : List ℕ) → BeginsNone (bytes.now ++ more) }
+{
+    bytes.len() < MOST_LINE
+}
+
+/// Reads until a line's end is in hand, and tells its place.
+pub fn read_line<S: Source>(hand: &mut Hand, input: &mut S) -> Result<usize, Trouble>
+    ensures end { IfOk result (IsLineEnd hand.new) }
+    ensures uses { OnOk result (Uses (S.left input.old) (S.left input.new) hand.old hand.new []) }
+    ensures bad { IsErrOf result Trouble.Bad → OfStream (S.left input.old) hand.old BeginsNone }
+    ensures cause { HasCauseOf (S.faults input.old) (S.faults input.new) result }
+{
+    for _ in 0..=MOST_LINE {
+        if let Some(end) = memchr(b'\n', hand.as_slice()) {
+            return Ok(end);
+        }
+        if !is_open(hand.as_slice()) || fill(hand, input)? == 0 {
+            return Err(Trouble::Bad);
+        }
+    }
+    unreachable!()
+}
+
+/// Uses a line and its end.
+pub fn take_line(alloc: Global, hand: &mut Hand, end: usize) -> Result<Head, Trouble>
+    requires { IsLineEnd hand.old end }
+    ensures head { IfOk result (λ h. (line : Line) × IsLineOf (take end hand.old) line × IsHead line h) }
+    ensures used { OnOk result (hand.new ≡ drop (end + 1) hand.old) }
+    ensures bad { IsErrOf result Trouble.Bad → IsNoLine (take end hand.old) }
+    ensures others { IsErrOf result Trouble.Failed → ⊥ }
+{
+    let Some(asked) = asked_of(&hand.as_slice()[..end]) else {
+        return Err(Trouble::Bad);
+    };
+    let head = head_of(alloc, asked)?;
+    hand.advance(end + 1);
+    Ok(head)
+}
