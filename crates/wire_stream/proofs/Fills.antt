@@ -170,7 +170,7 @@ record Cut (front back : List ℕ) : Type 0 where
   some : 0 < length other
   within : (0 < length part) → length other ≤ length back
 
-overlap : (a b c d : List ℕ) → a ++ b ≡ c ++ d → length a ≤ length c → (r : List ℕ) × (c ≡ a ++ r) × (b ≡ r ++ d)
+pub overlap : (a b c d : List ℕ) → a ++ b ≡ c ++ d → length a ≤ length c → (r : List ℕ) × (c ≡ a ++ r) × (b ≡ r ++ d)
 overlap [] b c d e le = (c, refl, e)
 overlap (x ∷ a) b [] d e le = absurd (omega arith)
 overlap (x ∷ a) b (y ∷ c) d e le =
@@ -329,3 +329,36 @@ no_name rest bare letter fills more n =
     at_edge : IsUtf8 rest → (more : List ℕ) → IsName (rest ++ more) → ⊥
     at_edge u [] n = bare (subst IsName (append-nil rest) n)
     at_edge u (b ∷ more) n = letter (record { utf8 = IsUtf8-append rest (97 ∷ []) u (text_of (97 ∷ []) 97 (low_scalar 97 (omega arith)) (encode_ascii 97 (omega arith))); path = ends_path rest (b ∷ more) (97 ∷ []) letter_ends (omega arith) (omega arith) n.path })
+
+-- ---- two names
+
+pub letter_text : IsUtf8 (97 ∷ [])
+letter_text = text_of (97 ∷ []) 97 (low_scalar 97 (omega arith)) (encode_ascii 97 (omega arith))
+
+pub dot_text : IsUtf8 (46 ∷ 97 ∷ [])
+dot_text = IsUtf8-append (46 ∷ []) (97 ∷ []) (text_of (46 ∷ []) 46 (low_scalar 46 (omega arith)) (encode_ascii 46 (omega arith))) letter_text
+
+one_segment : (start : List ℕ) → IsSegment (start ++ (97 ∷ []))
+one_segment start = ends_named start (97 ∷ []) letter_ends
+
+pub letter_path : IsPath (97 ∷ [])
+letter_path = record { some = omega arith; most = omega arith; printed = printed_all (97 ∷ []) refl; named = All-cons IsSegment (97 ∷ []) [] (one_segment []) (All-nil IsSegment) }
+
+pub dot_path : IsPath (46 ∷ 97 ∷ [])
+dot_path = record { some = omega arith; most = omega arith; printed = printed_all (46 ∷ 97 ∷ []) refl; named = All-cons IsSegment (46 ∷ 97 ∷ []) [] (one_segment (46 ∷ [])) (All-nil IsSegment) }
+
+-- a test that fails refutes what it tests
+pub refuted : (b : Bool) (P : Type 0) → b ≡ false → (P → b ≡ true) → P → ⊥
+refuted b P f back p = let t = back p in absurd cc
+
+-- the seven ways
+pub no_way : (rest : List ℕ) → (IsName (rest ++ []) → ⊥) → (IsName (rest ++ (97 ∷ [])) → ⊥) → (IsName (rest ++ (128 ∷ [])) → ⊥) → (IsName (rest ++ (128 ∷ 128 ∷ [])) → ⊥) → (IsName (rest ++ (128 ∷ 128 ∷ 128 ∷ [])) → ⊥)
+    → (IsName (rest ++ (160 ∷ 128 ∷ [])) → ⊥) → (IsName (rest ++ (144 ∷ 128 ∷ 128 ∷ [])) → ⊥) → (more : List ℕ) → IsName (rest ++ more) → ⊥
+no_way rest bare letter a b c d e = no_name rest (λ n. bare (subst IsName (sym (append-nil rest)) n)) letter by_fill
+  where
+    by_fill : (f : Fill) → IsName (rest ++ fill_bytes f) → ⊥
+    by_fill one n = a n
+    by_fill pair n = b n
+    by_fill triple n = c n
+    by_fill high_pair n = d n
+    by_fill high_triple n = e n

@@ -1,8 +1,10 @@
 -- The bytes of lines.
-use Rattle.std.proofs.Common.{◌≡◌, ◌⊎◌, inl, inr, ℕ, zero, suc, ◌+◌, ◌/◌, ◌%◌, ◌<◌, ◌≤◌, ◌^◌, List, [], ◌∷◌, ◌++◌, length, get_or, refl, sym, ap, ◌∙◌, subst, arith, length-append}
+use Rattle.std.proofs.Common.{◌≡◌, ◌⊎◌, inl, inr, ℕ, zero, suc, ◌+◌, ◌*◌, ◌/◌, ◌%◌, ◌<◌, ◌≤◌, ◌^◌, List, [], ◌∷◌, ◌++◌, length, get_or, Bool, true, false, eqb, eq-eqb, refl, sym, ap, ◌∙◌, subst, arith, length-append}
 use Rattle.std.specs.Prelude.{codes}
 use Rattle.std.specs.Fmt.{decimal}
-use Rattle.std.proofs.lemmas.Fmt.{decimal_by_steps, decimal_injective, length-decimal-le}
+use Rattle.std.proofs.lemmas.Fmt.{decimal_by_steps, decimal_injective, length-decimal-le, IsAscii-decimal}
+use Rattle.std.proofs.lemmas.Str.{IsUtf8-from_ascii}
+use Rattle.std.specs.Str.{IsUtf8}
 use Rattle.std.proofs.lemmas.List.{append_cancel_left}
 use Rattle.wire_stream.specs.Lines.{Line, Put, Del, Rule, Unrule, Sync, Scan, Fix, End, sized_bytes, line_bytes, IsName, IsPrefix, IsSized, IsLine}
 use Rattle.wire_stream.specs.Heads.{Lacks}
@@ -16,6 +18,10 @@ decimal_lacks b n low small = decimal_by_steps (λ k ds. Lacks b ds) one more n 
 
     more : (n : ℕ) (ds : List ℕ) → 10 ≤ n → Lacks b ds → Lacks b (ds ++ ((48 + n % 10) ∷ []))
     more n ds ge l = lacks_append b ds ((48 + n % 10) ∷ []) l (λ e. absurd (omega arith), tt)
+
+-- a number's digits are a text
+pub decimal_text : (n : ℕ) → n ≤ 268435456 → IsUtf8 (decimal n)
+decimal_text n small = IsUtf8-from_ascii (decimal n) (IsAscii-decimal n (omega arith))
 
 pub name_lacks : (name : List ℕ) → IsName name → Lacks 10 name
 name_lacks name g = lacks_by_place 10 name (λ i lt e. let p = g.path.printed i 0 lt in absurd (omega arith))
@@ -64,6 +70,13 @@ same_sized n m p q sn sm e =
     let s = same_first 32 (decimal n) p (decimal m) q (decimal_lacks 32 n (omega arith) (omega arith)) (decimal_lacks 32 m (omega arith) (omega arith)) e in
     (decimal_injective n m (omega arith) (omega arith) s.0, s.1)
 
+-- the first two bytes, as one number
+abbrev start : List ℕ → ℕ
+start bytes = 256 * get_or bytes 0 0 + get_or bytes 1 0
+
+apart : (m n : ℕ) → m ≡ n → eqb m n ≡ false → ⊥
+apart m n e f = let t : eqb m n ≡ true = eq-eqb m n e in absurd cc
+
 pub same_line : (a b : Line) → IsLine a → IsLine b → line_bytes a ≡ line_bytes b → a ≡ b
 same_line (Put n p) (Put m q) g h e = let s = same_sized n m p q g.0 h.0 (append_cancel_left (codes "put ") (sized_bytes n p) (sized_bytes m q) e) in ap (λ (k : ℕ). Put k p) s.0 ∙ ap (λ (t : List ℕ). Put m t) s.1
 same_line (Rule n p) (Rule m q) g h e = let s = same_sized n m p q g.0 h.0 (append_cancel_left (codes "rule ") (sized_bytes n p) (sized_bytes m q) e) in ap (λ (k : ℕ). Rule k p) s.0 ∙ ap (λ (t : List ℕ). Rule m t) s.1
@@ -73,4 +86,4 @@ same_line (Sync p) (Sync q) g h e = ap Sync (append_cancel_left (codes "sync ") 
 same_line Scan Scan g h e = refl
 same_line Fix Fix g h e = refl
 same_line End End g h e = refl
-same_line a b g h e = absurd cc
+same_line a b g h e = absurd (apart (start (line_bytes a)) (start (line_bytes b)) (ap start e) refl)

@@ -1,7 +1,7 @@
 -- What is used of a stream, step after step.
 use Rattle.std.proofs.Common.{◌≡◌, ℕ, List, [], ◌∷◌, ◌++◌, refl, sym, ap, ◌∙◌, subst, append_assoc, append-nil}
 use Rattle.std.specs.Prelude.{Option, Some, None, Result, Ok, Err}
-use Rattle.std.specs.Io.KnownBytes.{Consumes, IsAtEnd}
+use Rattle.std.specs.Io.KnownBytes.{Consumes, Keeps, IsAtEnd}
 use Rattle.wire_stream.specs.Streams.{Uses, OfStream, HasCauseOf}
 use Rattle.wire_stream.specs.declared.trouble.Trouble.{Trouble}
 use Rattle.wire_stream.specs.declared.trouble.Trouble.TheVariants.{Memory, Failed, Bad}
@@ -31,6 +31,20 @@ uses_then (Some xs) (Some ys) (Some zs) h k m x y u v = u ∙ ap (λ (l : List �
 pub uses_is : (a b : Option (List ℕ)) (h k x y : List ℕ) → x ≡ y → Uses a b h k x → Uses a b h k y
 uses_is a b h k x y e u = let P : List ℕ → Type 0 = λ l. Uses a b h k l in subst P e u
 
+-- where nothing is in hand any more, and a read fails
+pub uses_to_end : (a b c : Option (List ℕ)) (h k x : List ℕ) → Uses a b h k x → k ≡ [] → Keeps b c → Uses a c h [] x
+uses_to_end None b c h k x u none keeps = tt
+uses_to_end (Some xs) None c h k x u none keeps = absurd u
+uses_to_end (Some xs) (Some ys) None h k x u none keeps = absurd keeps
+uses_to_end (Some xs) (Some ys) (Some zs) h k x u none keeps = u ∙ ap (λ (l : List ℕ). x ++ (l ++ ys)) none ∙ ap (λ (l : List ℕ). x ++ l) (sym keeps)
+
+-- what is in hand is used
+pub uses_all : (a b c : Option (List ℕ)) (h k : List ℕ) → Uses a b h k [] → Keeps b c → Uses a c h [] k
+uses_all None b c h k u keeps = tt
+uses_all (Some xs) None c h k u keeps = absurd u
+uses_all (Some xs) (Some ys) None h k u keeps = absurd keeps
+uses_all (Some xs) (Some ys) (Some zs) h k u keeps = u ∙ ap (λ (l : List ℕ). k ++ l) (sym keeps)
+
 -- what is left after bytes were used tells of what there was
 pub told_before : (a b : Option (List ℕ)) (h k x : List ℕ) (P Q : List ℕ → Type 0) → Uses a b h k x → ((s : List ℕ) → Q s → P (x ++ s)) → OfStream b k Q → OfStream a h P
 told_before None b h k x P Q u f q = tt
@@ -52,10 +66,7 @@ told_also None h P Q f q = tt
 told_also (Some xs) h P Q f q = f (h ++ xs) q
 
 -- the cause of a trouble that is passed on
-pub cause_on : {T U : Type 0} (a b c : ℕ) (e : Trouble) (r : Result T Trouble) → b ≡ a → r ≡ Err e → HasCauseOf b c r → HasCauseOf {T = U} a c (Err e)
-cause_on {T = T} a b c Memory r same is h = let P : Result T Trouble → Type 0 = λ r. HasCauseOf b c r in let k = subst P is h in k ∙ same
-cause_on {T = T} {U = U} a b c Failed r same is h =
-    let P : Result T Trouble → Type 0 = λ r. HasCauseOf b c r in
-    let Q : ℕ → Type 0 = λ n. HasCauseOf {T = U} n c (Err Failed) in
-    subst Q same (subst P is h)
-cause_on {T = T} a b c Bad r same is h = let P : Result T Trouble → Type 0 = λ r. HasCauseOf b c r in let k = subst P is h in k ∙ same
+pub cause_on : (T U : Type 0) (a b c : ℕ) (e : Trouble) → b ≡ a → HasCauseOf {T = T} b c (Err e) → HasCauseOf {T = U} a c (Err e)
+cause_on T U a b c Memory same h = h ∙ same
+cause_on T U a b c Failed same h = let Q : ℕ → Type 0 = λ n. HasCauseOf {T = U} n c (Err Failed) in subst Q same h
+cause_on T U a b c Bad same h = h ∙ same

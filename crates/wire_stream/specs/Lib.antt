@@ -4,4 +4,5 @@ pub mod Commands
 pub mod Heads
 pub mod Bodies
 pub mod Streams
+pub mod Fronts
 pub mod Feeds

@@ -2,6 +2,8 @@
 
 ghost use Rattle.std.specs.Prelude.{◌≡◌, ◌++◌, ◌∷◌, ◌<◌, ◌≤◌, ◌-◌, [], List, ℕ, length, take, drop, min, OnOk, IfOk, IsErrOf};
 ghost use Rattle.wire_stream.specs.Bodies.{IsFront, IsWhole, IsNoFront, IsNoWhole, IsEmpty, IsNoEnd};
+ghost use Rattle.std.specs.Io.KnownBytes.{Keeps};
+ghost use Rattle.wire_stream.specs.Fronts.{WaitsWithin};
 ghost use Rattle.wire_stream.specs.Streams.{Uses, OfStream, HasCauseOf};
 
 use crate::hand::{fill, Hand};
@@ -15,6 +17,7 @@ fn want_some<S: Source>(hand: &mut Hand, input: &mut S) -> Result<(), Trouble>
     ensures some { OnOk result (0 < length hand.new) }
     ensures uses { OnOk result (Uses (S.left input.old) (S.left input.new) hand.old hand.new []) }
     ensures bad { IsErrOf result Trouble.Bad → OfStream (S.left input.old) hand.old IsEmpty }
+    ensures failed { IsErrOf result Trouble.Failed → (hand.old ≡ []) × Keeps (S.left input.old) (S.left input.new) }
     ensures cause { HasCauseOf (S.faults input.old) (S.faults input.new) result }
 {
     if hand.as_slice().is_empty() && fill(hand, input)? == 0 {
@@ -57,6 +60,7 @@ fn read_bytes<S: Source>(
 ) -> Result<Bytes, Trouble>
     ensures front { IfOk result (IsFront (S.left input.old) (S.left input.new) hand.old hand.new size most) }
     ensures bad { IsErrOf result Trouble.Bad → OfStream (S.left input.old) hand.old (IsNoFront size) }
+    ensures failed { IsErrOf result Trouble.Failed → WaitsWithin (S.left input.old) (S.left input.new) hand.old size }
     ensures cause { HasCauseOf (S.faults input.old) (S.faults input.new) result }
 {
     let mut kept = Bytes::new(alloc);
@@ -73,6 +77,7 @@ fn read_bytes<S: Source>(
 fn read_end<S: Source>(hand: &mut Hand, input: &mut S) -> Result<(), Trouble>
     ensures uses { OnOk result (Uses (S.left input.old) (S.left input.new) hand.old hand.new (10 ∷ [])) }
     ensures bad { IsErrOf result Trouble.Bad → OfStream (S.left input.old) hand.old IsNoEnd }
+    ensures failed { IsErrOf result Trouble.Failed → (hand.old ≡ []) × Keeps (S.left input.old) (S.left input.new) }
     ensures cause { HasCauseOf (S.faults input.old) (S.faults input.new) result }
 {
     want_some(hand, input)?;
@@ -93,6 +98,7 @@ pub fn read_body<S: Source>(
 ) -> Result<Bytes, Trouble>
     ensures whole { IfOk result (IsWhole (S.left input.old) (S.left input.new) hand.old hand.new size most) }
     ensures bad { IsErrOf result Trouble.Bad → OfStream (S.left input.old) hand.old (IsNoWhole size) }
+    ensures failed { IsErrOf result Trouble.Failed → WaitsWithin (S.left input.old) (S.left input.new) hand.old size }
     ensures cause { HasCauseOf (S.faults input.old) (S.faults input.new) result }
 {
     let kept = read_bytes(alloc, hand, input, size as usize, most)?;

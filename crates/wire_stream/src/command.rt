@@ -2,9 +2,10 @@
 
 ghost use Rattle.std.specs.Prelude.{◌≡◌, ◌<◌, ◌≤◌, ◌^◌, List, ℕ, IfOk, IsErrOf};
 ghost use Rattle.wire_stream.specs.Lines.{Line, IsLine};
-ghost use Rattle.wire_stream.specs.Commands.{BeginsNone};
+ghost use Rattle.wire_stream.specs.Commands.{body_length, BeginsNone};
 ghost use Rattle.wire_stream.specs.Heads.{IsHead, IsRest, IsNoRest};
 ghost use Rattle.wire_stream.specs.Feeds.{Used};
+ghost use Rattle.wire_stream.specs.Fronts.{Waits, WaitsWithin};
 ghost use Rattle.wire_stream.specs.Streams.{OfStream, HasCauseOf};
 
 use crate::body::read_body;
@@ -31,6 +32,7 @@ fn read_rest<S: Source>(
     requires { (line : Line) × IsLine line × IsHead line head }
     ensures rest { IfOk result (λ x. (line : Line) → IsHead line head → IsRest (S.left input.old) (S.left input.new) hand.old hand.new line x.0 x.1) }
     ensures short { IfOk result (λ x. x.1 < 2 ^ 32) }
+    ensures failed { IsErrOf result Trouble.Failed → (line : Line) → IsHead line head → (n : ℕ) × (body_length line ≡ Some n) × WaitsWithin (S.left input.old) (S.left input.new) hand.old n }
     ensures bad { IsErrOf result Trouble.Bad → (line : Line) → IsHead line head → OfStream (S.left input.old) hand.old (IsNoRest line) }
     ensures cause { HasCauseOf (S.faults input.old) (S.faults input.new) result }
 {
@@ -56,9 +58,10 @@ pub fn read_command<S: Source>(
     ensures used { IfOk result (λ x. Used (S.left input.old) (S.left input.new) hand.old hand.new x.0 x.1) }
     ensures short { IfOk result (λ x. x.1 < 2 ^ 63) }
     ensures bad { IsErrOf result Trouble.Bad → OfStream (S.left input.old) hand.old BeginsNone }
+    ensures failed { IsErrOf result Trouble.Failed → Waits (S.left input.old) (S.left input.new) hand.old }
     ensures cause { HasCauseOf (S.faults input.old) (S.faults input.new) result }
 {
-    let end = read_line(hand, input)?;
+    let end = read_line(alloc, hand, input)?;
     let head = take_line(alloc, hand, end)?;
     let (wire, rest) = read_rest(alloc, hand, input, head)?;
     Ok((wire, end as u64 + 1 + rest))

@@ -1,8 +1,9 @@
 //! A stream that is read command by command.
 
-ghost use Rattle.std.specs.Prelude.{◌≡◌, [], List, ℕ, true, false, IfOk, IfErr, OnOk, OnErr};
+ghost use Rattle.std.specs.Prelude.{◌≡◌, [], List, ℕ, true, false, IfOk, IfErr, OnOk, OnErr, IsErrOf};
 ghost use Rattle.wire_stream.specs.Lines.{Line};
 ghost use Rattle.wire_stream.specs.Commands.{Begins};
+ghost use Rattle.wire_stream.specs.Fronts.{Waits};
 ghost use Rattle.wire_stream.specs.Feeds.{FeedState, Next, IsFault, HasWireCause, fault_of};
 
 use crate::command::read_command;
@@ -28,7 +29,8 @@ pub struct Feed {
 
 impl Model for Feed {
     ghost use Rattle.std.specs.Prelude.{◌≤◌};
-    ghost use Rattle.wire_stream.specs.Feeds.{FeedState};
+    ghost use Rattle.wire_stream.specs.Fronts.{Waits};
+ghost use Rattle.wire_stream.specs.Feeds.{FeedState};
 
     ghost Value = { FeedState };
 
@@ -68,6 +70,7 @@ pub fn next_command<S: Source>(feed: &mut Feed, input: &mut S) -> Result<Wire, W
     requires { feed.old.failed ≡ false }
     ensures next { IfOk result (Next (S.left input.old) (S.left input.new) feed.old feed.new) }
     ensures fault { IfErr result (IsFault (S.left input.old) feed.old) }
+    ensures waits { IsErrOf result WireFault.Failed → Waits (S.left input.old) (S.left input.new) feed.old.hand }
     ensures cause { HasWireCause (S.faults input.old) (S.faults input.new) result }
     ensures going { OnOk result (feed.new.failed ≡ false) }
     ensures stopped { OnErr result ((feed.new.place ≡ feed.old.place) × (feed.new.failed ≡ true)) }

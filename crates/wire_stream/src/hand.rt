@@ -1,7 +1,7 @@
 //! The bytes in hand: those that were read and not yet used.
 
 ghost use Rattle.std.specs.Prelude.{◌≡◌, ◌≤◌, ◌+◌, ◌++◌, [], length, drop, OnOk, OnErr, IfOk, IsErrOf};
-ghost use Rattle.std.specs.Io.KnownBytes.{IsAtEnd};
+ghost use Rattle.std.specs.Io.KnownBytes.{IsAtEnd, Keeps};
 ghost use Rattle.wire_stream.specs.Streams.{Uses, HasCauseOf};
 
 use crate::trouble::Trouble;
@@ -82,6 +82,7 @@ pub fn fill<S: Source>(hand: &mut Hand, input: &mut S) -> Result<usize, Trouble>
     ensures end { IfOk result (λ n. n ≡ 0 → IsAtEnd (S.left input.old)) }
     ensures same { IfOk result (λ n. n ≡ 0 → hand.new ≡ hand.old) }
     ensures good { IsErrOf result Trouble.Bad → ⊥ }
+    ensures failed { IsErrOf result Trouble.Failed → Keeps (S.left input.old) (S.left input.new) }
     ensures cause { HasCauseOf (S.faults input.old) (S.faults input.new) result }
 {
     let mut buf = [0u8; PIECE];

@@ -1,22 +1,24 @@
 //! What stands in a command before its body.
 
-ghost use Rattle.std.specs.Prelude.{◌≡◌, ◌+◌, ◌<◌, ◌++◌, [], false, List, ℕ, length, take, drop, IsTrue, IfOk, OnOk, IsErrOf};
+ghost use Rattle.std.specs.Prelude.{◌≡◌, ◌+◌, [], List, ℕ, take, drop, IfOk, OnOk, IsErrOf};
 ghost use Rattle.wire_stream.specs.Lines.{Line};
 ghost use Rattle.wire_stream.specs.Asked.{line_of, IsLineOf, IsNoLine};
 ghost use Rattle.wire_stream.specs.Commands.{BeginsNone};
-ghost use Rattle.wire_stream.specs.Heads.{IsHead, IsLineEnd, Lacks};
+ghost use Rattle.wire_stream.specs.Fronts.{IsLineFront};
+ghost use Rattle.wire_stream.specs.Heads.{IsHead, IsLineEnd};
 ghost use Rattle.wire_stream.specs.Streams.{Uses, OfStream, HasCauseOf};
 
 use crate::hand::{fill, Hand};
 use crate::line::{asked_of, Asked};
+use crate::open::is_open;
 use crate::trouble::Trouble;
 use crate::wire::Wire;
+use memchr::memchr;
 use node_tree::{Memory, Text};
 use scan_world::Source;
 use std::alloc::Global;
-use memchr::memchr;
 
-// More bytes than the longest line has.
+// The most bytes that a line has, with its end.
 const MOST_LINE: usize = 1040;
 
 /// A command without its body.
@@ -46,27 +48,26 @@ fn head_of(alloc: Global, asked: Asked<'_>) -> Result<Head, Memory>
     })
 }
 
-/// Whether bytes without a line's end may go on to a line.
-fn is_open(bytes: &[u8]) -> bool
-    requires { Lacks 10 bytes.now }
-    ensures open { IsTrue result → length bytes.now < MOST_LINE }
-    ensures closed { (result ≡ false) → (more : List ℕ) → BeginsNone (bytes.now ++ more) }
-{
-    bytes.len() < MOST_LINE
-}
-
 /// Reads until a line's end is in hand, and tells its place.
-pub fn read_line<S: Source>(hand: &mut Hand, input: &mut S) -> Result<usize, Trouble>
+pub fn read_line<S: Source>(
+    alloc: Global,
+    hand: &mut Hand,
+    input: &mut S,
+) -> Result<usize, Trouble>
     ensures end { IfOk result (IsLineEnd hand.new) }
     ensures uses { OnOk result (Uses (S.left input.old) (S.left input.new) hand.old hand.new []) }
     ensures bad { IsErrOf result Trouble.Bad → OfStream (S.left input.old) hand.old BeginsNone }
+    ensures failed { IsErrOf result Trouble.Failed → (bytes : List ℕ) × IsLineFront bytes × Uses (S.left input.old) (S.left input.new) hand.old [] bytes }
     ensures cause { HasCauseOf (S.faults input.old) (S.faults input.new) result }
 {
     for _ in 0..=MOST_LINE {
         if let Some(end) = memchr(b'\n', hand.as_slice()) {
             return Ok(end);
         }
-        if !is_open(hand.as_slice()) || fill(hand, input)? == 0 {
+        if !is_open(alloc, hand.as_slice())? {
+            return Err(Trouble::Bad);
+        }
+        if fill(hand, input)? == 0 {
             return Err(Trouble::Bad);
         }
     }

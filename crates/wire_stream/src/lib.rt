@@ -13,6 +13,7 @@ mod feed;
 mod hand;
 mod head;
 mod line;
+mod open;
 mod trouble;
 mod wire;
 

@@ -27,14 +27,14 @@ pub enum Asked<'l> {
 }
 
 /// What follows a word at the front of a line.
-fn after<'l>(word: &[u8], line: &'l [u8]) -> Option<&'l [u8]>
+pub fn after<'l>(word: &[u8], line: &'l [u8]) -> Option<&'l [u8]>
     ensures { MatchOption result ((rest : List ℕ) → line.now ≡ word.now ++ rest → ⊥) (λ rest. line.now ≡ word.now ++ rest.now) }
 {
     line.strip_prefix(word)
 }
 
 /// The text of a path.
-fn name(bytes: &[u8]) -> Option<&str>
+pub fn name(bytes: &[u8]) -> Option<&str>
     ensures { MatchOption result (IsName bytes.now → ⊥) (λ text. IsName bytes.now × (text.now ≡ bytes.now)) }
 {
     match from_utf8(bytes) {
@@ -54,11 +54,13 @@ fn prefix(bytes: &[u8]) -> Option<&str>
 }
 
 /// The length that bytes write.
-fn size(bytes: &[u8]) -> Option<u64>
+pub fn size(bytes: &[u8]) -> Option<u64>
     ensures { MatchOption result ((n : ℕ) → n ≤ 268435456 → bytes.now ≡ decimal n → ⊥) (λ n. (n ≤ 268435456) × (bytes.now ≡ decimal n)) }
 {
-    let word = from_utf8(bytes).ok()?;
-    number(word, MOST_BODY)
+    match from_utf8(bytes) {
+        Ok(word) => number(word, MOST_BODY),
+        Err(_) => None,
+    }
 }
 
 /// A length, a space and a path.

@@ -81,8 +81,7 @@ fn tells_a_bad_front_before_a_read_that_fails(rt: HostRuntime) -> Result<(), Fai
         assert_eq!(rt; got.as_str(), "bad at 0");
     }
     for front in [
-        b"".as_slice(),
-        b"p",
+        b"p".as_slice(),
         b"put 268435456",
         b"put 1 a/.",
         b"del a/..",

@@ -64,7 +64,7 @@ fn refuses_other_words_and_lengths(rt: HostRuntime) -> Result<(), Fail> {
         assert!(rt; reads(alloc, line, "bad at 0")?);
     }
     assert!(rt; reads(alloc, b"put 268435456 a\nx\n", "bad at 0")?);
-    assert!(rt; reads(alloc, b"del a b\nsync \xe2\x82\xac\n", "del a b;sync \u{20ac};bad at 13")?);
+    assert!(rt; reads(alloc, b"del a b\nsync \xe2\x82\xac\n", "del a b;sync \u{20ac};bad at 17")?);
     Ok(())
 }
 
