@@ -2,7 +2,7 @@
 use Rattle.std.proofs.Common.{◌≡◌, ℕ, zero, suc, ◌+◌, ◌-◌, ◌<◌, ◌≤◌, List, [], ◌∷◌, ◌++◌, length, take, drop, refl, sym, ap, ◌∙◌, subst, arith, append_assoc, append-nil, length-append}
 use Rattle.std.specs.Prelude.{Option, Some, None, min}
 use Rattle.std.specs.Io.KnownBytes.{Keeps}
-use Rattle.std.proofs.lemmas.List.{length-take, take-append-drop}
+use Rattle.std.proofs.lemmas.List.{length-take, take-append-drop, take_all}
 use Rattle.wire_stream.specs.Bodies.{IsEmpty, IsNoEnd, IsFront, IsNoFront, IsWhole, IsNoWhole}
 use Rattle.wire_stream.specs.Fronts.{WaitsWithin}
 use Rattle.wire_stream.specs.Streams.{Uses, OfStream}
@@ -26,12 +26,8 @@ take_append (suc m) (x ∷ xs) ys =
     let e : m - length (take m xs) ≡ suc m - suc (length (take m xs)) = omega arith in
     ap (λ (l : List ℕ). x ∷ l) (take_append m xs ys ∙ ap (λ (k : ℕ). take m xs ++ take k ys) e)
 
-pub reading_start : (a : Option (List ℕ)) (h : List ℕ) (size most : ℕ) → Reading a a h h size most size []
-reading_start a h size most = record { body = []; counted = omega arith; is = nothing most; uses = uses_nothing a h }
-  where
-    nothing : (most : ℕ) → [] ≡ take most []
-    nothing zero = refl
-    nothing (suc n) = refl
+pub reading_start : (a : Option (List ℕ)) (h : List ℕ) (size most : ℕ) (kept : List ℕ) → kept ≡ [] → Reading a a h h size most size kept
+reading_start a h size most kept e = record { body = []; counted = omega arith; is = e ∙ sym (take_all most [] (omega arith)); uses = uses_nothing a h }
 
 -- after a piece
 pub reading_more : (a b c : Option (List ℕ)) (h k m m2 : List ℕ) (size most left n : ℕ) (kept kept2 : List ℕ) → Reading a b h k size most left kept → Uses b c k m []

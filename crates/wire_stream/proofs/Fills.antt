@@ -1,6 +1,6 @@
 -- How the front of a name goes on to a name.
 use Rattle.std.proofs.Common.{◌≡◌, ◌≢◌, ◌⊎◌, inl, inr, ℕ, zero, suc, ◌+◌, ◌-◌, ◌*◌, ◌/◌, ◌%◌, ◌<◌, ◌≤◌, Bool, true, false, cond, List, [], ◌∷◌, ◌++◌, length, refl, sym, ap, ◌∙◌, subst, arith, append_assoc, append-nil, length-append, eqb, ltb, le-ltb, lt-ltb, le-leb}
-use Rattle.std.specs.Prelude.{All, codes, ◌||◌}
+use Rattle.std.specs.Prelude.{All, codes, ◌||◌, ◌&&◌}
 use Rattle.std.specs.Str.{IsUtf8}
 use Rattle.std.specs.List.{slice_split, onto_first, list_any}
 use Rattle.std.proofs.lemmas.Bool.{cases_lt, and_parts, ltb-false}
@@ -183,6 +183,10 @@ no_front : (front back : List ℕ) → [] ≡ front ++ back → front ≡ []
 no_front [] back e = refl
 no_front (x ∷ front) back e = absurd cc
 
+and_true : (a b : Bool) → a ≡ true → b ≡ true → (a && b) ≡ true
+and_true true b p q = q
+and_true false b p q = absurd cc
+
 cut : (cs front back : List ℕ) → scalars cs ≡ true → encodes cs ≡ front ++ back → Cut front back
 cut [] front back s e = record {
   whole = []; part = []; other = 97 ∷ []; char = 97; good = refl; scalar_char = low_scalar 97 (omega arith);
@@ -198,7 +202,7 @@ cut (c ∷ cs) front back s e = let t = and_parts (scalar c) (scalars cs) s in e
       let o = overlap (encode c) (encodes cs) front back e le in
       let k = cut cs o.0 back t.1 o.2 in
       record {
-        whole = c ∷ k.whole; part = k.part; other = k.other; char = k.char; good = rw (t.0, k.good) refl; scalar_char = k.scalar_char;
+        whole = c ∷ k.whole; part = k.part; other = k.other; char = k.char; good = and_true (scalar c) (scalars k.whole) t.0 k.good; scalar_char = k.scalar_char;
         are = o.1 ∙ ap (λ (l : List ℕ). encode c ++ l) k.are ∙ sym (append_assoc (encode c) (encodes k.whole) k.part); parts = k.parts; some = k.some; within = k.within;
       }
 ]

@@ -1,16 +1,16 @@
 -- What goes on to a line.
 use Rattle.std.proofs.Common.{◌≡◌, ◌⊎◌, inl, inr, ℕ, zero, suc, ◌+◌, ◌*◌, ◌/◌, ◌%◌, ◌<◌, ◌≤◌, ◌^◌, List, [], ◌∷◌, ◌++◌, length, get_or, take, drop, Bool, true, false, eqb, eq-eqb, refl, sym, ap, ◌∙◌, subst, arith, append_assoc, append-nil, length-append}
-use Rattle.std.specs.Prelude.{codes, All}
+use Rattle.std.specs.Prelude.{codes, All, ◌==◌}
 use Rattle.std.specs.Fmt.{decimal}
 use Rattle.std.specs.Str.{IsUtf8}
 use Rattle.std.proofs.lemmas.Bool.{cases_lt}
 use Rattle.std.proofs.lemmas.Fmt.{decimal_by_steps, decimal_step, decimal_digit, decimal_nonempty}
 use Rattle.std.proofs.lemmas.List.{append_cancel_left}
 use Rattle.memchr.specs.Find.{is_byte, IsFirstByte}
-use Rattle.std.specs.Prelude.{Option, None, Some}
+use Rattle.std.specs.Prelude.{Option, None, Some, Result, Ok, Err, IfOk}
 use Rattle.path_glob.specs.Path.{IsPath}
 use Rattle.wire_stream.specs.Lines.{Line, Put, Del, Rule, Unrule, Sync, Scan, Fix, End, sized_bytes, line_bytes, IsName, IsPrefix, IsSized, IsLine}
-use Rattle.wire_stream.specs.Fronts.{IsLineFront, IsSizedFront, IsFrontOf, IsWordFront}
+use Rattle.wire_stream.specs.Fronts.{IsLineFront, IsSizedFront, IsFrontOf, IsNamedFront, IsBareFront}
 use Rattle.wire_stream.specs.Heads.{Lacks}
 use Rattle.wire_stream.proofs.Firsts.{lacks_by_test, front_before}
 use Rattle.wire_stream.proofs.Lines.{line_short}
@@ -104,15 +104,17 @@ not_spaced bytes at f none s =
 front_of_all : (word bytes rest tail : List ℕ) → word ≡ bytes ++ rest → word ++ tail ≡ bytes ++ (rest ++ tail)
 front_of_all word bytes rest tail e = ap (λ (l : List ℕ). l ++ tail) e ∙ append_assoc bytes rest tail
 
-pub word_line : (bytes : List ℕ) → IsWordFront bytes → IsLineFront bytes
-word_line bytes (inl w) = record { line = Put 0 (97 ∷ []); rest = w.0 ++ sized_bytes 0 (97 ∷ []); good = some_sized; are = front_of_all (codes "put ") bytes w.0 (sized_bytes 0 (97 ∷ [])) w.1 }
-word_line bytes (inr (inl w)) = record { line = Del (97 ∷ []); rest = w.0 ++ (97 ∷ []); good = letter_name; are = front_of_all (codes "del ") bytes w.0 (97 ∷ []) w.1 }
-word_line bytes (inr (inr (inl w))) = record { line = Rule 0 (97 ∷ []); rest = w.0 ++ sized_bytes 0 (97 ∷ []); good = some_sized; are = front_of_all (codes "rule ") bytes w.0 (sized_bytes 0 (97 ∷ [])) w.1 }
-word_line bytes (inr (inr (inr (inl w)))) = record { line = Unrule (97 ∷ []); rest = w.0 ++ (97 ∷ []); good = letter_name; are = front_of_all (codes "unrule ") bytes w.0 (97 ∷ []) w.1 }
-word_line bytes (inr (inr (inr (inr (inl w))))) = record { line = Sync (97 ∷ []); rest = w.0 ++ (97 ∷ []); good = inl letter_name; are = front_of_all (codes "sync ") bytes w.0 (97 ∷ []) w.1 }
-word_line bytes (inr (inr (inr (inr (inr (inl w)))))) = record { line = Scan; rest = w.0; good = tt; are = w.1 }
-word_line bytes (inr (inr (inr (inr (inr (inr (inl w))))))) = record { line = Fix; rest = w.0; good = tt; are = w.1 }
-word_line bytes (inr (inr (inr (inr (inr (inr (inr w))))))) = record { line = End; rest = w.0; good = tt; are = w.1 }
+pub named_line : (bytes : List ℕ) → IsNamedFront bytes → IsLineFront bytes
+named_line bytes (inl w) = record { line = Put 0 (97 ∷ []); rest = w.0 ++ sized_bytes 0 (97 ∷ []); good = some_sized; are = front_of_all (codes "put ") bytes w.0 (sized_bytes 0 (97 ∷ [])) w.1 }
+named_line bytes (inr (inl w)) = record { line = Del (97 ∷ []); rest = w.0 ++ (97 ∷ []); good = letter_name; are = front_of_all (codes "del ") bytes w.0 (97 ∷ []) w.1 }
+named_line bytes (inr (inr (inl w))) = record { line = Rule 0 (97 ∷ []); rest = w.0 ++ sized_bytes 0 (97 ∷ []); good = some_sized; are = front_of_all (codes "rule ") bytes w.0 (sized_bytes 0 (97 ∷ [])) w.1 }
+named_line bytes (inr (inr (inr (inl w)))) = record { line = Unrule (97 ∷ []); rest = w.0 ++ (97 ∷ []); good = letter_name; are = front_of_all (codes "unrule ") bytes w.0 (97 ∷ []) w.1 }
+named_line bytes (inr (inr (inr (inr w)))) = record { line = Sync (97 ∷ []); rest = w.0 ++ (97 ∷ []); good = inl letter_name; are = front_of_all (codes "sync ") bytes w.0 (97 ∷ []) w.1 }
+
+pub bare_line : (bytes : List ℕ) → IsBareFront bytes → IsLineFront bytes
+bare_line bytes (inl w) = record { line = Scan; rest = w.0; good = tt; are = w.1 }
+bare_line bytes (inr (inl w)) = record { line = Fix; rest = w.0; good = tt; are = w.1 }
+bare_line bytes (inr (inr w)) = record { line = End; rest = w.0; good = tt; are = w.1 }
 
 -- the bytes begin with none of the words that a name follows
 pub record BeginsNoWord (bytes : List ℕ) : Type 0 where
@@ -128,18 +130,18 @@ front_of_word word tail bytes rest e none = elim (cases_lt (length word) (length
   | inr le ↦ let o = overlap bytes rest word tail (sym e) le in (o.0, o.1)
 ]
 
-pub line_word : (bytes : List ℕ) → BeginsNoWord bytes → IsLineFront bytes → IsWordFront bytes
-line_word bytes b f = by_line f.line f.are
+pub line_word : (bytes : List ℕ) → BeginsNoWord bytes → (IsNamedFront bytes → ⊥) → (IsBareFront bytes → ⊥) → IsLineFront bytes → ⊥
+line_word bytes b named bare f = by_line f.line f.are
   where
-    by_line : (line : Line) → line_bytes line ≡ bytes ++ f.rest → IsWordFront bytes
-    by_line (Put n path) e = inl (front_of_word (codes "put ") (sized_bytes n path) bytes f.rest e b.put)
-    by_line (Del path) e = inr (inl (front_of_word (codes "del ") path bytes f.rest e b.del))
-    by_line (Rule n name) e = inr (inr (inl (front_of_word (codes "rule ") (sized_bytes n name) bytes f.rest e b.rule)))
-    by_line (Unrule name) e = inr (inr (inr (inl (front_of_word (codes "unrule ") name bytes f.rest e b.unrule))))
-    by_line (Sync prefix) e = inr (inr (inr (inr (inl (front_of_word (codes "sync ") prefix bytes f.rest e b.sync)))))
-    by_line Scan e = inr (inr (inr (inr (inr (inl (f.rest, e))))))
-    by_line Fix e = inr (inr (inr (inr (inr (inr (inl (f.rest, e)))))))
-    by_line End e = inr (inr (inr (inr (inr (inr (inr (f.rest, e)))))))
+    by_line : (line : Line) → line_bytes line ≡ bytes ++ f.rest → ⊥
+    by_line (Put n path) e = named (inl (front_of_word (codes "put ") (sized_bytes n path) bytes f.rest e b.put))
+    by_line (Del path) e = named (inr (inl (front_of_word (codes "del ") path bytes f.rest e b.del)))
+    by_line (Rule n name) e = named (inr (inr (inl (front_of_word (codes "rule ") (sized_bytes n name) bytes f.rest e b.rule))))
+    by_line (Unrule name) e = named (inr (inr (inr (inl (front_of_word (codes "unrule ") name bytes f.rest e b.unrule)))))
+    by_line (Sync prefix) e = named (inr (inr (inr (inr (front_of_word (codes "sync ") prefix bytes f.rest e b.sync)))))
+    by_line Scan e = bare (inl (f.rest, e))
+    by_line Fix e = bare (inr (inl (f.rest, e)))
+    by_line End e = bare (inr (inr (f.rest, e)))
 
 -- ---- lines that begin with a word
 
@@ -225,3 +227,19 @@ no_sync bytes front e none f = by_line f.line f.good f.are
 
 pub front_short : (bytes : List ℕ) → IsLineFront bytes → length bytes ≤ 1039
 front_short bytes f = let n : length (line_bytes f.line) ≡ length bytes + length f.rest = ap length f.are ∙ length-append bytes f.rest in let m = line_short f.line f.good in omega arith
+
+-- ---- what a test of a front tells of a longer one
+
+pub if_ok_more : {E : Type 0} (r : Result Bool E) (P Q : Bool → Type 0) → ((b : Bool) → P b → Q b) → IfOk r P → IfOk r Q
+if_ok_more (Ok b) P Q f p = f b p
+if_ok_more (Err e) P Q f p = tt
+
+-- ---- what a test of emptiness tells
+
+pub empty_bytes : (bytes : List ℕ) (b : Bool) → b ≡ true → b ≡ (length bytes == 0) → bytes ≡ []
+empty_bytes [] b t e = refl
+empty_bytes (x ∷ bytes) b t e = absurd cc
+
+pub some_bytes : (bytes : List ℕ) (b : Bool) → b ≡ false → b ≡ (length bytes == 0) → 0 < length bytes
+some_bytes [] b f e = absurd cc
+some_bytes (x ∷ bytes) b f e = omega arith

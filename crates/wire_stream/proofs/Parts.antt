@@ -39,3 +39,6 @@ pub sized_whole : (bytes : List ℕ) (at : ℕ) → IsFirstByte (is_byte 32) byt
 sized_whole bytes at f n name small e =
     let t = sized_parts bytes at f n name [] small (append-nil bytes ∙ e) in
     (t.0, sym (append-nil (drop (at + 1) bytes)) ∙ t.1)
+
+pub lacks_is : (bytes hand : List ℕ) → bytes ≡ hand → Lacks 10 bytes → Lacks 10 hand
+lacks_is bytes hand e l = let P : List ℕ → Type 0 = λ x. Lacks 10 x in subst P e l

@@ -1,8 +1,8 @@
 -- What is used of a stream, step after step.
 use Rattle.std.proofs.Common.{◌≡◌, ℕ, List, [], ◌∷◌, ◌++◌, refl, sym, ap, ◌∙◌, subst, append_assoc, append-nil}
-use Rattle.std.specs.Prelude.{Option, Some, None, Result, Ok, Err}
+use Rattle.std.specs.Prelude.{Option, Some, None, Result, Ok, Err, IsErrOf}
 use Rattle.std.specs.Io.KnownBytes.{Consumes, Keeps, IsAtEnd}
-use Rattle.wire_stream.specs.Streams.{Uses, OfStream, HasCauseOf}
+use Rattle.wire_stream.specs.Streams.{Uses, OfStream, HasTroubleCause}
 use Rattle.wire_stream.specs.declared.trouble.Trouble.{Trouble}
 use Rattle.wire_stream.specs.declared.trouble.Trouble.TheVariants.{Memory, Failed, Bad}
 
@@ -66,7 +66,13 @@ told_also None h P Q f q = tt
 told_also (Some xs) h P Q f q = f (h ++ xs) q
 
 -- the cause of a trouble that is passed on
-pub cause_on : (T U : Type 0) (a b c : ℕ) (e : Trouble) → b ≡ a → HasCauseOf {T = T} b c (Err e) → HasCauseOf {T = U} a c (Err e)
-cause_on T U a b c Memory same h = h ∙ same
-cause_on T U a b c Failed same h = let Q : ℕ → Type 0 = λ n. HasCauseOf {T = U} n c (Err Failed) in subst Q same h
-cause_on T U a b c Bad same h = h ∙ same
+pub cause_on : (a b c : ℕ) (e : Trouble) → b ≡ a → HasTroubleCause b c e → HasTroubleCause a c e
+cause_on a b c Memory same h = h ∙ same
+cause_on a b c Failed same h = let Q : ℕ → Type 0 = λ n. HasTroubleCause n c Failed in subst Q same h
+cause_on a b c Bad same h = h ∙ same
+
+-- a trouble without a read
+pub cause_none : (T : Type 0) (a b : ℕ) (e : Trouble) → (IsErrOf {T = T} (Err e) Failed → ⊥) → b ≡ a → HasTroubleCause a b e
+cause_none T a b Memory none same = same
+cause_none T a b Failed none same = absurd (none refl)
+cause_none T a b Bad none same = same

@@ -23,11 +23,14 @@ pub record IsSizedFront (bytes : List ℕ) : Type 0 where
 abbrev pub IsFrontOf : List ℕ → List ℕ → Type 0
 IsFrontOf whole bytes = (rest : List ℕ) × (whole ≡ bytes ++ rest)
 
--- the bytes are a front of a word, with the space that follows it where one does
-abbrev pub IsWordFront : List ℕ → Type 0
-IsWordFront bytes =
-    IsFrontOf (codes "put ") bytes ⊎ (IsFrontOf (codes "del ") bytes ⊎ (IsFrontOf (codes "rule ") bytes ⊎ (IsFrontOf (codes "unrule ") bytes
-    ⊎ (IsFrontOf (codes "sync ") bytes ⊎ (IsFrontOf (codes "scan") bytes ⊎ (IsFrontOf (codes "fix") bytes ⊎ IsFrontOf (codes "end") bytes))))))
+-- the bytes are a front of a word that a name follows, and of the space between
+abbrev pub IsNamedFront : List ℕ → Type 0
+IsNamedFront bytes =
+    IsFrontOf (codes "put ") bytes ⊎ (IsFrontOf (codes "del ") bytes ⊎ (IsFrontOf (codes "rule ") bytes ⊎ (IsFrontOf (codes "unrule ") bytes ⊎ IsFrontOf (codes "sync ") bytes)))
+
+-- the bytes are a front of a word that stands alone
+abbrev pub IsBareFront : List ℕ → Type 0
+IsBareFront bytes = IsFrontOf (codes "scan") bytes ⊎ (IsFrontOf (codes "fix") bytes ⊎ IsFrontOf (codes "end") bytes)
 
 -- the bytes are a front of a command, and not all of it
 pub record IsCommandFront (bytes : List ℕ) : Type 0 where

@@ -15,7 +15,12 @@ abbrev pub OfStream : Option (List ℕ) → List ℕ → (List ℕ → Type 0) �
 OfStream None hand P = ⊤
 OfStream (Some left) hand P = P (hand ++ left)
 
+-- a failed read has raised the count of faults, and another trouble leaves it
+abbrev pub HasTroubleCause : ℕ → ℕ → Trouble → Type 0
+HasTroubleCause before after Failed = Rose before after
+HasTroubleCause before after _ = after ≡ before
+
 -- a call that a failed read ended has raised the count of faults, and another one leaves it
 abbrev pub HasCauseOf : {T : Type 0} → ℕ → ℕ → Result T Trouble → Type 0
-HasCauseOf before after (Err Failed) = Rose before after
-HasCauseOf before after _ = after ≡ before
+HasCauseOf before after (Ok x) = after ≡ before
+HasCauseOf before after (Err trouble) = HasTroubleCause before after trouble

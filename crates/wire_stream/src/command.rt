@@ -1,6 +1,6 @@
 //! A whole command.
 
-ghost use Rattle.std.specs.Prelude.{◌≡◌, ◌<◌, ◌≤◌, ◌^◌, List, ℕ, IfOk, IsErrOf};
+ghost use Rattle.std.specs.Prelude.{◌≡◌, ◌<◌, ◌+◌, ◌^◌, ℕ, Some, IfOk, IsErrOf};
 ghost use Rattle.wire_stream.specs.Lines.{Line, IsLine};
 ghost use Rattle.wire_stream.specs.Commands.{body_length, BeginsNone};
 ghost use Rattle.wire_stream.specs.Heads.{IsHead, IsRest, IsNoRest};
@@ -56,7 +56,7 @@ pub fn read_command<S: Source>(
     input: &mut S,
 ) -> Result<(Wire, u64), Trouble>
     ensures used { IfOk result (λ x. Used (S.left input.old) (S.left input.new) hand.old hand.new x.0 x.1) }
-    ensures short { IfOk result (λ x. x.1 < 2 ^ 63) }
+    ensures short { IfOk result (λ x. x.1 < 2 ^ 63 + 2 ^ 33) }
     ensures bad { IsErrOf result Trouble.Bad → OfStream (S.left input.old) hand.old BeginsNone }
     ensures failed { IsErrOf result Trouble.Failed → Waits (S.left input.old) (S.left input.new) hand.old }
     ensures cause { HasCauseOf (S.faults input.old) (S.faults input.new) result }

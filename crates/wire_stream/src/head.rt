@@ -1,6 +1,6 @@
 //! What stands in a command before its body.
 
-ghost use Rattle.std.specs.Prelude.{◌≡◌, ◌+◌, [], List, ℕ, take, drop, IfOk, OnOk, IsErrOf};
+ghost use Rattle.std.specs.Prelude.{◌≡◌, ◌+◌, ◌<◌, ◌^◌, [], List, ℕ, take, drop, IfOk, OnOk, IsErrOf};
 ghost use Rattle.wire_stream.specs.Lines.{Line};
 ghost use Rattle.wire_stream.specs.Asked.{line_of, IsLineOf, IsNoLine};
 ghost use Rattle.wire_stream.specs.Commands.{BeginsNone};
@@ -55,19 +55,23 @@ pub fn read_line<S: Source>(
     input: &mut S,
 ) -> Result<usize, Trouble>
     ensures end { IfOk result (IsLineEnd hand.new) }
+    ensures short { IfOk result (λ end. end < 2 ^ 63) }
     ensures uses { OnOk result (Uses (S.left input.old) (S.left input.new) hand.old hand.new []) }
     ensures bad { IsErrOf result Trouble.Bad → OfStream (S.left input.old) hand.old BeginsNone }
     ensures failed { IsErrOf result Trouble.Failed → (bytes : List ℕ) × IsLineFront bytes × Uses (S.left input.old) (S.left input.new) hand.old [] bytes }
     ensures cause { HasCauseOf (S.faults input.old) (S.faults input.new) result }
 {
     for _ in 0..=MOST_LINE {
-        if let Some(end) = memchr(b'\n', hand.as_slice()) {
+        let bytes = hand.as_slice();
+        if let Some(end) = memchr(b'\n', bytes) {
             return Ok(end);
         }
-        if !is_open(alloc, hand.as_slice())? {
+        let open = is_open(alloc, bytes)?;
+        if !open {
             return Err(Trouble::Bad);
         }
-        if fill(hand, input)? == 0 {
+        let count = fill(hand, input)?;
+        if count == 0 {
             return Err(Trouble::Bad);
         }
     }

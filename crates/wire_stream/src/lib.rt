@@ -5,7 +5,7 @@
 //! is decimal without leading zeros, at most 268,435,456. PATH and NAME are paths in UTF-8, PREFIX is a path or `.`. There are
 //! no other spellings. A body is read whole, and only a front of a long one is kept, so the memory that a stream takes is that
 //! of its longest kept body.
-#![tactic(auto)]
+#![tactic(none)]
 
 mod body;
 mod command;

@@ -1,8 +1,9 @@
 //! Fronts of lines.
 
 ghost use Rattle.std.specs.Prelude.{◌≡◌, ◌++◌, ◌↔◌, false, ℕ, List, IsTrue, IfOk};
+ghost use Rattle.memchr.specs.Find.{is_byte, IsFirstByte};
 ghost use Rattle.wire_stream.specs.Lines.{IsName};
-ghost use Rattle.wire_stream.specs.Fronts.{IsLineFront, IsSizedFront, IsWordFront};
+ghost use Rattle.wire_stream.specs.Fronts.{IsLineFront, IsSizedFront, IsFrontOf, IsNamedFront, IsBareFront};
 
 use crate::line::{after, name, size};
 use memchr::memchr;
@@ -25,13 +26,58 @@ fn opens_name(alloc: Global, bytes: &[u8]) -> Result<bool, Memory>
     ensures closed { IfOk result (λ b. b ≡ false → (more : List ℕ) → IsName (bytes.now ++ more) → ⊥) }
 {
     let bare = is_name_with(alloc, bytes, b"")?;
+    if bare {
+        return Ok(true);
+    }
     let letter = is_name_with(alloc, bytes, b"a")?;
+    if letter {
+        return Ok(true);
+    }
     let one = is_name_with(alloc, bytes, b"\x80")?;
+    if one {
+        return Ok(true);
+    }
     let pair = is_name_with(alloc, bytes, b"\x80\x80")?;
+    if pair {
+        return Ok(true);
+    }
     let triple = is_name_with(alloc, bytes, b"\x80\x80\x80")?;
+    if triple {
+        return Ok(true);
+    }
     let high_pair = is_name_with(alloc, bytes, b"\xa0\x80")?;
+    if high_pair {
+        return Ok(true);
+    }
     let high_triple = is_name_with(alloc, bytes, b"\x90\x80\x80")?;
-    Ok(bare || letter || one || pair || triple || high_pair || high_triple)
+    Ok(high_triple)
+}
+
+/// Whether bytes without a space may go on to a length, a space and a name.
+fn opens_size(bytes: &[u8]) -> bool
+    requires { IsFirstByte (is_byte 32) bytes.now None }
+    ensures open { IsTrue result → IsSizedFront bytes.now }
+    ensures closed { result ≡ false → IsSizedFront bytes.now → ⊥ }
+{
+    if bytes.is_empty() {
+        return true;
+    }
+    match size(bytes) {
+        Some(_) => true,
+        None => false,
+    }
+}
+
+/// Whether bytes, whose first space stands at this place, may go on to a length, a space and a name.
+fn opens_spaced(alloc: Global, bytes: &[u8], space: usize) -> Result<bool, Memory>
+    requires { IsFirstByte (is_byte 32) bytes.now (Some space) }
+    ensures open { IfOk result (λ b. IsTrue b → IsSizedFront bytes.now) }
+    ensures closed { IfOk result (λ b. b ≡ false → IsSizedFront bytes.now → ⊥) }
+{
+    match size(&bytes[..space]) {
+        Some(_) => opens_name(alloc, &bytes[space + 1..]),
+        None => Ok(false),
+    }
 }
 
 /// Whether bytes may go on to a length, a space and a name.
@@ -39,27 +85,35 @@ fn opens_sized(alloc: Global, bytes: &[u8]) -> Result<bool, Memory>
     ensures open { IfOk result (λ b. IsTrue b → IsSizedFront bytes.now) }
     ensures closed { IfOk result (λ b. b ≡ false → IsSizedFront bytes.now → ⊥) }
 {
-    let Some(space) = memchr(b' ', bytes) else {
-        return Ok(bytes.is_empty() || size(bytes).is_some());
-    };
-    if size(&bytes[..space]).is_none() {
-        return Ok(false);
+    match memchr(b' ', bytes) {
+        Some(space) => opens_spaced(alloc, bytes, space),
+        None => Ok(opens_size(bytes)),
     }
-    opens_name(alloc, &bytes[space + 1..])
 }
 
 /// Whether bytes are a front of a word.
-fn opens_word(bytes: &[u8]) -> bool
-    ensures { IsTrue result ↔ IsWordFront bytes.now }
+fn begins(bytes: &[u8], word: &[u8]) -> bool
+    ensures { IsTrue result ↔ IsFrontOf word.now bytes.now }
 {
-    after(bytes, b"put ").is_some()
-        || after(bytes, b"del ").is_some()
-        || after(bytes, b"rule ").is_some()
-        || after(bytes, b"unrule ").is_some()
-        || after(bytes, b"sync ").is_some()
-        || after(bytes, b"scan").is_some()
-        || after(bytes, b"fix").is_some()
-        || after(bytes, b"end").is_some()
+    after(bytes, word).is_some()
+}
+
+/// Whether bytes are a front of a word that a name follows, and of the space between.
+fn opens_named(bytes: &[u8]) -> bool
+    ensures { IsTrue result ↔ IsNamedFront bytes.now }
+{
+    begins(bytes, b"put ")
+        || begins(bytes, b"del ")
+        || begins(bytes, b"rule ")
+        || begins(bytes, b"unrule ")
+        || begins(bytes, b"sync ")
+}
+
+/// Whether bytes are a front of a word that stands alone.
+fn opens_bare(bytes: &[u8]) -> bool
+    ensures { IsTrue result ↔ IsBareFront bytes.now }
+{
+    begins(bytes, b"scan") || begins(bytes, b"fix") || begins(bytes, b"end")
 }
 
 /// Whether bytes may go on to a line.
@@ -82,5 +136,5 @@ pub fn is_open(alloc: Global, bytes: &[u8]) -> Result<bool, Memory>
     if let Some(rest) = after(b"sync ", bytes) {
         return opens_name(alloc, rest);
     }
-    Ok(opens_word(bytes))
+    Ok(opens_named(bytes) || opens_bare(bytes))
 }
