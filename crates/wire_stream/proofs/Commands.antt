@@ -22,7 +22,7 @@ same_body (Some n) x y r s g h e =
 pub same_command : (stream : List ℕ) (a b : Line) (x y r s : List ℕ) → Begins stream a x r → Begins stream b y s → (a ≡ b) × (x ≡ y) × (r ≡ s)
 same_command stream a b x y r s f g =
     let t = same_first 10 (line_bytes a) (body_bytes (body_length a) x ++ r) (line_bytes b) (body_bytes (body_length b) y ++ s) (line_lacks a f.good) (line_lacks b g.good)
-        (sym (begins_line stream a x r f) ∙ begins_line stream b y s g) in
+    (sym (begins_line stream a x r f) ∙ begins_line stream b y s g) in
     let same = same_line a b f.good g.good t.0 in
     let P : Line → Type 0 = λ l. IsBody (body_length l) y in
     let Q : Line → Type 0 = λ l. body_bytes (body_length a) x ++ r ≡ body_bytes (body_length l) y ++ s in
@@ -43,9 +43,9 @@ end_lacks bytes end e = lacks_before bytes end 10 e.within e.first
 pub no_line : (bytes : List ℕ) (end : ℕ) → IsLineEnd bytes end → IsNoLine (take end bytes) → (more : List ℕ) → BeginsNone (bytes ++ more)
 no_line bytes end e none more line body rest b =
     let whole : bytes ++ more ≡ take end bytes ++ (10 ∷ (drop (end + 1) bytes ++ more)) =
-        ap (λ (l : List ℕ). l ++ more) (line_parts bytes end e) ∙ append_assoc (take end bytes) (10 ∷ drop (end + 1) bytes) more in
+    ap (λ (l : List ℕ). l ++ more) (line_parts bytes end e) ∙ append_assoc (take end bytes) (10 ∷ drop (end + 1) bytes) more in
     let t = same_first 10 (take end bytes) (drop (end + 1) bytes ++ more) (line_bytes line) (body_bytes (body_length line) body ++ rest) (end_lacks bytes end e) (line_lacks line b.good)
-        (sym whole ∙ begins_line (bytes ++ more) line body rest b) in
+    (sym whole ∙ begins_line (bytes ++ more) line body rest b) in
     none line (record { good = b.good; are = t.0 })
 
 -- where what follows the line isn't its body, no command begins
@@ -53,7 +53,7 @@ pub no_rest : (front : List ℕ) (line : Line) (stream : List ℕ) → IsLineOf 
 no_rest front line stream is none other body rest b =
     let whole : (front ++ (10 ∷ [])) ++ stream ≡ line_bytes line ++ (10 ∷ stream) = append_assoc front (10 ∷ []) stream ∙ ap (λ (l : List ℕ). l ++ (10 ∷ stream)) is.are in
     let t = same_first 10 (line_bytes line) stream (line_bytes other) (body_bytes (body_length other) body ++ rest) (line_lacks line is.good) (line_lacks other b.good)
-        (sym whole ∙ begins_line ((front ++ (10 ∷ [])) ++ stream) other body rest b) in
+    (sym whole ∙ begins_line ((front ++ (10 ∷ [])) ++ stream) other body rest b) in
     let same = same_line line other is.good b.good t.0 in
     let P : Line → Type 0 = λ l. IsBody (body_length l) body in
     let Q : Line → Type 0 = λ l. stream ≡ body_bytes (body_length l) body ++ rest in

@@ -78,7 +78,7 @@ fill2 c s l h (x ∷ []) q e sp sq =
     let t : q ≡ next c ∷ [] = cc in
     let d = c - c % 64 in
     filled (x ∷ []) q one 1 d (ap length t) refl (down_scalar c d s (omega arith) (λ h. omega arith))
-        (two d (omega arith) (omega arith) ∙ bytes2 (192 + d / 64) (next d) x 128 (omega arith) (omega arith))
+    (two d (omega arith) (omega arith) ∙ bytes2 (192 + d / 64) (next d) x 128 (omega arith) (omega arith))
 fill2 c s l h (x ∷ y ∷ p) [] e sp sq = absurd (omega arith)
 fill2 c s l h (x ∷ y ∷ []) (z ∷ q) e sp sq = absurd cc
 fill2 c s l h (x ∷ y ∷ w ∷ p) (z ∷ q) e sp sq = absurd cc
@@ -89,14 +89,14 @@ fill3_one c s l h x q a n = elim (cases_lt c 4096) [
   | inr high ↦
       let d = c - c % 4096 in
       filled (x ∷ []) q pair 2 d n refl (down_scalar c d s (omega arith) (λ h. omega arith))
-          (three d (omega arith) (omega arith) ∙ bytes3 (224 + d / 4096) (next (d / 64)) (next d) x 128 128 (omega arith) (omega arith) (omega arith))
+      (three d (omega arith) (omega arith) ∙ bytes3 (224 + d / 4096) (next (d / 64)) (next d) x 128 128 (omega arith) (omega arith) (omega arith))
 ]
 
 fill3_two : (c : ℕ) → scalar c ≡ true → 2048 ≤ c → c < 65536 → (x y : ℕ) (q : List ℕ) → x ≡ 224 + c / 4096 → y ≡ next (c / 64) → length q ≡ 1 → Filled (x ∷ y ∷ []) q
 fill3_two c s l h x y q a b n =
     let d = c - c % 64 in
     filled (x ∷ y ∷ []) q one 1 d n refl (down_scalar c d s (omega arith) (λ h. omega arith))
-        (three d (omega arith) (omega arith) ∙ bytes3 (224 + d / 4096) (next (d / 64)) (next d) x y 128 (omega arith) (omega arith) (omega arith))
+    (three d (omega arith) (omega arith) ∙ bytes3 (224 + d / 4096) (next (d / 64)) (next d) x y 128 (omega arith) (omega arith) (omega arith))
 
 fill3 : (c : ℕ) → scalar c ≡ true → 2048 ≤ c → c < 65536 → (p q : List ℕ) → p ++ q ≡ (224 + c / 4096) ∷ next (c / 64) ∷ next c ∷ [] → 0 < length p → 0 < length q → Filled p q
 fill3 c s l h [] q e sp sq = absurd (omega arith)
@@ -112,20 +112,20 @@ fill4_one c s l x q a n = elim (cases_lt c 262144) [
   | inr high ↦
       let d = c - c % 262144 in
       filled (x ∷ []) q triple 3 d n refl (down_scalar c d s (omega arith) (λ h. omega arith))
-          (four d (omega arith) ∙ bytes4 (240 + d / 262144) (next (d / 4096)) (next (d / 64)) (next d) x 128 128 128 (omega arith) (omega arith) (omega arith) (omega arith))
+      (four d (omega arith) ∙ bytes4 (240 + d / 262144) (next (d / 4096)) (next (d / 64)) (next d) x 128 128 128 (omega arith) (omega arith) (omega arith) (omega arith))
 ]
 
 fill4_two : (c : ℕ) → scalar c ≡ true → 65536 ≤ c → (x y : ℕ) (q : List ℕ) → x ≡ 240 + c / 262144 → y ≡ next (c / 4096) → length q ≡ 2 → Filled (x ∷ y ∷ []) q
 fill4_two c s l x y q a b n =
     let d = c - c % 4096 in
     filled (x ∷ y ∷ []) q pair 2 d n refl (down_scalar c d s (omega arith) (λ h. omega arith))
-        (four d (omega arith) ∙ bytes4 (240 + d / 262144) (next (d / 4096)) (next (d / 64)) (next d) x y 128 128 (omega arith) (omega arith) (omega arith) (omega arith))
+    (four d (omega arith) ∙ bytes4 (240 + d / 262144) (next (d / 4096)) (next (d / 64)) (next d) x y 128 128 (omega arith) (omega arith) (omega arith) (omega arith))
 
 fill4_three : (c : ℕ) → scalar c ≡ true → 65536 ≤ c → (x y z : ℕ) (q : List ℕ) → x ≡ 240 + c / 262144 → y ≡ next (c / 4096) → z ≡ next (c / 64) → length q ≡ 1 → Filled (x ∷ y ∷ z ∷ []) q
 fill4_three c s l x y z q a b e n =
     let d = c - c % 64 in
     filled (x ∷ y ∷ z ∷ []) q one 1 d n refl (down_scalar c d s (omega arith) (λ h. omega arith))
-        (four d (omega arith) ∙ bytes4 (240 + d / 262144) (next (d / 4096)) (next (d / 64)) (next d) x y z 128 (omega arith) (omega arith) (omega arith) (omega arith))
+    (four d (omega arith) ∙ bytes4 (240 + d / 262144) (next (d / 4096)) (next (d / 64)) (next d) x y z 128 (omega arith) (omega arith) (omega arith) (omega arith))
 
 fill4 : (c : ℕ) → scalar c ≡ true → 65536 ≤ c → (p q : List ℕ) → p ++ q ≡ (240 + c / 262144) ∷ next (c / 4096) ∷ next (c / 64) ∷ next c ∷ [] → 0 < length p → 0 < length q → Filled p q
 fill4 c s l [] q e sp sq = absurd (omega arith)
@@ -189,8 +189,16 @@ and_true false b p q = absurd cc
 
 cut : (cs front back : List ℕ) → scalars cs ≡ true → encodes cs ≡ front ++ back → Cut front back
 cut [] front back s e = record {
-  whole = []; part = []; other = 97 ∷ []; char = 97; good = refl; scalar_char = low_scalar 97 (omega arith);
-  are = no_front front back e; parts = sym (encode_ascii 97 (omega arith)); some = omega arith; within = λ h. absurd (omega arith);
+  whole = [];
+  part = [];
+  other = 97 ∷ [];
+  char = 97;
+  good = refl;
+  scalar_char = low_scalar 97 (omega arith);
+  are = no_front front back e;
+  parts = sym (encode_ascii 97 (omega arith));
+  some = omega arith;
+  within = λ h. absurd (omega arith);
 }
 cut (c ∷ cs) front back s e = let t = and_parts (scalar c) (scalars cs) s in elim (cases_lt (length front) (length (encode c))) [
   | inl lt ↦
@@ -202,8 +210,16 @@ cut (c ∷ cs) front back s e = let t = and_parts (scalar c) (scalars cs) s in e
       let o = overlap (encode c) (encodes cs) front back e le in
       let k = cut cs o.0 back t.1 o.2 in
       record {
-        whole = c ∷ k.whole; part = k.part; other = k.other; char = k.char; good = and_true (scalar c) (scalars k.whole) t.0 k.good; scalar_char = k.scalar_char;
-        are = o.1 ∙ ap (λ (l : List ℕ). encode c ++ l) k.are ∙ sym (append_assoc (encode c) (encodes k.whole) k.part); parts = k.parts; some = k.some; within = k.within;
+        whole = c ∷ k.whole;
+        part = k.part;
+        other = k.other;
+        char = k.char;
+        good = and_true (scalar c) (scalars k.whole) t.0 k.good;
+        scalar_char = k.scalar_char;
+        are = o.1 ∙ ap (λ (l : List ℕ). encode c ++ l) k.are ∙ sym (append_assoc (encode c) (encodes k.whole) k.part);
+        parts = k.parts;
+        some = k.some;
+        within = k.within;
       }
 ]
 
@@ -262,12 +278,12 @@ step_on b rest start more bytes false e ih a =
     let was = subst (λ (l : List (List ℕ)). All IsSegment (onto start l)) (slice_split-cons_no (λ b. eqb b 47) b (rest ++ more) e) a in
     let next = ih (start ++ (b ∷ [])) (subst (λ (l : List (List ℕ)). All IsSegment l) (onto_more start b (segments (rest ++ more))) was) in
     subst (λ (l : List (List ℕ)). All IsSegment (onto start l)) (sym (slice_split-cons_no (λ b. eqb b 47) b (rest ++ bytes) e))
-        (subst (λ (l : List (List ℕ)). All IsSegment l) (sym (onto_more start b (segments (rest ++ bytes)))) next)
+    (subst (λ (l : List (List ℕ)). All IsSegment l) (sym (onto_more start b (segments (rest ++ bytes)))) next)
 
 go_on : (rest start more bytes : List ℕ) → IsEnding bytes → All IsSegment (onto start (segments (rest ++ more))) → All IsSegment (onto start (segments (rest ++ bytes)))
 go_on [] start more bytes g a =
     subst (λ (l : List (List ℕ)). All IsSegment (onto start l)) (sym (slice_split_none (λ b. eqb b 47) bytes g.no_slash))
-        (All-cons IsSegment (start ++ bytes) [] (ends_named start bytes g) (All-nil IsSegment))
+    (All-cons IsSegment (start ++ bytes) [] (ends_named start bytes g) (All-nil IsSegment))
 go_on (b ∷ rest) start more bytes g a = step_on b rest start more bytes (eqb b 47) refl (λ start a. go_on rest start more bytes g a) a
 
 -- a path that is cut goes on with an ending that is no longer

@@ -3,9 +3,9 @@ use Rattle.std.proofs.Common.{◌≡◌, ◌⊎◌, inl, inr, ℕ, zero, suc, �
 use Rattle.std.specs.Prelude.{codes, All, ◌==◌}
 use Rattle.std.specs.Fmt.{decimal}
 use Rattle.std.specs.Str.{IsUtf8}
-use Rattle.std.proofs.lemmas.Bool.{cases_lt}
+use Rattle.std.proofs.lemmas.Bool.{cases_lt, eqb-true}
 use Rattle.std.proofs.lemmas.Fmt.{decimal_by_steps, decimal_step, decimal_digit, decimal_nonempty}
-use Rattle.std.proofs.lemmas.List.{append_cancel_left}
+use Rattle.std.proofs.lemmas.List.{append_cancel_left, nil_from_length}
 use Rattle.memchr.specs.Find.{is_byte, IsFirstByte}
 use Rattle.std.specs.Prelude.{Option, None, Some, Result, Ok, Err, IfOk}
 use Rattle.path_glob.specs.Path.{IsPath}
@@ -90,7 +90,10 @@ no_number bytes f some none s =
 
 pub spaced : (bytes : List ℕ) (at n : ℕ) (more : List ℕ) → IsFirstByte (is_byte 32) bytes (Some at) → n ≤ 268435456 → take at bytes ≡ decimal n → IsName (drop (at + 1) bytes ++ more) → IsSizedFront bytes
 spaced bytes at n more f small e g = record {
-  size = n; name = drop (at + 1) bytes ++ more; rest = more; good = (small, g);
+  size = n;
+  name = drop (at + 1) bytes ++ more;
+  rest = more;
+  good = (small, g);
   are = ap (λ (l : List ℕ). l ++ (32 ∷ (drop (at + 1) bytes ++ more))) (sym e) ∙ sym (append_assoc (take at bytes) (32 ∷ drop (at + 1) bytes) more) ∙ ap (λ (l : List ℕ). l ++ more) (sym (parts_of 32 bytes at f));
 }
 
@@ -237,8 +240,7 @@ if_ok_more (Err e) P Q f p = tt
 -- ---- what a test of emptiness tells
 
 pub empty_bytes : (bytes : List ℕ) (b : Bool) → b ≡ true → b ≡ (length bytes == 0) → bytes ≡ []
-empty_bytes [] b t e = refl
-empty_bytes (x ∷ bytes) b t e = absurd cc
+empty_bytes bytes b t e = nil_from_length bytes (eqb-true (length bytes) 0 (sym e ∙ t))
 
 pub some_bytes : (bytes : List ℕ) (b : Bool) → b ≡ false → b ≡ (length bytes == 0) → 0 < length bytes
 some_bytes [] b f e = absurd cc

@@ -76,3 +76,7 @@ pub cause_none : (T : Type 0) (a b : ℕ) (e : Trouble) → (IsErrOf {T = T} (Er
 cause_none T a b Memory none same = same
 cause_none T a b Failed none same = absurd (none refl)
 cause_none T a b Bad none same = same
+
+-- a trouble that is passed on as another call's answer
+pub err_as : (T U : Type 0) (e x : Trouble) → IsErrOf {T = T} (Err e) x → IsErrOf {T = U} (Err e) x
+err_as T U e x h = let s : e ≡ x = cc in let F : Trouble → Result U Trouble = λ y. Err y in ap F s

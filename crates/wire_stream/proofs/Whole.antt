@@ -1,6 +1,6 @@
 -- Whole commands.
-use Rattle.std.proofs.Common.{◌≡◌, ℕ, zero, suc, ◌+◌, ◌-◌, ◌<◌, ◌≤◌, ◌^◌, List, [], ◌∷◌, ◌++◌, length, take, drop, replicate, refl, sym, ap, ◌∙◌, subst, arith, append_assoc, append-nil, length-append}
-use Rattle.std.specs.Prelude.{Option, Some, None}
+use Rattle.std.proofs.Common.{◌≡◌, ℕ, zero, suc, Bool, true, false, ◌+◌, ◌-◌, ◌<◌, ◌≤◌, ◌^◌, List, [], ◌∷◌, ◌++◌, length, take, drop, replicate, refl, sym, ap, ◌∙◌, subst, arith, append_assoc, append-nil, length-append}
+use Rattle.std.specs.Prelude.{Option, Some, None, Result, Ok, Err}
 use Rattle.std.specs.Io.KnownBytes.{Keeps, IsAtEnd}
 use Rattle.std.proofs.lemmas.List.{length-take-le, length-replicate}
 use Rattle.wire_stream.specs.Lines.{Line, Put, Rule, IsLine, line_bytes}
@@ -9,8 +9,12 @@ use Rattle.wire_stream.specs.Commands.{body_length, IsBody, body_bytes, command_
 use Rattle.wire_stream.specs.Bodies.{IsWhole, IsNoWhole}
 use Rattle.wire_stream.specs.Heads.{Lacks, IsHead, IsLineEnd, IsRest, IsNoRest}
 use Rattle.wire_stream.specs.Fronts.{IsLineFront, IsCommandFront, Waits, WaitsWithin}
-use Rattle.wire_stream.specs.Feeds.{Used, BeginsLonger}
-use Rattle.wire_stream.specs.Streams.{Uses, OfStream}
+use Rattle.wire_stream.specs.Feeds.{FeedState, Used, Next, BeginsLonger, IsFault, HasWireCause, fault_of}
+use Rattle.wire_stream.specs.Streams.{Uses, OfStream, HasTroubleCause}
+use Rattle.wire_stream.specs.declared.trouble.Trouble.{Trouble}
+use Rattle.wire_stream.specs.declared.trouble.Trouble.TheVariants.{Memory, Failed, Bad}
+use Rattle.wire_stream.specs.declared.wire.WireFault.{WireFault}
+use Rattle.wire_stream.specs.declared.wire.WireFault.TheVariants as faults
 use Rattle.wire_stream.specs.declared.wire.Wire.{Wire}
 use Rattle.wire_stream.specs.declared.wire.Wire.TheVariants as wires
 use Rattle.wire_stream.proofs.Firsts.{front_before}
@@ -88,7 +92,11 @@ command_used a b c h k k2 m end line wire count u e is d r =
     let counted = r.counted in
     let bytes : (take end k ++ (10 ∷ [])) ++ B ≡ line_bytes line ++ (10 ∷ B) = append_assoc (take end k) (10 ∷ []) B ∙ ap (λ (l : List ℕ). l ++ (10 ∷ B)) is.are in
     record {
-      line = line; body = r.body; good = is.good; whole = r.whole; is = r.is;
+      line = line;
+      body = r.body;
+      good = is.good;
+      whole = r.whole;
+      is = r.is;
       counted = omega arith;
       uses = uses_is a c h m ((take end k ++ (10 ∷ [])) ++ B) (line_bytes line ++ (10 ∷ B)) bytes (uses_then a b c h k2 m (take end k ++ (10 ∷ [])) B (line_end_used a b h k k2 end u e d) r.uses);
     }
@@ -112,7 +120,12 @@ front_of_command bytes f =
     let B = body_bytes (body_length f.line) b.0 in
     let n : length (f.rest ++ (10 ∷ B)) ≡ length f.rest + length (10 ∷ B) = length-append f.rest (10 ∷ B) in
     record {
-      line = f.line; body = b.0; rest = f.rest ++ (10 ∷ B); good = f.good; whole = b.1; some = omega arith;
+      line = f.line;
+      body = b.0;
+      rest = f.rest ++ (10 ∷ B);
+      good = f.good;
+      whole = b.1;
+      some = omega arith;
       are = ap (λ (l : List ℕ). l ++ (10 ∷ B)) f.are ∙ append_assoc bytes f.rest (10 ∷ B);
     }
 
@@ -136,11 +149,12 @@ rest_read_waits a b c h k k2 end n line u e d is size w =
     let f = front_of_rest (body_length line) n w.0 size w.1 in
     let T = take end k ++ (10 ∷ []) in
     let are : command_bytes line f.0 ≡ (T ++ w.0) ++ f.1 =
-        ap (λ (l : List ℕ). l ++ (10 ∷ body_bytes (body_length line) f.0)) (sym is.are) ∙ sym (append_assoc (take end k) (10 ∷ []) (body_bytes (body_length line) f.0))
-        ∙ ap (λ (l : List ℕ). T ++ l) f.4 ∙ sym (append_assoc T w.0 f.1) in
-    (T ++ w.0,
+    ap (λ (l : List ℕ). l ++ (10 ∷ body_bytes (body_length line) f.0)) (sym is.are) ∙ sym (append_assoc (take end k) (10 ∷ []) (body_bytes (body_length line) f.0))
+    ∙ ap (λ (l : List ℕ). T ++ l) f.4 ∙ sym (append_assoc T w.0 f.1) in (
+      T ++ w.0,
       record { line = line; body = f.0; rest = f.1; good = is.good; whole = f.2; some = f.3; are = are },
-      uses_then a b c h k2 [] T w.0 (line_end_used a b h k k2 end u e d) w.2)
+      uses_then a b c h k2 [] T w.0 (line_end_used a b h k k2 end u e d) w.2,
+    )
 
 -- ---- a command that is too long
 
@@ -150,3 +164,35 @@ used_longer (Some xs) None h k wire count most u lt = absurd u.uses
 used_longer (Some xs) (Some ys) h k wire count most u lt =
     let n = u.counted in
     record { line = u.line; body = u.body; rest = k ++ ys; begins = record { good = u.good; whole = u.whole; are = u.uses }; longer = omega arith }
+
+-- ---- the feed
+
+pub longer_fault : (a b : Option (List ℕ)) (feed : FeedState) (h k : List ℕ) (wire : Wire) (place count : ℕ) → h ≡ feed.hand → place ≡ feed.place → place ≤ 268435456 → Used a b h k wire count → 268435456 < place + count
+    → OfStream a feed.hand (BeginsLonger (268435456 - feed.place))
+longer_fault a b feed h k wire place count eh ep low u lt =
+    let P : List ℕ → Type 0 = λ l. OfStream a l (BeginsLonger (268435456 - feed.place)) in
+    subst P eh (used_longer a b h k wire count (268435456 - feed.place) u (omega arith))
+
+pub next_of : (a b : Option (List ℕ)) (feed : FeedState) (h k : List ℕ) (wire : Wire) (place count : ℕ) → h ≡ feed.hand → place ≡ feed.place → Used a b h k wire count → place + count ≤ 268435456
+    → Next a b feed (record { place = place + count; hand = k; failed = false }) wire
+next_of a b feed h k wire place count eh ep u le =
+    let P : List ℕ → Type 0 = λ l. Used a b l k wire count in
+    record { count = count; used = subst P eh u; place = ap (λ (n : ℕ). n + count) ep; within = le }
+
+pub fault_is : (a : Option (List ℕ)) (feed : FeedState) (h : List ℕ) (place : ℕ) (trouble : Trouble) (r : WireFault) → h ≡ feed.hand → place ≡ feed.place → r ≡ fault_of trouble place → (trouble ≡ Bad → OfStream a h BeginsNone) → IsFault a feed r
+fault_is a feed h place Memory r eh ep e f = let P : WireFault → Type 0 = λ x. IsFault a feed x in subst P (sym e) tt
+fault_is a feed h place Failed r eh ep e f = let P : WireFault → Type 0 = λ x. IsFault a feed x in subst P (sym e) tt
+fault_is a feed h place Bad r eh ep e f =
+    let P : WireFault → Type 0 = λ x. IsFault a feed x in
+    let Q : List ℕ → Type 0 = λ l. OfStream a l BeginsNone in
+    subst P (sym e) (ep, subst Q eh (f refl))
+
+pub waits_is : (a c : Option (List ℕ)) (feed : FeedState) (h : List ℕ) (place : ℕ) (trouble : Trouble) (r : WireFault) → h ≡ feed.hand → r ≡ fault_of trouble place → r ≡ faults.Failed → (trouble ≡ Failed → Waits a c h) → Waits a c feed.hand
+waits_is a c feed h place Memory r eh e is f = absurd cc
+waits_is a c feed h place Failed r eh e is f = let Q : List ℕ → Type 0 = λ l. Waits a c l in subst Q eh (f refl)
+waits_is a c feed h place Bad r eh e is f = absurd cc
+
+pub cause_is : (m n : ℕ) (place : ℕ) (trouble : Trouble) (r : WireFault) → r ≡ fault_of trouble place → HasTroubleCause m n trouble → HasWireCause m n (Err r)
+cause_is m n place Memory r e h = let P : WireFault → Type 0 = λ x. HasWireCause m n (Err x) in subst P (sym e) h
+cause_is m n place Failed r e h = let P : WireFault → Type 0 = λ x. HasWireCause m n (Err x) in subst P (sym e) h
+cause_is m n place Bad r e h = let P : WireFault → Type 0 = λ x. HasWireCause m n (Err x) in subst P (sym e) h

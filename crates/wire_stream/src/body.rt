@@ -6,7 +6,7 @@ ghost use Rattle.std.specs.Io.KnownBytes.{Keeps};
 ghost use Rattle.wire_stream.specs.Fronts.{WaitsWithin};
 ghost use Rattle.wire_stream.specs.Streams.{Uses, OfStream, HasCauseOf};
 
-use crate::hand::{fill, Hand};
+use crate::hand::{Hand, fill};
 use crate::trouble::Trouble;
 use node_tree::{Bytes, Memory};
 use scan_world::Source;

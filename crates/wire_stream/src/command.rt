@@ -10,7 +10,7 @@ ghost use Rattle.wire_stream.specs.Streams.{OfStream, HasCauseOf};
 
 use crate::body::read_body;
 use crate::hand::Hand;
-use crate::head::{read_line, take_line, Head};
+use crate::head::{Head, read_line, take_line};
 use crate::trouble::Trouble;
 use crate::wire::Wire;
 use scan_world::Source;

@@ -30,7 +30,7 @@ pub struct Feed {
 impl Model for Feed {
     ghost use Rattle.std.specs.Prelude.{◌≤◌};
     ghost use Rattle.wire_stream.specs.Fronts.{Waits};
-ghost use Rattle.wire_stream.specs.Feeds.{FeedState};
+    ghost use Rattle.wire_stream.specs.Feeds.{FeedState};
 
     ghost Value = { FeedState };
 
@@ -93,5 +93,4 @@ pub fn next_command<S: Source>(feed: &mut Feed, input: &mut S) -> Result<Wire, W
 /// No command begins another: a stream begins with at most one.
 pub fn one_command()
     ensures { (stream : List ℕ) (a b : Line) (x y r s : List ℕ) → Begins stream a x r → Begins stream b y s → (a ≡ b) × (x ≡ y) × (r ≡ s) }
-{
-}
+{}

@@ -8,8 +8,8 @@ ghost use Rattle.wire_stream.specs.Fronts.{IsLineFront};
 ghost use Rattle.wire_stream.specs.Heads.{IsHead, IsLineEnd};
 ghost use Rattle.wire_stream.specs.Streams.{Uses, OfStream, HasCauseOf};
 
-use crate::hand::{fill, Hand};
-use crate::line::{asked_of, Asked};
+use crate::hand::{Hand, fill};
+use crate::line::{Asked, asked_of};
 use crate::open::is_open;
 use crate::trouble::Trouble;
 use crate::wire::Wire;
@@ -49,11 +49,7 @@ fn head_of(alloc: Global, asked: Asked<'_>) -> Result<Head, Memory>
 }
 
 /// Reads until a line's end is in hand, and tells its place.
-pub fn read_line<S: Source>(
-    alloc: Global,
-    hand: &mut Hand,
-    input: &mut S,
-) -> Result<usize, Trouble>
+pub fn read_line<S: Source>(alloc: Global, hand: &mut Hand, input: &mut S) -> Result<usize, Trouble>
     ensures end { IfOk result (IsLineEnd hand.new) }
     ensures short { IfOk result (λ end. end < 2 ^ 63) }
     ensures uses { OnOk result (Uses (S.left input.old) (S.left input.new) hand.old hand.new []) }

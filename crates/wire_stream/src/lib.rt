@@ -5,7 +5,7 @@
 //! is decimal without leading zeros, at most 268,435,456. PATH and NAME are paths in UTF-8, PREFIX is a path or `.`. There are
 //! no other spellings. A body is read whole, and only a front of a long one is kept, so the memory that a stream takes is that
 //! of its longest kept body.
-#![tactic(none)]
+#![tactic(auto)]
 
 mod body;
 mod command;
@@ -17,5 +17,5 @@ mod open;
 mod trouble;
 mod wire;
 
-pub use feed::{next_command, one_command, Feed};
+pub use feed::{Feed, next_command, one_command};
 pub use wire::{Wire, WireFault};

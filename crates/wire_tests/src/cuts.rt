@@ -55,8 +55,14 @@ fn stops_at_a_read_that_fails(rt: HostRuntime) -> Result<(), Fail> {
     assert_eq!(rt; read(alloc, stream, 5, &[2])?.as_str(), "scan;failed");
     assert_eq!(rt; read(alloc, stream, 5, &[3])?.as_str(), "scan;failed");
     assert_eq!(rt; read(alloc, stream, 5, &[4])?.as_str(), "scan;failed");
-    assert_eq!(rt; read(alloc, stream, 5, &[5])?.as_str(), "scan;put a 3;failed");
-    assert_eq!(rt; read(alloc, stream, 512, &[2])?.as_str(), "scan;put a 3;del a.py;end;");
+    assert_eq!(rt;
+        read(alloc, stream, 5, &[5])?.as_str(),
+        "scan;put a 3;failed"
+    );
+    assert_eq!(rt;
+        read(alloc, stream, 512, &[2])?.as_str(),
+        "scan;put a 3;del a.py;end;"
+    );
     Ok(())
 }
 

@@ -17,7 +17,8 @@ fn reads(alloc: Global, bytes: &[u8], shown: &str) -> Result<bool, AllocError> {
 #[test]
 fn reads_each_command(rt: HostRuntime) -> Result<(), Fail> {
     let alloc = rt.alloc();
-    let stream = b"put 3 a.py\nx=1\nrule 0 r.yaml\n\ndel a/b.c\nunrule r.yaml\nsync .\nsync src\nscan\nfix\nend\nmore";
+    let stream =
+        b"put 3 a.py\nx=1\nrule 0 r.yaml\n\ndel a/b.c\nunrule r.yaml\nsync .\nsync src\nscan\nfix\nend\nmore";
     let shown = "put a.py 3;rule r.yaml 0;del a/b.c;unrule r.yaml;sync .;sync src;scan;fix;end;";
     assert!(rt; reads(alloc, stream, shown)?);
     assert!(rt; reads(alloc, b"del  a\nput 1  a\nx\nend\n", "del  a;put  a 1;end;")?);
@@ -64,7 +65,13 @@ fn refuses_other_words_and_lengths(rt: HostRuntime) -> Result<(), Fail> {
         assert!(rt; reads(alloc, line, "bad at 0")?);
     }
     assert!(rt; reads(alloc, b"put 268435456 a\nx\n", "bad at 0")?);
-    assert!(rt; reads(alloc, b"del a b\nsync \xe2\x82\xac\n", "del a b;sync \u{20ac};bad at 17")?);
+    assert!(rt;
+        reads(
+            alloc,
+            b"del a b\nsync \xe2\x82\xac\n",
+            "del a b;sync \u{20ac};bad at 17"
+        )?
+    );
     Ok(())
 }
 
@@ -123,12 +130,24 @@ fn long_body(alloc: Global, line: &str, count: usize) -> Result<Vec<u8>, AllocEr
 fn keeps_a_front_of_a_long_body(rt: HostRuntime) -> Result<(), Fail> {
     let alloc = rt.alloc();
     let file = long_body(alloc, "put 1000000 a\n", 1_000_000)?;
-    assert_eq!(rt; read(alloc, &file, 100_000, &[])?.as_str(), "put a 1000000;scan;end;");
+    assert_eq!(rt;
+        read(alloc, &file, 100_000, &[])?.as_str(),
+        "put a 1000000;scan;end;"
+    );
     let file = long_body(alloc, "put 1000002 a\n", 1_000_002)?;
-    assert_eq!(rt; read(alloc, &file, 100_000, &[])?.as_str(), "put a 1000001;scan;end;");
+    assert_eq!(rt;
+        read(alloc, &file, 100_000, &[])?.as_str(),
+        "put a 1000001;scan;end;"
+    );
     let rules = long_body(alloc, "rule 262144 r\n", 262_144)?;
-    assert_eq!(rt; read(alloc, &rules, 100_000, &[])?.as_str(), "rule r 262144;scan;end;");
+    assert_eq!(rt;
+        read(alloc, &rules, 100_000, &[])?.as_str(),
+        "rule r 262144;scan;end;"
+    );
     let rules = long_body(alloc, "rule 300000 r\n", 300_000)?;
-    assert_eq!(rt; read(alloc, &rules, 100_000, &[])?.as_str(), "rule r 262145;scan;end;");
+    assert_eq!(rt;
+        read(alloc, &rules, 100_000, &[])?.as_str(),
+        "rule r 262145;scan;end;"
+    );
     Ok(())
 }

@@ -3,7 +3,7 @@
 use node_tree::{Bytes, List, Memory};
 use scan_world::MemorySource;
 use std::alloc::{AllocError, Global};
-use wire_stream::{next_command, Feed, Wire, WireFault};
+use wire_stream::{Feed, Wire, WireFault, next_command};
 
 // A source of these bytes, of which it hands out so many a read, and whose reads of these numbers fail.
 pub fn source(
@@ -44,12 +44,7 @@ fn fault(alloc: Global, fault: WireFault) -> Result<String, AllocError> {
 }
 
 /// The commands of a stream up to `end` or a fault, with a semicolon after each.
-pub fn read(
-    alloc: Global,
-    bytes: &[u8],
-    most: u32,
-    failing: &[u32],
-) -> Result<String, AllocError> {
+pub fn read(alloc: Global, bytes: &[u8], most: u32, failing: &[u32]) -> Result<String, AllocError> {
     let mut shown = String::new(alloc);
     let (Ok(mut source), Ok(mut feed)) = (source(alloc, bytes, most, failing), Feed::new(alloc))
     else {

@@ -4,7 +4,7 @@ ghost use Rattle.std.specs.Prelude.{◌≡◌, ◌<◌, ◌∷◌, [], ◌++◌,
 ghost use Rattle.wire_words.specs.Choices.{Choice, choice_words, IsGood, AreOnce, AreChoices, IsFlagWord};
 ghost use Rattle.wire_words.specs.Settings.{chosen, IsValued, Tells};
 
-use crate::numbers::{number, MOST_FINDINGS};
+use crate::numbers::{MOST_FINDINGS, number};
 use path_glob::path_ok;
 
 /// An option with its value.

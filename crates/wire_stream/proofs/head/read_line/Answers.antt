@@ -3,7 +3,7 @@ use Rattle.std.proofs.lemmas.Result.{err_from_is_err_and}
 use Rattle.wire_stream.specs.Fronts.{IsLineFront}
 use Rattle.wire_stream.proofs.Opening.{front_short}
 use Rattle.wire_stream.proofs.Parts.{lacks_of, lacks_is}
-use Rattle.wire_stream.proofs.Streams.{uses_nothing, uses_then, cause_on}
+use Rattle.wire_stream.proofs.Streams.{uses_nothing, uses_then, err_as, cause_on}
 use Rattle.wire_stream.proofs.Whole.{line_closed, line_ends, line_waits}
 use Rattle.wire_stream.proofs.head.read_line.Goals as goal
 
@@ -17,11 +17,11 @@ returns-then-not-open-clause-bad g c = λ e.
 
 pub returns-in_err-count-clause-bad : goal.returns-in_err-count-clause-bad
 returns-in_err-count-clause-bad g c = let p = err_from_is_err_and c.from_residual-in_err-count.result c.from_residual-in_err-count.ensures.1 in
-    rw (p.1, p.2) (λ e. absurd (c.in_err-count.ensures.good e))
+    rw (p.1, p.2) (λ e. absurd (c.in_err-count.ensures.good (err_as _ _ _ _ e)))
 
 pub returns-in_err-count-clause-failed : goal.returns-in_err-count-clause-failed
 returns-in_err-count-clause-failed g c = let p = err_from_is_err_and c.from_residual-in_err-count.result c.from_residual-in_err-count.ensures.1 in
-    rw (p.1, p.2) (λ e. line_waits _ _ _ _ _ c.loop.invariant.uses (subst IsLineFront c.as_slice-bytes.ensures (c.in_ok-open.ensures.open c.if-not-open.false)) (c.in_err-count.ensures.failed e))
+    rw (p.1, p.2) (λ e. line_waits _ _ _ _ _ c.loop.invariant.uses (subst IsLineFront c.as_slice-bytes.ensures (c.in_ok-open.ensures.open c.if-not-open.false)) (c.in_err-count.ensures.failed (err_as _ _ _ _ e)))
 
 pub returns-in_err-count-clause-cause : goal.returns-in_err-count-clause-cause
 returns-in_err-count-clause-cause g c = let p = err_from_is_err_and c.from_residual-in_err-count.result c.from_residual-in_err-count.ensures.1 in

@@ -14,5 +14,5 @@ returns-in_err-size c = rw c.from_residual-in_err-size.ensures
 pub returns-in_err-name : goal.returns-in_err-name
 returns-in_err-name c = rw c.from_residual-in_err-name.ensures
     (λ n text g e.
-        let t = sized_whole c.args.bytes.now c.in_ok-space.space c.in_ok-space.ensures n text g.0 e in
-        c.in_err-name.ensures (subst IsName (sym (take_rest c.args.bytes.now (c.in_ok-space.space + 1) ∙ t.1)) g.1))
+    let t = sized_whole c.args.bytes.now c.in_ok-space.space c.in_ok-space.ensures n text g.0 e in
+    c.in_err-name.ensures (subst IsName (sym (take_rest c.args.bytes.now (c.in_ok-space.space + 1) ∙ t.1)) g.1))

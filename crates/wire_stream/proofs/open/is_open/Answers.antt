@@ -8,52 +8,52 @@ use Rattle.wire_stream.proofs.open.is_open.Goals as goal
 pub returns-in-Some-clause-open : goal.returns-in-Some-clause-open
 returns-in-Some-clause-open c =
     if_ok_more c.opens_sized.result (λ b. IsTrue b → IsSizedFront c.in-Some.rest.now) (λ b. IsTrue b → IsLineFront c.args.bytes.now)
-        (λ b p t. put_front c.args.bytes.now c.in-Some.rest.now c.in-Some.ensures (p t)) c.opens_sized.ensures.open
+    (λ b p t. put_front c.args.bytes.now c.in-Some.rest.now c.in-Some.ensures (p t)) c.opens_sized.ensures.open
 
 pub returns-in-Some-clause-closed : goal.returns-in-Some-clause-closed
 returns-in-Some-clause-closed c =
     if_ok_more c.opens_sized.result (λ b. b ≡ false → IsSizedFront c.in-Some.rest.now → ⊥) (λ b. b ≡ false → IsLineFront c.args.bytes.now → ⊥)
-        (λ b p f. no_put c.args.bytes.now c.in-Some.rest.now c.in-Some.ensures (p f)) c.opens_sized.ensures.closed
+    (λ b p f. no_put c.args.bytes.now c.in-Some.rest.now c.in-Some.ensures (p f)) c.opens_sized.ensures.closed
 
 pub returns-in-Some-after-clause-open : goal.returns-in-Some-after-clause-open
 returns-in-Some-after-clause-open c =
     if_ok_more c.opens_sized-in-Some-after.result (λ b. IsTrue b → IsSizedFront c.in-Some-after.rest.now) (λ b. IsTrue b → IsLineFront c.args.bytes.now)
-        (λ b p t. rule_front c.args.bytes.now c.in-Some-after.rest.now c.in-Some-after.ensures (p t)) c.opens_sized-in-Some-after.ensures.open
+    (λ b p t. rule_front c.args.bytes.now c.in-Some-after.rest.now c.in-Some-after.ensures (p t)) c.opens_sized-in-Some-after.ensures.open
 
 pub returns-in-Some-after-clause-closed : goal.returns-in-Some-after-clause-closed
 returns-in-Some-after-clause-closed c =
     if_ok_more c.opens_sized-in-Some-after.result (λ b. b ≡ false → IsSizedFront c.in-Some-after.rest.now → ⊥) (λ b. b ≡ false → IsLineFront c.args.bytes.now → ⊥)
-        (λ b p f. no_rule c.args.bytes.now c.in-Some-after.rest.now c.in-Some-after.ensures (p f)) c.opens_sized-in-Some-after.ensures.closed
+    (λ b p f. no_rule c.args.bytes.now c.in-Some-after.rest.now c.in-Some-after.ensures (p f)) c.opens_sized-in-Some-after.ensures.closed
 
 pub returns-in-Some-after-2-clause-open : goal.returns-in-Some-after-2-clause-open
 returns-in-Some-after-2-clause-open c =
     if_ok_more c.opens_name.result (λ b. IsTrue b → (more : List ℕ) × IsName (c.in-Some-after-2.rest.now ++ more)) (λ b. IsTrue b → IsLineFront c.args.bytes.now)
-        (λ b p t. let x = p t in del_front c.args.bytes.now c.in-Some-after-2.rest.now x.0 c.in-Some-after-2.ensures x.1) c.opens_name.ensures.open
+    (λ b p t. let x = p t in del_front c.args.bytes.now c.in-Some-after-2.rest.now x.0 c.in-Some-after-2.ensures x.1) c.opens_name.ensures.open
 
 pub returns-in-Some-after-2-clause-closed : goal.returns-in-Some-after-2-clause-closed
 returns-in-Some-after-2-clause-closed c =
     if_ok_more c.opens_name.result (λ b. b ≡ false → (more : List ℕ) → IsName (c.in-Some-after-2.rest.now ++ more) → ⊥) (λ b. b ≡ false → IsLineFront c.args.bytes.now → ⊥)
-        (λ b p f. no_del c.args.bytes.now c.in-Some-after-2.rest.now c.in-Some-after-2.ensures (p f)) c.opens_name.ensures.closed
+    (λ b p f. no_del c.args.bytes.now c.in-Some-after-2.rest.now c.in-Some-after-2.ensures (p f)) c.opens_name.ensures.closed
 
 pub returns-in-Some-after-3-clause-open : goal.returns-in-Some-after-3-clause-open
 returns-in-Some-after-3-clause-open c =
     if_ok_more c.opens_name-in-Some-after-3.result (λ b. IsTrue b → (more : List ℕ) × IsName (c.in-Some-after-3.rest.now ++ more)) (λ b. IsTrue b → IsLineFront c.args.bytes.now)
-        (λ b p t. let x = p t in unrule_front c.args.bytes.now c.in-Some-after-3.rest.now x.0 c.in-Some-after-3.ensures x.1) c.opens_name-in-Some-after-3.ensures.open
+    (λ b p t. let x = p t in unrule_front c.args.bytes.now c.in-Some-after-3.rest.now x.0 c.in-Some-after-3.ensures x.1) c.opens_name-in-Some-after-3.ensures.open
 
 pub returns-in-Some-after-3-clause-closed : goal.returns-in-Some-after-3-clause-closed
 returns-in-Some-after-3-clause-closed c =
     if_ok_more c.opens_name-in-Some-after-3.result (λ b. b ≡ false → (more : List ℕ) → IsName (c.in-Some-after-3.rest.now ++ more) → ⊥) (λ b. b ≡ false → IsLineFront c.args.bytes.now → ⊥)
-        (λ b p f. no_unrule c.args.bytes.now c.in-Some-after-3.rest.now c.in-Some-after-3.ensures (p f)) c.opens_name-in-Some-after-3.ensures.closed
+    (λ b p f. no_unrule c.args.bytes.now c.in-Some-after-3.rest.now c.in-Some-after-3.ensures (p f)) c.opens_name-in-Some-after-3.ensures.closed
 
 pub returns-in-Some-after-4-clause-open : goal.returns-in-Some-after-4-clause-open
 returns-in-Some-after-4-clause-open c =
     if_ok_more c.opens_name-in-Some-after-4.result (λ b. IsTrue b → (more : List ℕ) × IsName (c.in-Some-after-4.rest.now ++ more)) (λ b. IsTrue b → IsLineFront c.args.bytes.now)
-        (λ b p t. let x = p t in sync_front c.args.bytes.now c.in-Some-after-4.rest.now x.0 c.in-Some-after-4.ensures x.1) c.opens_name-in-Some-after-4.ensures.open
+    (λ b p t. let x = p t in sync_front c.args.bytes.now c.in-Some-after-4.rest.now x.0 c.in-Some-after-4.ensures x.1) c.opens_name-in-Some-after-4.ensures.open
 
 pub returns-in-Some-after-4-clause-closed : goal.returns-in-Some-after-4-clause-closed
 returns-in-Some-after-4-clause-closed c =
     if_ok_more c.opens_name-in-Some-after-4.result (λ b. b ≡ false → (more : List ℕ) → IsName (c.in-Some-after-4.rest.now ++ more) → ⊥) (λ b. b ≡ false → IsLineFront c.args.bytes.now → ⊥)
-        (λ b p f. no_sync c.args.bytes.now c.in-Some-after-4.rest.now c.in-Some-after-4.ensures (p f)) c.opens_name-in-Some-after-4.ensures.closed
+    (λ b p f. no_sync c.args.bytes.now c.in-Some-after-4.rest.now c.in-Some-after-4.ensures (p f)) c.opens_name-in-Some-after-4.ensures.closed
 
 pub returns-then-opens_named-clause-open : goal.returns-then-opens_named-clause-open
 returns-then-opens_named-clause-open c = λ t. named_line c.args.bytes.now (c.opens_named.ensures.0 t)
