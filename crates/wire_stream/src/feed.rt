@@ -29,7 +29,6 @@ pub struct Feed {
 
 impl Model for Feed {
     ghost use Rattle.std.specs.Prelude.{◌≤◌};
-    ghost use Rattle.wire_stream.specs.Fronts.{Waits};
     ghost use Rattle.wire_stream.specs.Feeds.{FeedState};
 
     ghost Value = { FeedState };

@@ -1,5 +1,5 @@
 use Rattle.std.proofs.Common.{◌≡◌, ap, refl, arith}
-use Rattle.std.specs.Prelude.{Result, Err}
+use Rattle.std.specs.Prelude.{Result, Err, IsErrOf}
 use Rattle.wire_stream.specs.Feeds.{FeedState}
 use Rattle.wire_stream.specs.declared.trouble.Trouble.{Trouble}
 use Rattle.wire_stream.specs.declared.wire.WireFault.{WireFault}
@@ -24,7 +24,7 @@ returns-in-Err-clause-fault g c =
     fault_is _ c.args.feed.now c.feed.inside.hand c.feed.inside.place c.in-Err.trouble c.fault.result (ap (λ (f : FeedState). f.hand) c.feed.view_is) (ap (λ (f : FeedState). f.place) c.feed.view_is) c.fault.ensures
     (λ e. c.in-Err.ensures.bad (ap (λ (y : Trouble). Err y) e))
 
-same_fault : (T : Type 0) (r : WireFault) → Err {T = T} r ≡ Err faults.Failed → r ≡ faults.Failed
+same_fault : (T : Type 0) (r : WireFault) → IsErrOf {T = T} (Err r) faults.Failed → r ≡ faults.Failed
 same_fault T r h = cc
 
 pub returns-in-Err-clause-waits : goal.returns-in-Err-clause-waits
