@@ -1,13 +1,13 @@
 -- Bodies, as far as they were read.
-use Rattle.std.proofs.Common.{◌≡◌, ℕ, zero, suc, ◌+◌, ◌-◌, ◌<◌, ◌≤◌, List, [], ◌∷◌, ◌++◌, length, take, drop, refl, sym, ap, ◌∙◌, subst, arith, append_assoc, append-nil, length-append}
-use Rattle.std.specs.Prelude.{Option, Some, None, min}
+use Rattle.std.proofs.Common.{◌≡◌, ℕ, zero, suc, ◌+◌, ◌-◌, ◌<◌, ◌≤◌, List, [], ◌∷◌, ◌++◌, length, take, drop, refl, sym, ap, ◌∙◌, arith, append_assoc, append-nil, length-append}
+use Rattle.std.specs.Prelude.{Option, min}
 use Rattle.std.specs.Io.KnownBytes.{Keeps}
 use Rattle.std.proofs.lemmas.List.{length-take, take-append-drop, take_all}
 use Rattle.wire_stream.specs.Bodies.{IsEmpty, IsNoEnd, IsFront, IsNoFront, IsWhole, IsNoWhole}
 use Rattle.wire_stream.specs.Fronts.{WaitsWithin}
 use Rattle.wire_stream.specs.Streams.{Uses, OfStream}
 use Rattle.wire_stream.proofs.Firsts.{same_fronts}
-use Rattle.wire_stream.proofs.Streams.{uses_hand, uses_nothing, uses_then, uses_is, uses_to_end, told_before, told_also}
+use Rattle.wire_stream.proofs.Streams.{uses_hand, uses_nothing, uses_then, uses_to_end, told_before, told_also}
 
 -- this much of the body was used, and its first bytes are kept
 pub record Reading (left_old left_new : Option (List ℕ)) (hand_old hand_new : List ℕ) (size most left : ℕ) (kept : List ℕ) : Type 0 where

@@ -1,9 +1,9 @@
 -- The bytes of commands.
-use Rattle.std.proofs.Common.{◌≡◌, ℕ, ◌+◌, ◌<◌, ◌≤◌, List, [], ◌∷◌, ◌++◌, length, take, drop, refl, sym, ap, ◌∙◌, subst, arith, append_assoc}
+use Rattle.std.proofs.Common.{◌≡◌, ℕ, ◌+◌, ◌≤◌, List, [], ◌∷◌, ◌++◌, length, take, drop, sym, ap, ◌∙◌, subst, arith, append_assoc}
 use Rattle.std.specs.Prelude.{Option, None, Some}
-use Rattle.wire_stream.specs.Lines.{Line, IsLine, line_bytes}
+use Rattle.wire_stream.specs.Lines.{Line, line_bytes}
 use Rattle.wire_stream.specs.Asked.{IsLineOf, IsNoLine}
-use Rattle.wire_stream.specs.Commands.{body_length, IsBody, body_bytes, command_bytes, Begins, BeginsNone}
+use Rattle.wire_stream.specs.Commands.{body_length, IsBody, body_bytes, Begins, BeginsNone}
 use Rattle.wire_stream.specs.Heads.{Lacks, IsLineEnd, IsNoRest}
 use Rattle.wire_stream.proofs.Firsts.{same_first, same_fronts, parts_at, lacks_before, front_before, no_place}
 use Rattle.wire_stream.proofs.Lines.{line_lacks, line_short, same_line}

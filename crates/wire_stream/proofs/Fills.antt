@@ -1,13 +1,13 @@
 -- How the front of a name goes on to a name.
-use Rattle.std.proofs.Common.{◌≡◌, ◌≢◌, ◌⊎◌, inl, inr, ℕ, zero, suc, ◌+◌, ◌-◌, ◌*◌, ◌/◌, ◌%◌, ◌<◌, ◌≤◌, Bool, true, false, cond, List, [], ◌∷◌, ◌++◌, length, refl, sym, ap, ◌∙◌, subst, arith, append_assoc, append-nil, length-append, eqb, ltb, le-ltb, lt-ltb, le-leb}
-use Rattle.std.specs.Prelude.{All, codes, ◌||◌, ◌&&◌}
+use Rattle.std.proofs.Common.{◌≡◌, ◌≢◌, inl, inr, ℕ, ◌+◌, ◌-◌, ◌/◌, ◌%◌, ◌<◌, ◌≤◌, Bool, true, false, List, [], ◌∷◌, ◌++◌, length, refl, sym, ap, ◌∙◌, subst, arith, append_assoc, append-nil, length-append, eqb, ltb, le-ltb, lt-ltb, le-leb}
+use Rattle.std.specs.Prelude.{All, ◌||◌, ◌&&◌}
 use Rattle.std.specs.Str.{IsUtf8}
-use Rattle.std.specs.List.{slice_split, onto_first, list_any}
+use Rattle.std.specs.List.{onto_first, list_any}
 use Rattle.std.proofs.lemmas.Bool.{cases_lt, and_parts, ltb-false}
 use Rattle.std.proofs.lemmas.List.{same_from_push, take_at, nil_from_length}
 use Rattle.std.proofs.lemmas.List.Elements.{All-nil, All-cons, All-head, All-tail, All-append, All-take, All-weaker}
 use Rattle.std.proofs.lemmas.List.Splits.{slice_split-cons_yes, slice_split-cons_no, slice_split_none, length-slice_split}
-use Rattle.std.proofs.lemmas.Str.{IsUtf8-append, IsUtf8-encode, IsUtf8-nil, encode_ascii, IsUtf8-from_ascii}
+use Rattle.std.proofs.lemmas.Str.{IsUtf8-append, IsUtf8-encode, encode_ascii}
 use lib.Utf8.{scalar, scalars, encode, encodes, next, low_scalar, scalar_cases}
 use Rattle.path_glob.specs.Path.{IsPath, IsSegment}
 use Rattle.path_glob.specs.Segments.{segments}

@@ -1,18 +1,15 @@
 -- What goes on to a line.
-use Rattle.std.proofs.Common.{◌≡◌, ◌⊎◌, inl, inr, ℕ, zero, suc, ◌+◌, ◌*◌, ◌/◌, ◌%◌, ◌<◌, ◌≤◌, ◌^◌, List, [], ◌∷◌, ◌++◌, length, get_or, take, drop, Bool, true, false, eqb, eq-eqb, refl, sym, ap, ◌∙◌, subst, arith, append_assoc, append-nil, length-append}
-use Rattle.std.specs.Prelude.{codes, All, ◌==◌}
+use Rattle.std.proofs.Common.{◌≡◌, inl, inr, ℕ, ◌+◌, ◌*◌, ◌/◌, ◌%◌, ◌<◌, ◌≤◌, ◌^◌, List, [], ◌∷◌, ◌++◌, length, get_or, take, drop, Bool, true, false, eqb, eq-eqb, refl, sym, ap, ◌∙◌, subst, arith, append_assoc, length-append}
+use Rattle.std.specs.Prelude.{codes, ◌==◌}
 use Rattle.std.specs.Fmt.{decimal}
-use Rattle.std.specs.Str.{IsUtf8}
 use Rattle.std.proofs.lemmas.Bool.{cases_lt, eqb-true}
-use Rattle.std.proofs.lemmas.Fmt.{decimal_by_steps, decimal_step, decimal_digit, decimal_nonempty}
+use Rattle.std.proofs.lemmas.Fmt.{decimal_by_steps, decimal_step, decimal_digit}
 use Rattle.std.proofs.lemmas.List.{append_cancel_left, nil_from_length}
 use Rattle.memchr.specs.Find.{is_byte, IsFirstByte}
-use Rattle.std.specs.Prelude.{Option, None, Some, Result, Ok, Err, IfOk}
-use Rattle.path_glob.specs.Path.{IsPath}
+use Rattle.std.specs.Prelude.{None, Some, Result, Ok, Err, IfOk}
 use Rattle.wire_stream.specs.Lines.{Line, Put, Del, Rule, Unrule, Sync, Scan, Fix, End, sized_bytes, line_bytes, IsName, IsPrefix, IsSized, IsLine}
 use Rattle.wire_stream.specs.Fronts.{IsLineFront, IsSizedFront, IsFrontOf, IsNamedFront, IsBareFront}
-use Rattle.wire_stream.specs.Heads.{Lacks}
-use Rattle.wire_stream.proofs.Firsts.{lacks_by_test, front_before}
+use Rattle.wire_stream.proofs.Firsts.{front_before}
 use Rattle.wire_stream.proofs.Lines.{line_short}
 use Rattle.wire_stream.proofs.Parts.{lacks_of, parts_of, sized_parts}
 use Rattle.wire_stream.proofs.Fills.{overlap, letter_path, dot_path, letter_text, dot_text}

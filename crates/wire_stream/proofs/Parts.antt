@@ -1,10 +1,10 @@
 -- A length, a space and a name.
-use Rattle.std.proofs.Common.{◌≡◌, ℕ, ◌+◌, ◌<◌, ◌≤◌, true, List, [], ◌∷◌, ◌++◌, length, get_or, take, drop, refl, sym, ap, ◌∙◌, subst, arith, append_assoc, append-nil, eqb, eq-eqb}
-use Rattle.std.specs.Prelude.{Option, None, Some}
+use Rattle.std.proofs.Common.{◌≡◌, ℕ, ◌+◌, ◌<◌, ◌≤◌, List, [], ◌∷◌, ◌++◌, length, get_or, take, drop, sym, ap, ◌∙◌, subst, arith, append_assoc, append-nil, eq-eqb}
+use Rattle.std.specs.Prelude.{None, Some}
 use Rattle.std.specs.Fmt.{decimal}
 use Rattle.std.proofs.lemmas.Bool.{eqb-true}
 use Rattle.memchr.specs.Find.{is_byte, IsFirstByte}
-use Rattle.wire_stream.specs.Lines.{IsName, IsSized, sized_bytes}
+use Rattle.wire_stream.specs.Lines.{IsSized, sized_bytes}
 use Rattle.wire_stream.specs.Heads.{Lacks, IsLineEnd}
 use Rattle.wire_stream.proofs.Firsts.{lacks_by_place, lacks_before, parts_at, no_place, same_first}
 use Rattle.wire_stream.proofs.Lines.{decimal_lacks}

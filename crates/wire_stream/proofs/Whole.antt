@@ -1,13 +1,13 @@
 -- Whole commands.
-use Rattle.std.proofs.Common.{◌≡◌, ℕ, zero, suc, Bool, true, false, ◌+◌, ◌-◌, ◌<◌, ◌≤◌, ◌^◌, List, [], ◌∷◌, ◌++◌, length, take, drop, replicate, refl, sym, ap, ◌∙◌, subst, arith, append_assoc, append-nil, length-append}
-use Rattle.std.specs.Prelude.{Option, Some, None, Result, Ok, Err}
+use Rattle.std.proofs.Common.{◌≡◌, ℕ, false, ◌+◌, ◌-◌, ◌<◌, ◌≤◌, List, [], ◌∷◌, ◌++◌, length, take, drop, replicate, refl, sym, ap, ◌∙◌, subst, arith, append_assoc, length-append}
+use Rattle.std.specs.Prelude.{Option, Some, None, Err}
 use Rattle.std.specs.Io.KnownBytes.{Keeps, IsAtEnd}
 use Rattle.std.proofs.lemmas.List.{length-take-le, length-replicate}
 use Rattle.wire_stream.specs.Lines.{Line, Put, Rule, IsLine, line_bytes}
 use Rattle.wire_stream.specs.Asked.{IsLineOf, IsNoLine}
-use Rattle.wire_stream.specs.Commands.{body_length, IsBody, body_bytes, command_bytes, wire_of, Begins, BeginsNone}
+use Rattle.wire_stream.specs.Commands.{body_length, IsBody, body_bytes, command_bytes, wire_of, BeginsNone}
 use Rattle.wire_stream.specs.Bodies.{IsWhole, IsNoWhole}
-use Rattle.wire_stream.specs.Heads.{Lacks, IsHead, IsLineEnd, IsRest, IsNoRest}
+use Rattle.wire_stream.specs.Heads.{Lacks, IsLineEnd, IsRest, IsNoRest}
 use Rattle.wire_stream.specs.Fronts.{IsLineFront, IsCommandFront, Waits, WaitsWithin}
 use Rattle.wire_stream.specs.Feeds.{FeedState, Used, Next, BeginsLonger, IsFault, HasWireCause, fault_of}
 use Rattle.wire_stream.specs.Streams.{Uses, OfStream, HasTroubleCause}
@@ -19,7 +19,7 @@ use Rattle.wire_stream.specs.declared.wire.Wire.{Wire}
 use Rattle.wire_stream.specs.declared.wire.Wire.TheVariants as wires
 use Rattle.wire_stream.proofs.Firsts.{front_before}
 use Rattle.wire_stream.proofs.Fills.{overlap}
-use Rattle.wire_stream.proofs.Streams.{uses_hand, uses_nothing, uses_then, uses_is, uses_to_end, uses_all, told_before, told_by_hand, told_at_end}
+use Rattle.wire_stream.proofs.Streams.{uses_hand, uses_nothing, uses_then, uses_is, uses_all, told_before, told_by_hand, told_at_end}
 use Rattle.wire_stream.proofs.Commands.{begins_line, line_used, no_line, no_rest, no_end}
 
 -- ---- the line

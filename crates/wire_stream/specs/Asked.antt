@@ -1,5 +1,5 @@
 -- The lines that were read.
-use Rattle.std.specs.Prelude.{◌≡◌, ℕ, List, Option, None, Some}
+use Rattle.std.specs.Prelude.{◌≡◌, ℕ, List}
 use Rattle.wire_stream.specs.Lines.{Line, Put, Del, Rule, Unrule, Sync, Scan, Fix, End, IsLine, line_bytes}
 use Rattle.wire_stream.specs.declared.line.Asked.{Asked}
 use Rattle.wire_stream.specs.declared.line.Asked.TheVariants as asked

@@ -1,5 +1,5 @@
 -- The bodies of commands.
-use Rattle.std.specs.Prelude.{◌≡◌, ◌≤◌, ℕ, List, [], ◌∷◌, ◌++◌, length, take, Option}
+use Rattle.std.specs.Prelude.{◌≡◌, ℕ, List, [], ◌∷◌, ◌++◌, length, take, Option}
 use Rattle.wire_stream.specs.Streams.{Uses}
 
 -- nothing is left

@@ -1,5 +1,5 @@
 -- A stream that is read command by command.
-use Rattle.std.specs.Prelude.{◌≡◌, ◌<◌, ◌≤◌, ◌+◌, ◌-◌, ℕ, List, length, Bool, Option, Result, Ok, Err}
+use Rattle.std.specs.Prelude.{◌≡◌, ◌<◌, ◌≤◌, ◌+◌, ◌-◌, ℕ, List, length, Bool, Option, Result, Err}
 use Rattle.scan_world.specs.Faults.{Rose}
 use Rattle.wire_stream.specs.Lines.{Line, IsLine}
 use Rattle.wire_stream.specs.Commands.{body_length, IsBody, command_bytes, wire_of, Begins, BeginsNone}

@@ -1,5 +1,5 @@
 -- Fronts of lines and of commands.
-use Rattle.std.specs.Prelude.{◌≡◌, ◌<◌, ◌≤◌, ◌⊎◌, ℕ, List, [], ◌++◌, length, codes, Option, Some}
+use Rattle.std.specs.Prelude.{◌≡◌, ◌<◌, ◌≤◌, ◌⊎◌, ℕ, List, [], ◌++◌, length, codes, Option}
 use Rattle.wire_stream.specs.Lines.{Line, IsLine, IsSized, line_bytes, sized_bytes}
 use Rattle.wire_stream.specs.Commands.{body_length, IsBody, command_bytes}
 use Rattle.wire_stream.specs.Streams.{Uses}

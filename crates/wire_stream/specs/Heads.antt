@@ -1,6 +1,6 @@
 -- Commands without their bodies.
-use Rattle.std.specs.Prelude.{◌≡◌, ◌<◌, ◌≤◌, ◌≢◌, ℕ, List, [], ◌∷◌, ◌++◌, length, take, drop, slice_index, Option, None, Some}
-use Rattle.wire_stream.specs.Lines.{Line, Put, Rule, IsLine}
+use Rattle.std.specs.Prelude.{◌≡◌, ◌<◌, ◌≢◌, ℕ, List, [], ◌∷◌, ◌++◌, length, slice_index, Option, None}
+use Rattle.wire_stream.specs.Lines.{Line, Put, Rule}
 use Rattle.wire_stream.specs.Commands.{body_length, IsBody, body_bytes, wire_of}
 use Rattle.wire_stream.specs.Streams.{Uses}
 use Rattle.wire_stream.specs.declared.head.Head.{Head}

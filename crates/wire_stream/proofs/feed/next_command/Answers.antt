@@ -1,5 +1,5 @@
-use Rattle.std.proofs.Common.{◌≡◌, ap, refl, arith}
-use Rattle.std.specs.Prelude.{Result, Err, IsErrOf}
+use Rattle.std.proofs.Common.{◌≡◌, ap, refl}
+use Rattle.std.specs.Prelude.{Err, IsErrOf}
 use Rattle.wire_stream.specs.Feeds.{FeedState}
 use Rattle.wire_stream.specs.declared.trouble.Trouble.{Trouble}
 use Rattle.wire_stream.specs.declared.wire.WireFault.{WireFault}

@@ -1,5 +1,5 @@
 use Rattle.std.proofs.Common.{◌≡◌, ◌++◌, ℕ, Bool, true, false, List, IsTrue}
-use Rattle.wire_stream.specs.Fronts.{IsLineFront, IsSizedFront, IsNamedFront, IsBareFront}
+use Rattle.wire_stream.specs.Fronts.{IsLineFront, IsSizedFront}
 use Rattle.wire_stream.specs.Lines.{IsName}
 use Rattle.wire_stream.proofs.Fills.{refuted}
 use Rattle.wire_stream.proofs.Opening.{if_ok_more, put_front, rule_front, del_front, unrule_front, sync_front, no_put, no_rule, no_del, no_unrule, no_sync, named_line, bare_line, line_word}

@@ -1,4 +1,3 @@
-use Rattle.std.proofs.Common.{◌≡◌, ℕ, List}
 use Rattle.wire_stream.proofs.Fills.{refuted, no_way}
 use Rattle.wire_stream.proofs.open.opens_name.Goals as goal
 

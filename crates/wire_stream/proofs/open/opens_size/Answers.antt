@@ -1,4 +1,3 @@
-use Rattle.std.proofs.Common.{ℕ, List}
 use Rattle.wire_stream.proofs.Opening.{nothing_sized, number_sized, no_number, empty_bytes, some_bytes}
 use Rattle.wire_stream.proofs.open.opens_size.Goals as goal
 

@@ -1,4 +1,4 @@
-use Rattle.std.proofs.Common.{◌≡◌, ◌++◌, ℕ, Bool, true, false, List, IsTrue, length, take, drop, ◌+◌, ◌-◌, sym, subst}
+use Rattle.std.proofs.Common.{◌≡◌, ◌++◌, ℕ, false, List, IsTrue, length, take, drop, ◌+◌, ◌-◌, sym, subst}
 use Rattle.std.proofs.lemmas.List.{take_rest}
 use Rattle.wire_stream.specs.Fronts.{IsSizedFront}
 use Rattle.wire_stream.specs.Lines.{IsName}
