@@ -4,6 +4,9 @@ use crate::show::read;
 use std::alloc::{AllocError, Global};
 use std::test::Fail;
 
+// The longest path or body of these streams.
+const MOST: usize = 2_000_000;
+
 // Whether the stream is read so, whatever number of bytes a read gives.
 fn reads(alloc: Global, bytes: &[u8], shown: &str) -> Result<bool, AllocError> {
     let mut same = true;
@@ -97,7 +100,7 @@ fn knows_paths(rt: HostRuntime) -> Result<(), Fail> {
 // A stream that deletes a path of so many bytes.
 fn long_path(alloc: Global, count: usize) -> Result<Vec<u8>, AllocError> {
     let mut bytes = Vec::from_slice(alloc, b"del ")?;
-    bytes.resize(4 + count, b'a')?;
+    bytes.resize(4 + count.min(MOST), b'a')?;
     bytes.extend_from_slice(b"\nend\n")?;
     Ok(bytes)
 }
@@ -120,7 +123,7 @@ fn knows_the_longest_path(rt: HostRuntime) -> Result<(), Fail> {
 // A stream that puts a body of so many bytes, and scans.
 fn long_body(alloc: Global, line: &str, count: usize) -> Result<Vec<u8>, AllocError> {
     let mut bytes = Vec::from_slice(alloc, line.as_bytes())?;
-    let end = bytes.len() + count;
+    let end = bytes.len() + count.min(MOST);
     bytes.resize(end, b'\n')?;
     bytes.extend_from_slice(b"\nscan\nend\n")?;
     Ok(bytes)
