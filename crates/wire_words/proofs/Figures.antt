@@ -36,8 +36,8 @@ abbrev pub IsPadding : List ℕ → Type 0
 IsPadding word = ((0 < length word) × (get_or word 0 0 ≡ 43)) ⊎ ((1 < length word) × (get_or word 0 0 ≡ 48))
 
 -- no number is written so
-pub not_padded : (n : ℕ) (word : List ℕ) → n ≤ 50000 → word ≡ decimal n → IsPadding word → ⊥
-not_padded n word small e p = apart n word (begins n (omega arith)) e p
+pub not_padded : (n : ℕ) (word : List ℕ) → n < 2 ^ 64 → word ≡ decimal n → IsPadding word → ⊥
+not_padded n word small e p = apart n word (begins n small) e p
   where
     first_is : (word rest : List ℕ) (d : ℕ) → word ≡ d ∷ rest → get_or word 0 0 ≡ d
     first_is word rest d e = ap (λ (l : List ℕ). get_or l 0 0) e
@@ -50,15 +50,15 @@ not_padded n word small e p = apart n word (begins n (omega arith)) e p
     apart zero word b e (inr (two, zeros)) = let f = length_is word b.rest b.first (e ∙ b.is) (b.alone (omega arith)) in omega arith
     apart (suc n) word b e (inr (two, zeros)) = let f = first_is word b.rest b.first (e ∙ b.is) in let high = b.nonzero (omega arith) in omega arith
 
-pub read_back : {E : Type 0} (r : Result ℕ E) (word : List ℕ) (n : ℕ) → ParsesUnsigned 64 10 word r → n ≤ 50000 → word ≡ decimal n → r ≡ Ok n
-read_back r word n parses small e = parse-decimal 64 n word r (omega arith) (omega arith) e parses
+pub read_back : {E : Type 0} (r : Result ℕ E) (word : List ℕ) (n : ℕ) → ParsesUnsigned 64 10 word r → n < 2 ^ 64 → word ≡ decimal n → r ≡ Ok n
+read_back r word n parses small e = parse-decimal 64 n word r small small e parses
 
 -- what isn't read is no number
-pub refused : {E : Type 0} (r : Result ℕ E) (word : List ℕ) → ParsesUnsigned 64 10 word r → None ≡ result_ok r → (n : ℕ) → n ≤ 50000 → word ≡ decimal n → ⊥
+pub refused : {E : Type 0} (r : Result ℕ E) (word : List ℕ) → ParsesUnsigned 64 10 word r → None ≡ result_ok r → (n : ℕ) → n < 2 ^ 64 → word ≡ decimal n → ⊥
 refused r word parses none n small e = let f : result_ok r ≡ Some n = ap result_ok (read_back r word n parses small e) in absurd cc
 
 -- what is read is the number
-pub same_number : {E : Type 0} (r : Result ℕ E) (word : List ℕ) (m : ℕ) → ParsesUnsigned 64 10 word r → Some m ≡ result_ok r → (n : ℕ) → n ≤ 50000 → word ≡ decimal n → m ≡ n
+pub same_number : {E : Type 0} (r : Result ℕ E) (word : List ℕ) (m : ℕ) → ParsesUnsigned 64 10 word r → Some m ≡ result_ok r → (n : ℕ) → n < 2 ^ 64 → word ≡ decimal n → m ≡ n
 same_number r word m parses some n small e = let f : result_ok r ≡ Some n = ap result_ok (read_back r word n parses small e) in cc
 
 own : IsNumeralModel (AllDigits 10) (digits_value 10)

@@ -5,7 +5,7 @@ ghost use Rattle.wire_words.specs.Choices.{IsFlagWord};
 ghost use Rattle.wire_words.specs.Commands.{Task, AreJobWords, task_of, IsPrefix as is_prefix_text};
 
 use crate::command::Job;
-use crate::number::MOST_FINDINGS;
+use crate::numbers::MOST_FINDINGS;
 use crate::settings::settings;
 use path_glob::path_ok;
 

@@ -10,9 +10,10 @@
 mod command;
 mod job;
 mod language;
-mod number;
+mod numbers;
 mod settings;
 mod words;
 
 pub use command::{Command, Job};
+pub use numbers::number;
 pub use words::read_words;

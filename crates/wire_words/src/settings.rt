@@ -4,7 +4,7 @@ ghost use Rattle.std.specs.Prelude.{◌≡◌, ◌<◌, ◌∷◌, [], ◌++◌,
 ghost use Rattle.wire_words.specs.Choices.{Choice, choice_words, IsGood, AreOnce, AreChoices, IsFlagWord};
 ghost use Rattle.wire_words.specs.Settings.{chosen, IsValued, Tells};
 
-use crate::number::number;
+use crate::numbers::{MOST_FINDINGS, number};
 use path_glob::path_ok;
 
 /// An option with its value.
@@ -29,7 +29,7 @@ fn valued<'w>(word: &str, value: &'w str) -> Option<Setting<'w>>
     ensures none { IfNone result ((c : Choice) → IsGood c → IsValued word.now value.now c → ⊥) }
 {
     if word == "--max" {
-        let most = number(value)?;
+        let most = number(value, MOST_FINDINGS)?;
         return Some(Setting::Most(most));
     }
     if word == "--config" && path_ok(value) {

@@ -1,4 +1,4 @@
-//! The number of `--max`.
+//! Numbers in words.
 
 ghost use Rattle.std.specs.Prelude.{◌≡◌, ◌≤◌, ◌<◌, ◌⊎◌, ◌↔◌, ℕ, IsTrue, IfSome, IfNone, length, slice_index};
 ghost use Rattle.std.specs.Fmt.{decimal};
@@ -13,16 +13,16 @@ fn is_padded(word: &[u8]) -> bool
     (!word.is_empty() && word[0] == b'+') || (word.len() > 1 && word[0] == b'0')
 }
 
-/// The number that a word writes in decimal without leading zeros, up to 50,000.
-pub fn number(word: &str) -> Option<u64>
-    ensures some { IfSome result (λ n. (n ≤ 50000) × (word.now ≡ decimal n)) }
-    ensures none { IfNone result ((n : ℕ) → n ≤ 50000 → word.now ≡ decimal n → ⊥) }
+/// The number that a word writes in decimal without leading zeros, up to the highest one that is asked for.
+pub fn number(word: &str, most: u64) -> Option<u64>
+    ensures some { IfSome result (λ n. (n ≤ most) × (word.now ≡ decimal n)) }
+    ensures none { IfNone result ((n : ℕ) → n ≤ most → word.now ≡ decimal n → ⊥) }
 {
     if is_padded(word.as_bytes()) {
         return None;
     }
     let n = word.parse::<u64>().ok()?;
-    if n > MOST_FINDINGS {
+    if n > most {
         return None;
     }
     Some(n)

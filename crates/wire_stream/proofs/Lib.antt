@@ -1,0 +1,9 @@
+pub mod Firsts
+pub mod Streams
+pub mod Lines
+pub mod Commands
+pub mod Bodies
+pub mod Parts
+pub mod Opening
+pub mod Whole
+pub mod Fills
