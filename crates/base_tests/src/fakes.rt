@@ -16,24 +16,34 @@ fn calls(alloc: Global, numbers: &[u32]) -> Result<List<u32>, Memory> {
 }
 
 #[test]
-fn streams_fail_when_told(rt: HostRuntime) -> Result<(), Fail> {
+fn sources_fail_when_told(rt: HostRuntime) -> Result<(), Fail> {
     let bytes = Bytes::from_slice(rt.alloc(), b"abcde")?;
     let mut source = MemorySource::new(bytes, 3, calls(rt.alloc(), &[2])?);
     let mut buf = [0; 4];
-    assert_eq!(rt; source.read(&mut buf), Ok(3));
-    assert_eq!(rt; buf, [97, 98, 99, 0]);
-    assert_eq!(rt; source.read(&mut buf), Err(Failed));
-    assert_eq!(rt; source.read(&mut buf), Ok(2));
-    assert_eq!(rt; buf, [100, 101, 99, 0]);
-    assert_eq!(rt; source.read(&mut buf), Ok(0));
-    // A sink takes half of a failing piece, and nothing past its room.
+    for (answer, held) in [
+        (Ok(3), [97, 98, 99, 0]),
+        (Err(Failed), [97, 98, 99, 0]),
+        (Ok(2), [100, 101, 99, 0]),
+        (Ok(0), [100, 101, 99, 0]),
+    ] {
+        assert!(rt; source.read(&mut buf) == answer && buf == held);
+    }
+    Ok(())
+}
+
+// A sink takes half of a failing piece, and nothing past its room.
+#[test]
+fn sinks_fail_when_told(rt: HostRuntime) -> Result<(), Fail> {
     let mut sink = MemorySink::new(rt.alloc(), 6, calls(rt.alloc(), &[2])?)?;
-    assert_eq!(rt; sink.write(b"ab"), Ok(()));
-    assert_eq!(rt; sink.write(b"cde"), Err(Failed));
-    assert_eq!(rt; sink.as_slice(), b"abc".as_slice());
-    assert_eq!(rt; sink.write(b"fghi"), Err(Failed));
-    assert_eq!(rt; sink.write(b"fgh"), Ok(()));
-    assert_eq!(rt; sink.as_slice(), b"abcfgh".as_slice());
+    for (piece, answer, held) in [
+        ("ab", Ok(()), "ab"),
+        ("cde", Err(Failed), "abc"),
+        ("fghi", Err(Failed), "abc"),
+        ("fgh", Ok(()), "abcfgh"),
+    ] {
+        assert!(rt; sink.write(piece.as_bytes()) == answer);
+        assert!(rt; sink.as_slice() == held.as_bytes());
+    }
     Ok(())
 }
 
@@ -75,25 +85,74 @@ fn trees_list_what_is_under_a_prefix_in_order(rt: HostRuntime) -> Result<(), Fai
     Ok(())
 }
 
+// What one call of a tree answers: the paths that it lists, a front of a file, nothing after it wrote, or its fault.
+fn answer(
+    alloc: Global,
+    tree: &mut MemoryTree,
+    call: &str,
+    path: &str,
+    most: u64,
+) -> Result<String, AllocError> {
+    let mut out = String::new(alloc);
+    let fault = match call {
+        "list" => return listed(alloc, tree.list(path)),
+        "read" => match tree.read(path, most) {
+            Ok(bytes) => {
+                for byte in bytes.as_slice() {
+                    out.push(*byte as char)?;
+                }
+                return Ok(out);
+            }
+            Err(fault) => fault,
+        },
+        piece => match tree.write(path, piece.as_bytes()) {
+            Ok(()) => return Ok(out),
+            Err(fault) => fault,
+        },
+    };
+    write!(out, "{fault:?}")?;
+    Ok(out)
+}
+
 #[test]
-fn trees_read_fronts_write_and_fail_when_told(rt: HostRuntime) -> Result<(), Fail> {
+fn trees_read_fronts_and_write(rt: HostRuntime) -> Result<(), Fail> {
     let mut tree = tree_of(rt.alloc(), &["abc"], &[])?;
-    for (most, front) in [(0, b"a".as_slice()), (2, b"abc"), (u64::MAX, b"abc")] {
-        assert!(rt; tree.read("abc", most)?.as_slice() == front);
+    for (call, path, most, wanted) in [
+        ("read", "abc", 0, "a"),
+        ("read", "abc", 2, "abc"),
+        ("read", "abc", u64::MAX, "abc"),
+        ("read", "ab", 2, "Absent"),
+        ("x", "ab", 0, ""),
+        ("y", "abc", 0, ""),
+        ("read", "ab", 2, "x"),
+        ("read", "abc", 2, "y"),
+        ("list", ".", 0, "ab abc "),
+    ] {
+        assert_eq!(rt;
+            answer(rt.alloc(), &mut tree, call, path, most)?.as_str(),
+            wanted
+        );
     }
-    assert!(rt; tree.read("ab", 2).err() == Some(TreeFault::Absent));
-    assert!(rt; tree.write("ab", b"x") == Ok(()) && tree.write("abc", b"y") == Ok(()));
-    assert!(rt; tree.read("ab", 2)?.as_slice() == b"x".as_slice());
-    assert!(rt; tree.read("abc", 2)?.as_slice() == b"y".as_slice());
-    assert_eq!(rt; listed(rt.alloc(), tree.list("."))?.as_str(), "ab abc ");
+    Ok(())
+}
+
+#[test]
+fn trees_fail_when_told(rt: HostRuntime) -> Result<(), Fail> {
     let mut tree = tree_of(rt.alloc(), &["a"], &[1, 3, 5])?;
-    assert_eq!(rt; listed(rt.alloc(), tree.list("."))?.as_str(), "Failed");
-    assert_eq!(rt; listed(rt.alloc(), tree.list("."))?.as_str(), "a ");
-    assert!(rt; tree.read("a", 9).err() == Some(TreeFault::Failed));
-    assert!(rt; tree.read("a", 9)?.as_slice() == b"a".as_slice());
-    assert!(rt; tree.write("a", b"z") == Err(TreeFault::Failed));
-    assert!(rt; tree.read("a", 9)?.as_slice() == b"a".as_slice());
-    assert!(rt; tree.write("a", b"z") == Ok(()));
-    assert!(rt; tree.read("a", 9)?.as_slice() == b"z".as_slice());
+    for (call, path, most, wanted) in [
+        ("list", ".", 0, "Failed"),
+        ("list", ".", 0, "a "),
+        ("read", "a", 9, "Failed"),
+        ("read", "a", 9, "a"),
+        ("z", "a", 0, "Failed"),
+        ("read", "a", 9, "a"),
+        ("z", "a", 0, ""),
+        ("read", "a", 9, "z"),
+    ] {
+        assert_eq!(rt;
+            answer(rt.alloc(), &mut tree, call, path, most)?.as_str(),
+            wanted
+        );
+    }
     Ok(())
 }
