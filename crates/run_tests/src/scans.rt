@@ -297,7 +297,7 @@ fn ends_with_a_status(rt: HostRuntime) -> Result<(), Fail> {
 
 #[test]
 fn keeps_to_its_limits(rt: HostRuntime) -> Result<(), Fail> {
-    let rows = [
+    let rows: [(u32, usize, &str); 3] = [
         (10_000, 0, NOTHING),
         (10_001, 0, "OverLimit(Files, 10001)"),
         (34, 1_000_000, "OverLimit(FileBytes, 34000000)"),
