@@ -33,36 +33,43 @@ fn add(
     }
 }
 
+// A binding of names to numbers at ranges.
+fn binding_of(alloc: Global, rows: &[(&str, &str, u32, u32)]) -> Result<Binding, Memory> {
+    let mut binding = Binding::empty(alloc);
+    for (name, number, from, to) in rows {
+        add(alloc, &mut binding, *name, *number, *from, *to)?;
+    }
+    Ok(binding)
+}
+
 #[test]
-fn bindings_agree_and_merge(rt: HostRuntime) -> Result<(), Fail> {
-    let alloc = rt.alloc();
-    let mut first = Binding::empty(alloc);
-    add(alloc, &mut first, "$Y", "1", 0, 1)?;
-    add(alloc, &mut first, "$...X", "2", 0, 1)?;
+fn bindings_agree(rt: HostRuntime) -> Result<(), Fail> {
+    let first = binding_of(rt.alloc(), &[("$Y", "1", 0, 1), ("$...X", "2", 0, 1)])?;
     assert!(rt; first.bounds().len() == 2);
     assert!(rt; first.get("$Y").is_some() && first.get("$X").is_none());
-    let mut second = Binding::empty(alloc);
-    add(alloc, &mut second, "$Z", "3", 0, 1)?;
-    assert!(rt; first.agrees(&second));
-    add(alloc, &mut second, "$Y", "3", 0, 1)?;
-    assert!(rt; !first.agrees(&second));
     assert!(rt; first.agrees(&first.copy()?));
-    // The later place is kept.
-    let mut first = Binding::empty(alloc);
-    add(alloc, &mut first, "$X", "1", 0, 1)?;
-    add(alloc, &mut first, "$Y", "1", 4, 9)?;
-    let mut second = Binding::empty(alloc);
-    add(alloc, &mut second, "$X", "1", 2, 3)?;
-    add(alloc, &mut second, "$Y", "1", 4, 5)?;
-    add(alloc, &mut second, "$Z", "1", 6, 7)?;
-    let agree = first.agrees(&second);
-    assert!(rt; agree);
-    if agree {
-        let merged = first.merge(&second)?;
-        assert!(rt; merged.bounds().len() == 3);
-        assert!(rt; merged.bounds()[0].span == Span { from: 2, to: 3 });
-        assert!(rt; merged.bounds()[1].span == Span { from: 4, to: 5 });
+    for (row, agree) in [(("$Z", "3", 0, 1), true), (("$Y", "3", 0, 1), false)] {
+        let second = binding_of(rt.alloc(), &[row])?;
+        assert!(rt; first.agrees(&second) == agree);
     }
+    Ok(())
+}
+
+// The later place is kept.
+#[test]
+fn bindings_merge(rt: HostRuntime) -> Result<(), Fail> {
+    let first = binding_of(rt.alloc(), &[("$X", "1", 0, 1), ("$Y", "1", 4, 9)])?;
+    let second = binding_of(
+        rt.alloc(),
+        &[("$X", "1", 2, 3), ("$Y", "1", 4, 5), ("$Z", "1", 6, 7)],
+    )?;
+    if !first.agrees(&second) {
+        return Err(Fail::new("the bindings do not agree"));
+    }
+    let merged = first.merge(&second)?;
+    assert!(rt; merged.bounds().len() == 3);
+    assert!(rt; merged.bounds()[0].span == Span { from: 2, to: 3 });
+    assert!(rt; merged.bounds()[1].span == Span { from: 4, to: 5 });
     Ok(())
 }
 

@@ -79,10 +79,16 @@ fn is_line(alloc: Global, report: &Report, line: &str) -> Result<bool, Memory> {
 }
 
 #[test]
-fn reports_have_their_lines(rt: HostRuntime) -> Result<(), Fail> {
+fn an_empty_report_has_its_line(rt: HostRuntime) -> Result<(), Fail> {
     let alloc = rt.alloc();
     assert!(rt; is_line(alloc, &empty(alloc), "{\"notices\":[],\"results\":[]}\n")?);
-    // A finding of taint has its source.
+    Ok(())
+}
+
+// A finding of taint has its source.
+#[test]
+fn a_finding_of_taint_has_its_source(rt: HostRuntime) -> Result<(), Fail> {
+    let alloc = rt.alloc();
     let mut binding = Binding::empty(alloc);
     add(alloc, &mut binding, "$DB", 67, 70)?;
     let mut report = empty(alloc);
@@ -97,7 +103,13 @@ fn reports_have_their_lines(rt: HostRuntime) -> Result<(), Fail> {
     let line =
         "{\"notices\":[],\"results\":[{\"check_id\":\"sqli\",\"end\":{\"col\":19,\"line\":4,\"offset\":81},\"extra\":{\"message\":\"Tainted data reaches cur.execute.\",\"metavars\":{\"$DB\":[67,70]},\"severity\":\"ERROR\",\"source\":[23,40]},\"path\":\"src/a.py\",\"start\":{\"col\":5,\"line\":4,\"offset\":67}}]}\n";
     assert!(rt; is_line(alloc, &report, line)?);
-    // Fixes and metavariables stand in order.
+    Ok(())
+}
+
+// Fixes and metavariables stand in order.
+#[test]
+fn fixes_and_metavariables_stand_in_order(rt: HostRuntime) -> Result<(), Fail> {
+    let alloc = rt.alloc();
     let mut binding = Binding::empty(alloc);
     add(alloc, &mut binding, "$Y", 5, 6)?;
     add(alloc, &mut binding, "$...A", 2, 4)?;
@@ -109,7 +121,13 @@ fn reports_have_their_lines(rt: HostRuntime) -> Result<(), Fail> {
     let line =
         "{\"notices\":[],\"results\":[{\"check_id\":\"sqli\",\"end\":{\"col\":19,\"line\":4,\"offset\":81},\"extra\":{\"fix\":\"g(1)\",\"message\":\"say \\\"é\\\"\\n\",\"metavars\":{\"$...A\":[2,4],\"$Y\":[5,6]},\"severity\":\"ERROR\"},\"path\":\"src/a.py\",\"start\":{\"col\":5,\"line\":4,\"offset\":67}}]}\n";
     assert!(rt; is_line(alloc, &report, line)?);
-    // Notices stand before results.
+    Ok(())
+}
+
+// Notices stand before results.
+#[test]
+fn notices_stand_before_results(rt: HostRuntime) -> Result<(), Fail> {
+    let alloc = rt.alloc();
     let mut report = empty(alloc);
     let key = "rules.1.patterns.0.pattern-foo";
     report

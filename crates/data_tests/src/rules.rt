@@ -130,30 +130,35 @@ fn taint_rule(alloc: Global) -> Result<Rule, Memory> {
     Ok(rule)
 }
 
+// Changes one part of a rule.
+fn change(alloc: Global, rule: &mut Rule, at: u32) -> Result<(), Memory> {
+    match at {
+        0 => rule.severity = Severity::Low,
+        1 => rule.message.push("m")?,
+        2 => rule.fix = Some(Text::new(alloc)),
+        3 => rule.include.push(Text::new(alloc))?,
+        4 => rule.texts.push(Text::new(alloc))?,
+        _ => rule.parts.push(part(alloc)?)?,
+    }
+    Ok(())
+}
+
 #[test]
-fn copies_are_the_same_rule(rt: HostRuntime) -> Result<(), Fail> {
-    let first = rule_a(rt.alloc())?;
-    let other = taint_rule(rt.alloc())?;
-    assert!(rt; first.same_rule(&first.copy()?));
-    assert!(rt; other.same_rule(&other.copy()?));
-    assert!(rt; !first.same_rule(&other));
-    let mut changed = first.copy()?;
-    changed.severity = Severity::Low;
-    assert!(rt; !first.same_rule(&changed));
-    let mut changed = first.copy()?;
-    changed.message.push("m")?;
-    assert!(rt; !first.same_rule(&changed));
-    let mut changed = first.copy()?;
-    changed.fix = Some(Text::new(rt.alloc()));
-    assert!(rt; !first.same_rule(&changed));
-    let mut changed = first.copy()?;
-    changed.include.push(Text::new(rt.alloc()))?;
-    assert!(rt; !first.same_rule(&changed));
-    let mut changed = first.copy()?;
-    changed.texts.push(Text::new(rt.alloc()))?;
-    assert!(rt; !first.same_rule(&changed));
-    let mut changed = first.copy()?;
-    changed.parts.push(part(rt.alloc())?)?;
-    assert!(rt; !first.same_rule(&changed));
+fn copies_are_the_same_rule_until_they_change(rt: HostRuntime) -> Result<(), Fail> {
+    let rule = rule_a(rt.alloc())?;
+    for at in 0..6_u32 {
+        let mut copy = rule.copy()?;
+        assert!(rt; rule.same_rule(&copy));
+        change(rt.alloc(), &mut copy, at)?;
+        assert!(rt; !rule.same_rule(&copy), "{at}");
+    }
+    Ok(())
+}
+
+#[test]
+fn copies_have_all_parts(rt: HostRuntime) -> Result<(), Fail> {
+    let rule = taint_rule(rt.alloc())?;
+    assert!(rt; rule.same_rule(&rule.copy()?));
+    assert!(rt; !rule.same_rule(&rule_a(rt.alloc())?));
     Ok(())
 }

@@ -51,7 +51,12 @@ fn lists_what_is_refused(rt: HostRuntime) -> Result<(), Fail> {
     assert!(rt; patterns.build("a").is_ok());
     assert!(rt; matches!(patterns.build("["), Err(BuildFault::Refused)));
     assert!(rt; are(patterns.refused(), "a(", "["));
-    // The fake refuses what it is told to, once.
+    Ok(())
+}
+
+// The fake refuses what it is told to, once.
+#[test]
+fn a_fake_refuses_what_it_is_told_to(rt: HostRuntime) -> Result<(), Fail> {
     let mut told = List::new(rt.alloc());
     told.push(Text::from_str(rt.alloc(), "a+")?)?;
     let mut patterns = FakePatterns::new(told, 1);
