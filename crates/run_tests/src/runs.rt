@@ -27,6 +27,12 @@ pub fn bytes_of(alloc: Global, pieces: &[(u32, &[u8])]) -> Result<Bytes, AllocEr
     Ok(Bytes::from_vec(bytes))
 }
 
+/// A file of this text.
+pub fn file_of(alloc: Global, path: &str, text: &str) -> Result<(Text, Bytes), Memory> {
+    let bytes = Bytes::from_slice(alloc, text.as_bytes())?;
+    Ok((Text::from_str(alloc, path)?, bytes))
+}
+
 /// Files, each by its path and the pieces of its bytes.
 pub fn files_of(
     alloc: Global,

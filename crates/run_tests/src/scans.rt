@@ -1,6 +1,6 @@
 //! Runs of `scan`.
 
-use crate::runs::{bytes_of, files_of, outcome};
+use crate::runs::{bytes_of, file_of, files_of, outcome};
 use node_tree::{Bytes, List, Text};
 use rx_text::{FakePatterns, RealPatterns};
 use shown::{parted, same};
@@ -121,9 +121,9 @@ fn prints_what_a_rule_finds(rt: HostRuntime) -> Result<(), Fail> {
         let rule = format!(in rt.alloc();
             "rules:\n- id: p\n  languages: [{lang}]\n  severity: INFO\n  message: m\n{formula}"
         )?;
-        let rule: &[(u32, &[u8])] = &[(1, rule.as_bytes())];
-        let file: &[(u32, &[u8])] = &[(1, text.as_bytes())];
-        let files = files_of(rt.alloc(), &[("r.rules", rule), (path, file)])?;
+        let mut files = List::new(rt.alloc());
+        files.push(file_of(rt.alloc(), "r.rules", rule.as_str())?)?;
+        files.push(file_of(rt.alloc(), path, text)?)?;
         let found = scanned(rt.alloc(), OTHERS, files, [0, 0, 0])?;
         same(row, found.as_str(), wanted)?;
     }
