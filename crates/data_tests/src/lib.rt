@@ -1,15 +1,9 @@
-//! Tests of bindings, paths, regular expressions, rules, command lines and reports.
+//! Tests of bindings, paths and command lines.
 #![tactic(auto)]
 
 #[cfg(test)]
 mod bounds;
 #[cfg(test)]
 mod paths;
-#[cfg(test)]
-mod reports;
-#[cfg(test)]
-mod rules;
-#[cfg(test)]
-mod searches;
 #[cfg(test)]
 mod words;
