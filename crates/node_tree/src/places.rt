@@ -1,32 +1,47 @@
 //! Where the lines of a text are.
 
-ghost use Rattle.std.specs.Prelude.{◌≡◌, ◌≤◌, length, IfOk};
-ghost use Rattle.node_tree.specs.Places.{lines_before, bytes_before, place_of};
+ghost use Rattle.std.specs.Prelude.{◌≡◌, ◌+◌, ◌≤◌, ◌++◌, ℕ, List as list, length, IfOk};
+ghost use Rattle.node_tree.specs.Places.{place_of};
+ghost use Rattle.node_tree.specs.Marks.{mark_of};
 
+use crate::mark::Mark;
 use crate::memory::Memory;
 use crate::place::Place;
-use memchr::memchr_iter;
+use memchr::{memchr_iter, memrchr};
 use std::alloc::Global;
 use std::marker::Model;
 
-/// The places of a text, which contracts see as the text. It keeps where the lines end, so that each place is found by a
-/// search among them.
+/// The places of a text, which contracts see as the text. It keeps what stands before each part of 1,024 bytes, so that
+/// a place is found by a look at the part before it.
 #[derive(Drop)]
 pub struct Places<'t> {
     text: &'t [u8],
-    ends: Vec<usize>,
+    marks: Vec<Mark>,
 }
 
 impl<'t> Model for Places<'t> {
-    ghost use Rattle.std.specs.Prelude.{◌≡◌, ◌≤◌, ℕ, List, length};
-    ghost use Rattle.memchr.specs.Find.{places};
-    ghost use Rattle.node_tree.specs.Places.{ends_line};
+    ghost use Rattle.std.specs.Prelude.{◌≤◌, ◌<◌, ◌*◌, ℕ, List, length};
+    ghost use Rattle.node_tree.specs.Marks.{AreMarks};
 
     ghost Value = { List ℕ };
 
     ghost view = { λ p. p.text.now };
 
-    ghost invariant = { λ p. (length p.text.now ≤ 1000000) × (p.ends.items ≡ places ends_line p.text.now) };
+    ghost invariant = { λ p. (length p.text.now ≤ 1000000) × (length p.text.now < 1024 * length p.marks.items) × AreMarks p.text.now 0 p.marks.items };
+}
+
+// The mark after one more piece of the text.
+fn after(mark: Mark, piece: &[u8]) -> Mark
+    requires lines { mark.lines + length piece.now ≤ 1000000 }
+    requires bytes { mark.bytes + length piece.now ≤ 1000000 }
+    ensures { (front : list ℕ) → mark ≡ mark_of front → result ≡ mark_of (front ++ piece.now) }
+{
+    let lines = mark.lines + memchr_iter(b'\n', piece).count() as u32;
+    let bytes = match memrchr(b'\n', piece) {
+        Some(last) => (piece.len() - last - 1) as u32,
+        None => mark.bytes + piece.len() as u32,
+    };
+    Mark { lines, bytes }
 }
 
 impl<'t> Places<'t> {
@@ -35,20 +50,16 @@ impl<'t> Places<'t> {
         requires { length text.now ≤ 1000000 }
         ensures { IfOk result (λ p. p ≡ text.now) }
     {
-        let ends = memchr_iter(b'\n', text).collect(alloc)?;
-        Ok(Places { text, ends })
-    }
-
-    // How many bytes stand before a place in its line, where so many lines end before it.
-    fn bytes_before(&self, at: u32, lines: usize) -> u32
-        requires within { at ≤ length self.now }
-        requires lines { lines ≡ lines_before self.now at }
-        ensures { result ≡ bytes_before self.now at }
-    {
-        match lines.checked_sub(1) {
-            None => at,
-            Some(last) => at - (self.ends[last] as u32 + 1),
+        let mut marks = Vec::new(alloc);
+        let mut mark = Mark { lines: 0, bytes: 0 };
+        let mut from: usize = 0;
+        while text.len() - from >= 1024 {
+            marks.push(mark)?;
+            mark = after(mark, &text[from..from + 1024]);
+            from += 1024;
         }
+        marks.push(mark)?;
+        Ok(Places { text, marks })
     }
 
     /// The place of a byte, or of the end of the text. It takes no memory.
@@ -56,10 +67,12 @@ impl<'t> Places<'t> {
         requires { at ≤ length self.now }
         ensures { result ≡ place_of self.now at }
     {
-        let lines = self.ends.partition_point(|end| *end < at as usize);
+        let part = at as usize / 1024;
+        let before = self.marks[part];
+        let mark = after(before, &self.text[part * 1024..at as usize]);
         Place {
-            line: lines as u32 + 1,
-            col: self.bytes_before(at, lines) + 1,
+            line: mark.lines + 1,
+            col: mark.bytes + 1,
             offset: at,
         }
     }

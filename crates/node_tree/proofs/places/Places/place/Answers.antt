@@ -1,32 +1,37 @@
-use Rattle.std.proofs.Common.{◌≡◌, ◌≤◌, ltb, length, ap, rules, of_calls, arith, ◌∙◌}
-use Rattle.std.proofs.lemmas.Fn.{always_returns_same}
-use Rattle.node_tree.specs.Places.{lines_before}
-use Rattle.node_tree.proofs.LineEnds.{found_lines, lines_fit, bytes_fit}
+use Rattle.std.proofs.Common.{◌≡◌, ℕ, ◌≤◌, List, length, ap, ◌∙◌, arith}
+use Rattle.node_tree.specs.Places.{place_of}
+use Rattle.node_tree.proofs.LineEnds.{mark_before, mark_after, mark_place, lines_fit, bytes_fit, piece_fits}
 use Rattle.node_tree.proofs.places.Places.place.Goals as goal
 
-lines : (c : goal.After-partition_point-lines) → c.partition_point-lines.result ≡ lines_before c.args.self.now c.args.at
-lines c =
-    found_lines c.args.self.now _ c.args.at c.partition_point-lines.result (c.deref.ensures.value ∙ rw c.self.view_is at c.self.invariant.1) c.requires c.partition_point-lines.ensures.bound
-    (c.partition_point-lines.ensures.partitioned (λ y. ltb y c.args.at) (always_returns_same _ _ _ (λ a r f k. search (rules, of_calls))))
+pub after-mark-requires-clause-lines : goal.after-mark-requires-clause-lines
+after-mark-requires-clause-lines c =
+    let within : c.args.at ≤ length c.self.inside.text.now = omega (arith, c.requires, ap length c.self.view_is) in
+    let before = mark_before c.self.inside.text.now c.self.inside.marks.items c.args.at c.index-before.result.now c.self.invariant.2 c.self.invariant.1 within c.index-before.ensures in
+    (piece_fits c.self.inside.text.now c.args.at _ before within c.self.invariant.0).0
 
-pub bytes_before-requires-clause-lines : goal.bytes_before-requires-clause-lines
-bytes_before-requires-clause-lines c = lines c
-
-small : (c : goal.After-partition_point-lines) → c.args.at ≤ 1000000
-small c = omega (arith, ap length c.self.view_is, c.self.invariant.0, c.requires)
-
-pub overflow_cast-result : goal.overflow_cast-result
-overflow_cast-result c = omega (arith, lines c, lines_fit c.args.self.now c.args.at c.requires, small c)
+pub after-mark-requires-clause-bytes : goal.after-mark-requires-clause-bytes
+after-mark-requires-clause-bytes c =
+    let within : c.args.at ≤ length c.self.inside.text.now = omega (arith, c.requires, ap length c.self.view_is) in
+    let before = mark_before c.self.inside.text.now c.self.inside.marks.items c.args.at c.index-before.result.now c.self.invariant.2 c.self.invariant.1 within c.index-before.ensures in
+    (piece_fits c.self.inside.text.now c.args.at _ before within c.self.invariant.0).1
 
 pub overflow_add-result : goal.overflow_add-result
-overflow_add-result c = omega (arith, lines c, lines_fit c.args.self.now c.args.at c.requires, small c)
+overflow_add-result c =
+    let within : c.args.at ≤ length c.self.inside.text.now = omega (arith, c.requires, ap length c.self.view_is) in
+    let before = mark_before c.self.inside.text.now c.self.inside.marks.items c.args.at c.index-before.result.now c.self.invariant.2 c.self.invariant.1 within c.index-before.ensures in
+    let mark = mark_after c.self.inside.text.now c.args.at _ _ before c.after-mark.ensures in
+    omega (arith, within, c.self.invariant.0, lines_fit c.self.inside.text.now c.args.at _ mark within)
 
 pub overflow_add-result-2 : goal.overflow_add-result-2
-overflow_add-result-2 c = omega (arith, bytes_fit c.args.self.now c.args.at c.requires, c.bytes_before.ensures, c.self.invariant.0, ap length c.self.view_is, c.requires)
+overflow_add-result-2 c =
+    let within : c.args.at ≤ length c.self.inside.text.now = omega (arith, c.requires, ap length c.self.view_is) in
+    let before = mark_before c.self.inside.text.now c.self.inside.marks.items c.args.at c.index-before.result.now c.self.invariant.2 c.self.invariant.1 within c.index-before.ensures in
+    let mark = mark_after c.self.inside.text.now c.args.at _ _ before c.after-mark.ensures in
+    omega (arith, within, c.self.invariant.0, bytes_fit c.self.inside.text.now c.args.at _ mark within)
 
 pub returns : goal.returns
 returns c =
-    let found : c.partition_point-lines.result ≡ lines_before c.args.self.now c.args.at =
-    found_lines c.args.self.now _ c.args.at c.partition_point-lines.result (c.deref.ensures.value ∙ rw c.self.view_is at c.self.invariant.1) c.requires c.partition_point-lines.ensures.bound
-    (c.partition_point-lines.ensures.partitioned (λ y. ltb y c.args.at) (always_returns_same _ _ _ (λ a r f k. search (rules, of_calls)))) in
-    cc
+    let within : c.args.at ≤ length c.self.inside.text.now = omega (arith, c.requires, ap length c.self.view_is) in
+    let before = mark_before c.self.inside.text.now c.self.inside.marks.items c.args.at c.index-before.result.now c.self.invariant.2 c.self.invariant.1 within c.index-before.ensures in
+    let mark = mark_after c.self.inside.text.now c.args.at _ _ before c.after-mark.ensures in
+    mark_place c.self.inside.text.now c.args.at c.after-mark.result mark ∙ ap (λ (text : List ℕ). place_of text c.args.at) c.self.view_is
