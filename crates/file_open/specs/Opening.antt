@@ -6,7 +6,7 @@ use Rattle.node_tree.specs.Spans.{SpansLieIn}
 use Rattle.node_tree.specs.declared.view.FileView.{FileView}
 use Rattle.node_tree.specs.declared.view.Lang.{Lang}
 use Rattle.node_tree.specs.declared.view.Lang.TheVariants.{Regex}
-use Rattle.file_open.specs.declared.opened.TheConstants.{MOST_BYTES}
+use Rattle.node_tree.specs.declared.limits.TheConstants.{MOST_BYTES}
 use Rattle.file_open.specs.declared.opened.TextTree.{TextTree}
 use Rattle.file_open.specs.declared.opened.TextTree.TheVariants as trees
 use Rattle.file_open.specs.declared.opened.Opened.{Opened}

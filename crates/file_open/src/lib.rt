@@ -4,4 +4,4 @@
 mod opened;
 mod reading;
 
-pub use opened::{MOST_BYTES, Opened, open_file};
+pub use opened::{Opened, open_file};

@@ -7,13 +7,10 @@ ghost use Rattle.file_open.specs.Opening.{IsView, IsTextTree, HasOnlyTextTree, I
 
 use crate::reading::{plain_tree, tree_in};
 use code_reader::TreeReader;
-use node_tree::{Bytes, FileView, Lang, List, Memory, Node, ReadFault, Steps};
+use node_tree::{Bytes, FileView, Lang, List, MOST_BYTES, Memory, Node, ReadFault, Steps};
 use std::alloc::Global;
 use std::str;
 use std::sync::ledger::Ledger;
-
-/// The most bytes of a file that is scanned.
-pub const MOST_BYTES: usize = 1_000_000;
 
 /// What the bytes of a file are in a language.
 #[derive(Drop)]

@@ -6,9 +6,8 @@ ghost use Rattle.node_tree.specs.Spans.{SpansLieIn};
 ghost use Rattle.node_tree.specs.declared.node.Node.{Node as node};
 ghost use Rattle.file_open.specs.Reading.{IsTreeIn, plain_tree as plain};
 
-use crate::opened::MOST_BYTES;
 use code_reader::TreeReader;
-use node_tree::{Kind, Lang, List, Node, ReadFault, Span, Text};
+use node_tree::{Kind, Lang, List, MOST_BYTES, Node, ReadFault, Span, Text};
 use std::alloc::Global;
 
 /// The tree of a text that is only searched: one node over all of it. It takes no memory.

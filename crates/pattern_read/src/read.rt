@@ -12,7 +12,7 @@ use crate::dots::{are_all_dots, are_dots_placed, is_dots};
 use c_unit::read_c_pattern;
 use code_reader::PatternFault;
 use json_tree::read_json;
-use node_tree::{Lang, Mode, Node, Pattern, ReadFault, Shape};
+use node_tree::{Lang, MOST_BYTES, Mode, Node, Pattern, ReadFault, Shape};
 use py_stmt::read_py_pattern;
 use std::alloc::Global;
 
@@ -34,7 +34,7 @@ fn pattern_tree(alloc: Global, lang: Lang, text: &str) -> Result<(Shape, Node), 
     ensures value { IfOk result (λ x. IsTextOf lang text.now x.0 x.1) }
     ensures only { (shape : a_shape) (tree : node) → IsTextOf lang text.now shape tree → Gives (λ x. x) result (Some (shape, tree)) }
 {
-    if text.len() > 1_000_000 {
+    if text.len() > MOST_BYTES {
         return Err(ReadFault::NoTree);
     }
     match lang {

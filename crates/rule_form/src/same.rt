@@ -2,7 +2,7 @@
 
 ghost use Rattle.std.specs.Prelude.{◌≡◌, ◌↔◌, IsTrue};
 
-use node_tree::{Kind, List, Node, Pattern, Span, Text};
+use node_tree::{List, Pattern, Text};
 
 /// Values that can be told apart.
 pub trait Same {
@@ -48,48 +48,8 @@ impl Same for Text {
     }
 }
 
-impl Same for Kind {
-    fn same(&self, other: &Kind) -> bool {
-        *self == *other
-    }
-}
-
-impl Same for Span {
-    fn same(&self, other: &Span) -> bool {
-        self.from == other.from && self.to == other.to
-    }
-}
-
-impl Same for Node {
-    fn same(&self, other: &Node) -> bool {
-        if !self.kind.same(&other.kind) {
-            return false;
-        }
-        if !self.text.is_same(&other.text) {
-            return false;
-        }
-        if !self.span.same(&other.span) {
-            return false;
-        }
-        let kids = self.kids.as_slice();
-        let others = other.kids.as_slice();
-        if kids.len() != others.len() {
-            return false;
-        }
-        for (i, kid) in kids.iter().enumerate() {
-            if !kid.same(&others[i]) {
-                return false;
-            }
-        }
-        true
-    }
-}
-
 impl Same for Pattern {
     fn same(&self, other: &Pattern) -> bool {
-        self.lang == other.lang
-            && self.shape == other.shape
-            && self.constants == other.constants
-            && self.tree.same(&other.tree)
+        Pattern::same(self, other)
     }
 }
