@@ -8,8 +8,8 @@ with the tests of Sets.antt, where the table has an `automaton`), and crates/NAM
 in one step, and for each loop what it still reads in so many rounds.
 Both files are then worked on by hand, as all that stand in the repository have been: levels that the reader has no function
 for go, and lemmas of rows alike become one. So they are not made anew, and a file that is there is not written over.
-It wants `source` and `build` in Build.antt, `sets` and `ranks` in Sets.antt, and `level` in Reading.antt beside a table that
-stands alone. A loop stands in a row as `[make b] (p · rep Loop round)` or `opt (p · rep Loop round)`, where p is a level and
+It wants `source` and `build` in Build.antt, `sets` and `ranks` in Sets.antt, and `level` in Reading.antt, beside a table (or in the folder
+reader/ there) that stands alone. A loop stands in a row as `[make b] (p · rep Loop round)` or `opt (p · rep Loop round)`, where p is a level and
 `round` an abbreviation of the table; for a row of another shape the one step is written, and what its loop reads is to be said by hand.
 Both files are proved like any other: nothing that is made here is trusted.
 """
@@ -19,7 +19,7 @@ from pathlib import Path
 
 from tables.rules import choices_in
 from tables.table import Table
-from tables.terms import module_of, parsed, show
+from tables.terms import module_of, parsed, sets_of, show
 
 FUEL = 30
 BIND = '◌>>=◌ {B = List N × ℕ}'
@@ -97,8 +97,8 @@ use Rattle.grammar.proofs.Rounds.{turn, turned, made}
 use Rattle.grammar.proofs.Stable.{room_step}
 use MODULE.Table.{Level, LEVELS, table, grammarNAMES, Row}
 use MODULE.Build.{source, build}
-use MODULE.Sets.{sets, ranks}
-use MODULE.Reading.{level}
+use READER.Sets.{sets, ranks}
+use READER.Reading.{level}
 use PROOFS.Passes.{pass}
 
 pub level_zero : (ts : List Token) (room : ℕ) (l : Level) (i : ℕ) → room ≡ zero → level ts room l i ≡ None
@@ -129,13 +129,18 @@ def tree_imports(build):
     return node, uses
 
 
+def reader_of(table):
+    """Where the sets of a table stand, and what its reader reads, as proofs name it."""
+    return module_of(sets_of(table.path)).removesuffix('.Sets')
+
+
 def steps_file(table, module):
     """The text of Steps.antt."""
     node, uses = tree_imports(table.path.with_name('Build.antt').read_text(encoding='utf-8'))
     shapes = {level: parsed(row) for level, row in table.given.rows.items()}
     found = [loop_row(term) for term in shapes.values() if loop_row(term)]
     named = sorted({f[4] for f in found} | {f[1] for f in found if f[1]})
-    head = HEAD.replace('TOKENS', '\n'.join(uses)).replace('MODULE', module).replace('PROOFS', module.replace('.specs', '.proofs'))
+    head = HEAD.replace('TOKENS', '\n'.join(uses)).replace('READER', reader_of(table)).replace('MODULE', module).replace('PROOFS', module.replace('.specs', '.proofs'))
     lines = head.replace('LEVELS', ', '.join(shapes)).replace('NAMES', ''.join(', ' + n for n in named)).split('\n')
     for level, term in shapes.items():
         if level not in table.loops:
@@ -153,9 +158,9 @@ def passes_file(table, module, modes):
              f'use Rattle.std.proofs.Common.{{refl{", arith" if tested else ""}}}', f'use Rattle.grammar.specs.Check.{{passes, {closes}}}',
              *[re.sub(r'\{.*', '{class}', line) for line in table.given.text.split('\n') if re.match(r'use .*[{ ]class[,}]', line)],
              f'use {module}.Table.{{Level, {levels}, grammar{", automaton" if tested else ""}}}',
-             f'use {module}.Sets.{{sets, ranks{", tests" if tested else ""}}}']
+             f'use {reader_of(table)}.Sets.{{sets, ranks{", tests" if tested else ""}}}']
     lines += ['use Rattle.grammar.specs.Tests.{Declared}'] if tested else []
-    lines += [f'use {module}.Reading.{{{", ".join(modes)}}}'] if modes else []
+    lines += [f'use {reader_of(table)}.Reading.{{{", ".join(modes)}}}'] if modes else []
     closed = f'{closes} grammar sets ranks{" tests" if tested else ""}'
     for name, claim in [('pass', 'passes grammar sets ranks l')] + [(f'close_{m}', f'{closed} {m} {FUEL} l') for m in modes]:
         lines += ['', f'pub {name} : (l : Level) → {claim} ≡ true', 'unfolding class'] + [f'{name} {l} = refl' for l in table.rows]

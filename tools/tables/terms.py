@@ -106,6 +106,12 @@ def spec_file(crate, module):
     return ROOT / 'crates' / crate / 'specs' / (module.replace('.', '/') + '.antt')
 
 
+def sets_of(path):
+    """The file of the sets of a table's file: in the folder of the reader's own steps, where there is one, else beside the table."""
+    folder = path.with_name('reader')
+    return (folder if folder.is_dir() else path.parent) / 'Sets.antt'
+
+
 def module_of(path):
     """The name by which proofs import a file of specs/."""
     return 'Rattle.' + str(path.resolve().relative_to(ROOT / 'crates')).removesuffix('.antt').replace('/', '.')

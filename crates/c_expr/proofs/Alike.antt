@@ -8,7 +8,7 @@ use Rattle.c_expr.specs.declared.word.Token.{Token}
 use Rattle.c_expr.specs.declared.part.Part.{Part}
 use Rattle.c_expr.specs.Table.{Builder, Over, Named, TypeWords, Spellings, Pointer, Chain, Rootless, Joined, Widened, Level, Row, table}
 use Rattle.c_expr.specs.Build.{start_of, tallest, absent, cut, leaf, grafted, graft_all, graft_cut, built, cut_built, source, cut_source}
-use Rattle.c_expr.specs.Sets.{sets}
+use Rattle.c_expr.specs.reader.Sets.{sets}
 use Rattle.c_expr.proofs.Cut.{cut_shallow, cut_deep, either}
 use Rattle.c_expr.proofs.Depths.{in_left, in_right, weak, grafted_deep}
 

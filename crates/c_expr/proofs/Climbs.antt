@@ -17,8 +17,8 @@ use Rattle.c_expr.specs.Words.{class}
 use Rattle.c_expr.specs.Settling.{assignments, opens_cast}
 use Rattle.c_expr.specs.Table.{Comma, CommaTail, Assign, AssignMore, Cond, CondPart, Multiplicative, MultiplicativeOps, MultiplicativeTail, Additive, AdditiveOps, AdditiveTail, Shift, ShiftOps, ShiftTail, Relational, RelationalOps, RelationalTail, Equality, EqualityOps, EqualityTail, BitAnd, BitAndOps, BitAndTail, BitXor, BitXorOps, BitXorTail, BitOr, BitOrOps, BitOrTail, And, AndOps, AndTail, Or, OrOps, OrTail, Cast, Unary, Named, Row, operation, up_to_multiplicative, up_to_additive, up_to_shift, up_to_relational, up_to_equality, up_to_bit_and, up_to_bit_xor, up_to_bit_or, up_to_and, up_to_or, from_multiplicative, table}
 use Rattle.c_expr.specs.Build.{token_at, start_of, built, grafted, cut, graft_cut, cut_chained, cut_source}
-use Rattle.c_expr.specs.Sets.{sets}
-use Rattle.c_expr.specs.Reading.{level, optional, grafting, regraft, levels, level_at, looseness, levels_from, chain_level, ops_level, tail_level, operators, tighter, right_level, climbs, climbed, condition}
+use Rattle.c_expr.specs.reader.Sets.{sets}
+use Rattle.c_expr.specs.reader.Reading.{level, optional, grafting, regraft, levels, level_at, looseness, levels_from, chain_level, ops_level, tail_level, operators, tighter, right_level, climbs, climbed, condition}
 use Rattle.c_expr.proofs.Steps.{Got, on, bind_same, going_on, goes_on, chained_on, chained, row, level_row, rest, rest_turn, graft_seq, graft_cond, cond_both, once, op_row}
 
 -- what a row outside of loops reads

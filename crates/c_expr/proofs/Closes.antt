@@ -5,7 +5,7 @@ use Rattle.grammar.specs.Check.{closes}
 use Rattle.grammar.specs.Tests.{Declared}
 use Rattle.c_expr.specs.Words.{class, of_mode}
 use Rattle.c_expr.specs.Table.{Level, Comma, CommaTail, Assign, AssignMore, Cond, CondPart, Or, OrOps, OrTail, And, AndOps, AndTail, BitOr, BitOrOps, BitOrTail, BitXor, BitXorOps, BitXorTail, BitAnd, BitAndOps, BitAndTail, Equality, EqualityOps, EqualityTail, Relational, RelationalOps, RelationalTail, Shift, ShiftOps, ShiftTail, Additive, AdditiveOps, AdditiveTail, Multiplicative, MultiplicativeOps, MultiplicativeTail, Cast, Unary, Sizeof, Postfix, PostfixTail, Suffix, Prim, Strings, StringsTail, Deep, Args, ArgsTail, Arg, Tname, Spec, SpecStart, QualifiersTail, Typed, TypedFirst, TypedTail, Group, Body, Enumerators, EnumeratorsTail, Enumerator, Fields, Field, Members, MembersTail, Member, Width, Declr, NamedDirect, DeclrFirst, Nameless, NamelessDirect, Maybe, MaybeDirect, DeclrTail, DeclrPart, Stars, Words, Params, ParamsTail, Param, Var, Init, Inis, InisTail, Ini, Desigs, DesigsTail, Desig, table, grammar}
-use Rattle.c_expr.specs.Sets.{sets, ranks, tests}
+use Rattle.c_expr.specs.reader.Sets.{sets, ranks, tests}
 use Rattle.c_expr.proofs.Settled.{opens_cast_is, sizes_type_is, takes_type_is, opens_declarator_is, opens_enumerators_is}
 
 pub close_pattern : (l : Level) → closes grammar sets ranks tests (of_mode modes.Pattern) 30 l ≡ true

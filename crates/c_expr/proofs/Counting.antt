@@ -6,7 +6,7 @@ use Rattle.c_expr.specs.declared.word.Token.{Token}
 use Rattle.c_expr.specs.Words.{class}
 use Rattle.c_expr.specs.Table.{grammar}
 use Rattle.c_expr.specs.Build.{token_at, source}
-use Rattle.c_expr.specs.Reading.{round_at}
+use Rattle.c_expr.specs.Runs.{round_at}
 
 -- how many brackets are open before a token
 unfoldable pub open_before : List Token → ℕ → ℕ → ℕ

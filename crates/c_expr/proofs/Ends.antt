@@ -20,12 +20,11 @@ use Rattle.c_expr.specs.declared.read.CLevel.TheVariants as levels
 use Rattle.c_expr.specs.Words.{class, in_mode, token_of, word_of}
 use Rattle.c_expr.specs.Table.{Level, Comma, CommaTail, Assign, AssignMore, Cond, CondPart, Or, OrOps, OrTail, And, AndOps, AndTail, BitOr, BitOrOps, BitOrTail, BitXor, BitXorOps, BitXorTail, BitAnd, BitAndOps, BitAndTail, Equality, EqualityOps, EqualityTail, Relational, RelationalOps, RelationalTail, Shift, ShiftOps, ShiftTail, Additive, AdditiveOps, AdditiveTail, Multiplicative, MultiplicativeOps, MultiplicativeTail, Cast, Unary, Sizeof, Postfix, PostfixTail, Suffix, Prim, Strings, StringsTail, Deep, Args, ArgsTail, Arg, Tname, Spec, SpecStart, QualifiersTail, Typed, TypedFirst, TypedTail, Group, Body, Enumerators, EnumeratorsTail, Enumerator, Fields, Field, Members, MembersTail, Member, Width, Declr, NamedDirect, DeclrFirst, Nameless, NamelessDirect, Maybe, MaybeDirect, DeclrTail, DeclrPart, Stars, Words, Params, ParamsTail, Param, Var, Init, Inis, InisTail, Ini, Desigs, DesigsTail, Desig, Leaf, Builder, table, grammar}
 use Rattle.c_expr.specs.Build.{token_at, source}
-use Rattle.c_expr.specs.Sets.{sets, ranks}
-use Rattle.c_expr.specs.Spells.{ArePlaced}
+use Rattle.c_expr.specs.reader.Sets.{sets, ranks}
 use Rattle.c_lex.specs.Places.{TokensLie, AreTokensIn}
 use Rattle.c_expr.specs.Runs.{level_of, IsTree}
 use Rattle.c_expr.proofs.Passes.{pass}
-use Rattle.c_expr.proofs.Spans.{spans_lie}
+use Rattle.c_expr.proofs.Spans.{ArePlaced, spans_lie}
 
 -- whether no part of the rule takes the end
 abbrev pub goes_on : {L : Type 0} → Rule Leaf Builder L → Bool

@@ -12,6 +12,6 @@ pub mod Depths
 pub mod Alike
 pub mod Runs
 pub mod Prefix
-pub mod Only
 pub mod Spans
 pub mod Ends
+pub mod Standard

@@ -18,8 +18,8 @@ use Rattle.c_expr.specs.Words.{class}
 use Rattle.c_expr.specs.Settling.{names, opens_cast, is_cast}
 use Rattle.c_expr.specs.Table.{Comma, Assign, Cond, CondPart, Cast, Suffix, Tname, Body, Fields, Field, Desigs, DesigsTail, Desig, Ini, Init, DeclrPart, Words, AsId, Spelling, accesses}
 use Rattle.c_expr.specs.Build.{token_at, start_of, span_between, leaf, over, padded, grafted, cut, stub, is_spelling, spelled_more, pointing, tallest, cut_source}
-use Rattle.c_expr.specs.Sets.{sets}
-use Rattle.c_expr.specs.Reading.{level, optional, grafting, gathering, word_or_group, list_read, list_tail, item_level, item_starts, trails, declr_level, pointed_read}
+use Rattle.c_expr.specs.reader.Sets.{sets}
+use Rattle.c_expr.specs.reader.Reading.{level, optional, grafting, gathering, word_or_group, list_read, list_tail, item_level, item_starts, trails, declr_level, pointed_read}
 use Rattle.c_expr.proofs.Steps.{Got, on, rest, rest_turn, push_more, graft_one, listed_turn, list_next, cast_step, suffix_step, declr_step, declr_part_step, ini_step, gathered_spelling}
 use Rattle.c_expr.proofs.Climbs.{cond_part_step}
 

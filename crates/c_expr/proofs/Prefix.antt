@@ -15,8 +15,8 @@ use Rattle.c_expr.specs.declared.read.CLevel.{CLevel}
 use Rattle.c_expr.specs.Words.{class, of_mode}
 use Rattle.c_expr.specs.Table.{Leaf, Builder, Over, Named, TypeWords, Spellings, Pointer, Chain, Rootless, Joined, Widened, grammar}
 use Rattle.c_expr.specs.Build.{token_at, start_of, end_of, span_between, end_token, tallest, node, leaf, leaf_kind, leaf_text, leaf_depth, padded, over, absent, graft_all, gathered, type_over, spellings, pointer, joined, chained, widened, built, source}
-use Rattle.c_expr.specs.Sets.{sets, ranks, tests}
-use Rattle.c_expr.specs.Reading.{round_at}
+use Rattle.c_expr.specs.reader.Sets.{sets, ranks, tests}
+use Rattle.c_expr.specs.Runs.{round_at}
 use Rattle.c_expr.specs.Runs.{level_of, IsRunTree, AreOf}
 use Rattle.c_expr.proofs.Passes.{pass}
 use Rattle.c_expr.proofs.Closes.{declared}

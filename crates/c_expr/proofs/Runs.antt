@@ -20,9 +20,9 @@ use Rattle.c_expr.specs.declared.read.CLevel.TheVariants as levels
 use Rattle.c_expr.specs.Words.{class, of_mode, in_mode, token_of, word_of}
 use Rattle.c_expr.specs.Table.{Level, grammar}
 use Rattle.c_expr.specs.Build.{tallest, source, cut_source}
-use Rattle.c_expr.specs.Sets.{sets, ranks, tests}
-use Rattle.c_expr.specs.Reading.{level, round_at}
-use Rattle.c_expr.specs.Runs.{level_of, IsRunTree, IsTree, AreOf}
+use Rattle.c_expr.specs.reader.Sets.{sets, ranks, tests}
+use Rattle.c_expr.specs.reader.Reading.{level}
+use Rattle.c_expr.specs.Runs.{level_of, IsRunTree, IsTree, AreOf, round_at}
 use Rattle.c_expr.proofs.Passes.{pass}
 use Rattle.c_expr.proofs.Closes.{close_text, close_pattern, declared}
 use Rattle.c_expr.proofs.Depths.{deepens}

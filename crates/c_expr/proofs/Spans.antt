@@ -11,7 +11,7 @@ use Rattle.node_tree.specs.Spans.{SpansLieIn}
 use Rattle.node_tree.specs.Tree.{kind_of, text_of, kids_of, span_of}
 use Rattle.node_tree.proofs.Nodes.{made_kids, made_span}
 use Rattle.node_tree.proofs.SpanLaws.{AllLieIn, none_lie, more_lie, node_lies}
-use Rattle.grammar.specs.Rule.{Loop, Rule, Table, Derives, d_done, d_mark, d_word, d_ref, d_deep, d_again, d_rep, d_seq, d_around, d_left, d_right, d_seen, d_unseen, d_chosen, d_unchosen, d_without, d_with, d_barred, d_taken, d_make}
+use Rattle.grammar.specs.Rule.{Loop, Rule, Table, IsPiece, Derives, d_done, d_mark, d_word, d_ref, d_deep, d_again, d_rep, d_seq, d_around, d_left, d_right, d_seen, d_unseen, d_chosen, d_unchosen, d_without, d_with, d_barred, d_taken, d_make}
 use Rattle.grammar.specs.Sets.{Sets}
 use Rattle.grammar.proofs.Facts.{and_both}
 use Rattle.grammar.proofs.Bounded.{forward}
@@ -19,11 +19,19 @@ use Rattle.grammar.proofs.Spelled.{IsGrammar}
 use Rattle.grammar.proofs.Checked.{is_grammar}
 use Rattle.c_expr.specs.declared.word.Token.{Token}
 use Rattle.c_expr.specs.declared.part.Part.{Part}
-use Rattle.c_expr.specs.Table.{Leaf, Builder, Over, Named, TypeWords, Spellings, Pointer, Chain, Rootless, Joined, Widened, table, grammar}
+use Rattle.c_expr.specs.Table.{Level, Leaf, Builder, Over, Named, TypeWords, Spellings, Pointer, Chain, Rootless, Joined, Widened, table, grammar}
 use Rattle.c_expr.specs.Build.{token_at, start_of, end_of, span_between, node, empty_at, absent, may_be_bare, settled, settled_all, nodes, tallest, padded, over, grafted, graft_all, is_spelling, spelled_more, gathered, built, leaf, leaf_kind, leaf_text, source}
-use Rattle.c_expr.specs.Sets.{sets, ranks}
-use Rattle.c_expr.specs.Spells.{ArePlaced, PartsLieIn, SpansLie}
+use Rattle.c_expr.specs.reader.Sets.{sets, ranks}
 use Rattle.c_expr.proofs.Passes.{pass}
+
+-- the tokens lie in the text one after the other, from one byte on
+abbrev pub ArePlaced : List ℕ → ℕ → List Token → Type 0
+ArePlaced text from [] = Unit {0}
+ArePlaced text from (t ∷ ts) = (from ≤ t.span.from) × LiesIn text t.span × ArePlaced text t.span.to ts
+
+abbrev pub PartsLieIn : List ℕ → List Part → Type 0
+PartsLieIn text [] = Unit {0}
+PartsLieIn text (p ∷ ps) = SpansLieIn text p.node × PartsLieIn text ps
 
 -- ---- tokens
 
@@ -224,5 +232,6 @@ lie text from (p ∷ ps) h = (h.0.spans, lie text from ps h.1)
 pub derived_lie : (text : List ℕ) (ts : List Token) {L : Type 0} (S : Sets L) (rows : Table Leaf Builder L) {c : Loop Leaf Builder L} {r : Rule Leaf Builder L} {ps : List Part} {i j : ℕ} → ArePlaced text 0 ts → IsGrammar S rows → Derives (source ts) rows c r ps i j → j < length ts → PartsLieIn text ps
 derived_lie text ts S rows {ps = ps} {i = i} placed is d lt = lie text (start_of ts i) ps (good text ts placed S rows is d lt)
 
-pub spans_lie : SpansLie
+-- the spans of the trees that a level spells lie in the text where the tokens do, up to one token before their end
+pub spans_lie : (text : List ℕ) (ts : List Token) (l : Level) (ps : List Part) (i j : ℕ) → ArePlaced text 0 ts → j < length ts → IsPiece grammar tallest (source ts) l ps i j → PartsLieIn text ps
 spans_lie text ts l ps i j placed lt s = derived_lie text ts sets table placed (is_grammar grammar sets ranks pass) s.spelled lt

@@ -22,8 +22,8 @@ use Rattle.c_expr.specs.Words.{class}
 use Rattle.c_expr.specs.Settling.{names, spec_words, opens_declarator}
 use Rattle.c_expr.specs.Table.{Level, CommaTail, Cond, Cast, Unary, Sizeof, Postfix, PostfixTail, Suffix, Prim, Strings, StringsTail, Deep, Args, ArgsTail, Arg, Tname, Spec, SpecStart, QualifiersTail, Typed, TypedFirst, TypedTail, Group, Body, Enumerators, EnumeratorsTail, Enumerator, Fields, Field, Members, MembersTail, Member, Width, Declr, NamedDirect, DeclrFirst, Nameless, NamelessDirect, Maybe, MaybeDirect, DeclrTail, DeclrPart, Stars, Words, Params, ParamsTail, Param, Var, Init, Inis, InisTail, Ini, Desigs, DesigsTail, Desig, Own, AsId, Spelling, Row, comma_round, desigs_round, further, postfix_round, qualifiers_round, strings_round, trailing, typed_round, tok, strings, joined, meta, name, tags, qualifiers, bare_words, later_words, spec_goes_on, table, grammar}
 use Rattle.c_expr.specs.Build.{token_at, start_of, span_between, leaf, absent, over, padded, grafted, cut, graft_cut, cut_chained, cut_joined, is_spelling, spelled_more, gathered, type_over, spellings, pointing, pointer, tallest, cut_source}
-use Rattle.c_expr.specs.Sets.{sets, ranks}
-use Rattle.c_expr.specs.Reading.{level, optional, behind_equals, grafting, regraft, gathering, word_or_group, list_level, list_tail, item_level, item_starts, trails, declr_level, direct_level, pointed_read, opens_nested, takes_name}
+use Rattle.c_expr.specs.reader.Sets.{sets, ranks}
+use Rattle.c_expr.specs.reader.Reading.{level, optional, behind_equals, grafting, regraft, gathering, word_or_group, list_level, list_tail, item_level, item_starts, trails, declr_level, direct_level, pointed_read, opens_nested, takes_name}
 use Rattle.c_expr.proofs.Passes.{pass}
 
 abbrev pub Got : Type 0
@@ -395,16 +395,16 @@ pub typed_turn : (ts : List Token) (room : ℕ) (s : List ℕ × List Part) (n i
 unfolding grafting gathering
 typed_turn ts room s n i h = ap (gathering s) (rest_turn ts room TypedTail n i h) ∙ gather_cond s (has typed_goes_on (class (token_at ts i).word)) _ (Some ([], i)) ∙ cond_both (has typed_goes_on (class (token_at ts i).word)) _ _ (Some (s, i)) (Some (s, i)) (gather_seq s (row ts room (λ i. None) None (word Spelling later_words ∣ ref Group) i) (rest ts room TypedTail (n - 1)) ∙ ap (λ r. ◌>>=◌ {B = (List ℕ × List Part) × ℕ} (gathering s r) (λ z. gathering z.0 (rest ts room TypedTail (n - 1) z.1))) (once (has later_words (class (token_at ts i).word)) _ None _)) refl
 
-pub group_step : (ts : List Token) (room : ℕ) (s : List ℕ × List Part) (i : ℕ) → zero < room → gathering s (level ts room Group i) ≡ cond (has tags (class (token_at ts i).word)) (cond (has name (class (token_at ts (suc i)).word)) (gathering (spelled_more (spelled_more s.0 (token_at ts i).text) (token_at ts (suc i)).text, s.1) (optional ts room Body (suc (suc i)))) (gathering (spelled_more s.0 (token_at ts i).text, s.1) (optional ts room Body (suc i)))) None
+pub group_step : (ts : List Token) (room : ℕ) (s : List ℕ × List Part) (i : ℕ) → zero < room → gathering s (level ts room Group i) ≡ cond (has tags (class (token_at ts i).word)) (cond (has names (class (token_at ts (suc i)).word)) (cond (has name (class (token_at ts (suc i)).word)) (gathering (spelled_more (spelled_more s.0 (token_at ts i).text) (token_at ts (suc i)).text, s.1) (optional ts room Body (suc (suc i)))) None) (gathering (spelled_more s.0 (token_at ts i).text, s.1) (optional ts room Body (suc i)))) None
 unfolding grafting gathering
-group_step ts room s i h = ap (gathering s) (level_row ts room Group i h) ∙ gather_word ts i s (has tags (class (token_at ts i).word)) named ∙ cond_both (has tags (class (token_at ts i).word)) _ _ None None (after (spelled_more s.0 (token_at ts i).text, s.1) (has name (class (token_at ts (suc i)).word))) refl
+group_step ts room s i h = ap (gathering s) (level_row ts room Group i h) ∙ gather_word ts i s (has tags (class (token_at ts i).word)) named ∙ cond_both (has tags (class (token_at ts i).word)) _ _ None None (after (spelled_more s.0 (token_at ts i).text, s.1) (has names (class (token_at ts (suc i)).word)) (has name (class (token_at ts (suc i)).word))) refl
   where
     named : ℕ → Option (List Part × ℕ)
-    named = row ts room (λ i. None) None (must name (word Spelling name) · opt (ref Body))
+    named = row ts room (λ i. None) None (must names (word Spelling name) · opt (ref Body))
 
-    after : (u : List ℕ × List Part) (b : Bool) → gathering u (on (cond b (cond b (Some (leaf ts Spelling (suc i) ∷ [], suc (suc i))) None) (Some ([], suc i))) (λ x. on (optional ts room Body x.1) (λ y. Some (x.0 ++ y.0, y.1)))) ≡ cond b (gathering (spelled_more u.0 (token_at ts (suc i)).text, u.1) (optional ts room Body (suc (suc i)))) (gathering u (optional ts room Body (suc i)))
-    after u true = gather_word ts (suc i) u true (optional ts room Body)
-    after u false = gather_seq u (Some ([], suc i)) (optional ts room Body)
+    after : (u : List ℕ × List Part) (b d : Bool) → gathering u (on (cond b (cond d (Some (leaf ts Spelling (suc i) ∷ [], suc (suc i))) None) (Some ([], suc i))) (λ x. on (optional ts room Body x.1) (λ y. Some (x.0 ++ y.0, y.1)))) ≡ cond b (cond d (gathering (spelled_more u.0 (token_at ts (suc i)).text, u.1) (optional ts room Body (suc (suc i)))) None) (gathering u (optional ts room Body (suc i)))
+    after u true d = gather_word ts (suc i) u d (optional ts room Body)
+    after u false d = gather_seq u (Some ([], suc i)) (optional ts room Body)
 
 -- ---- bodies
 

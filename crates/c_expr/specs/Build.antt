@@ -1,5 +1,5 @@
 -- The nodes of the grammar, from the tokens of their pieces.
-use Rattle.std.specs.Prelude.{ℕ, zero, suc, ◌-◌, Bool, cond, ◌&&◌, ◌||◌, max, List, [], ◌∷◌, ◌++◌, length, get_or, map, codes, eqb, ltb, leb}
+use Rattle.std.specs.Prelude.{ℕ, zero, suc, ◌-◌, Bool, cond, ◌&&◌, ◌||◌, max, List, [], ◌∷◌, ◌++◌, length, get_or, map, codes, eqb, ltb, leb, Option, Some, None}
 use Rattle.node_tree.specs.declared.node.Node.{Node, roll-Node}
 use Rattle.node_tree.specs.declared.kind.Kind.{Kind}
 use Rattle.node_tree.specs.declared.kind.Kind.TheVariants as k
@@ -34,6 +34,11 @@ end_of ts j = (token_at ts (j - 1)).span.to
 -- the bytes from one token up to before another, none where there are no tokens between
 abbrev pub span_between : List Token → ℕ → ℕ → Span
 span_between ts i j = record { from = start_of ts i; to = cond (ltb i j) (end_of ts j) (start_of ts i) }
+
+-- one part or none
+abbrev pub list_of : Option Part → List Part
+list_of None = []
+list_of (Some p) = p ∷ []
 
 -- ---- nodes. A part is a node with its depth; the width of a member has no node, and counts for the depth of the member.
 

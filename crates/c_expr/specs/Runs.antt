@@ -2,7 +2,7 @@
 use Rattle.std.specs.Prelude.{◌≡◌, ◌≤◌, ℕ, true, List, [], ◌∷◌, length, map}
 use Rattle.node_tree.specs.declared.node.Node.{Node}
 use Rattle.node_tree.specs.declared.view.Mode.{Mode}
-use Rattle.grammar.specs.Rule.{IsRun}
+use Rattle.grammar.specs.Rule.{IsRun, brackets_round}
 use Rattle.c_lex.specs.declared.token.CToken.{CToken}
 use Rattle.c_expr.specs.declared.word.Token.{Token}
 use Rattle.c_expr.specs.declared.read.CLevel.{CLevel}
@@ -35,6 +35,10 @@ pub record IsRunTree (mode : Mode) (ts : List Token) (l : CLevel) (from : ℕ) (
 -- the same of the tokens of the scanner
 abbrev pub IsTree : Mode → List CToken → CLevel → ℕ → Node → ℕ → Type 0
 IsTree mode ts l from tree to = IsRunTree mode (map (token_of mode) ts) l from tree to
+
+-- how many brackets the token at a place stands inside, from another place on
+unfoldable pub round_at : List Token → ℕ → ℕ → ℕ
+round_at ts from n = brackets_round grammar.opens grammar.closes (source ts).cls from n
 
 -- each token has a word of the mode
 abbrev pub AreOf : Mode → List Token → Type 0

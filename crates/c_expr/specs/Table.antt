@@ -539,7 +539,8 @@ table Typed = ref TypedFirst · ref TypedTail
 table TypedFirst = word Spelling bare_words ∣ ref Group
 table TypedTail = rep TypedTail typed_round
 -- group = ("struct" | "union" | "enum") [NAME] [body]           (6.7.2.1, 6.7.2.2)
-table Group = word Spelling tags · must name (word Spelling name) · opt (ref Body)
+-- a NAME behind the word is the tag, and so would be a Meta, which stands in no spec of several words: so it is none
+table Group = word Spelling tags · must names (word Spelling name) · opt (ref Body)
 -- body = "{" {field} "}"  Fields[Decl ..] | "{" enumerator {"," enumerator} [","] "}"  EnumItems[EnumItem ..]
 table Body = choose opens_enumerators (make (Over k.EnumItems 0) (curly (deep Enumerators))) (make (Over k.Fields 0) (curly (deep Fields)))
 table Enumerators = trailed Enumerator EnumeratorsTail

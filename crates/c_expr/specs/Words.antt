@@ -1,4 +1,6 @@
 -- The words that tokens are classed by, and what a token of each word gives a tree.
+-- The definitions in order: the words here, what the next tokens settle (`Settling`), the grammar (`Table`), the nodes that its
+-- builders make (`Build`), and the tree of a closed run (`Runs`), which is what `read_c` promises. `reader/` is the reader's own.
 use Rattle.std.specs.Prelude.{ℕ, Bool, true, false, not, cond, if◌then◌else◌, List, [], ◌∷◌, codes}
 use Rattle.grammar.specs.Rule.{has}
 use Rattle.std.specs.Str.{bytes_eq}

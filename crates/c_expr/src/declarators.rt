@@ -4,7 +4,7 @@ ghost use Rattle.std.specs.Prelude.{◌≡◌, ◌<◌, ◌≤◌, true, length,
 ghost use Rattle.c_expr.specs.Words.{none_is_end};
 ghost use Rattle.node_tree.specs.Gives.{Gives};
 ghost use Rattle.c_expr.specs.Table as table;
-ghost use Rattle.c_expr.specs.Reading as reading;
+ghost use Rattle.c_expr.specs.reader.Reading as reading;
 ghost use Rattle.c_expr.specs.Build.{source};
 
 use crate::lists::{Listed, list};

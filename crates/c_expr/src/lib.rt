@@ -7,7 +7,6 @@
 mod classify;
 mod declarators;
 mod initializers;
-mod law;
 mod limits;
 mod lists;
 mod look;
@@ -22,7 +21,6 @@ mod types;
 mod word;
 
 pub use classify::classified;
-pub use law::{at_most_one_tree, spans_lie};
 pub use limits::shallow_end;
 pub use lists::{Listed, list};
 pub use look::{is, is_among, span_at, start_at, text_at};

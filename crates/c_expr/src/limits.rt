@@ -4,7 +4,7 @@ ghost use Rattle.std.specs.Prelude.{◌≡◌, ℕ, ◌<◌, ◌≤◌, length};
 ghost use Rattle.grammar.specs.Rule.{behind};
 ghost use Rattle.c_expr.specs.Words.{class};
 ghost use Rattle.c_expr.specs.Table.{grammar};
-ghost use Rattle.c_expr.specs.Reading.{round_at};
+ghost use Rattle.c_expr.specs.Runs.{round_at};
 
 use crate::word::{Token, Word};
 

@@ -5,7 +5,7 @@ ghost use Rattle.node_tree.specs.declared.kind.Kind.TheVariants as k;
 ghost use Rattle.c_expr.specs.Table.{Own, AsId};
 ghost use Rattle.c_expr.specs.Build as build;
 ghost use Rattle.c_expr.specs.Build.{cut, token_at, tallest};
-ghost use Rattle.c_expr.specs.Reading.{list_of};
+ghost use Rattle.c_expr.specs.Build.{list_of};
 ghost use Rattle.c_expr.specs.Words as words;
 
 use crate::part::Part;

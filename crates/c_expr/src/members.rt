@@ -4,7 +4,7 @@ ghost use Rattle.std.specs.Prelude.{◌≤◌, length, IfOk, ◌≡◌, false, [
 ghost use Rattle.c_expr.specs.Build.{cut, over, span_between, is_spelling};
 ghost use Rattle.node_tree.specs.Gives.{Gives};
 ghost use Rattle.c_expr.specs.Table as table;
-ghost use Rattle.c_expr.specs.Reading as reading;
+ghost use Rattle.c_expr.specs.reader.Reading as reading;
 
 use crate::declarators::{Naming, declarator};
 use crate::initializers::maybe_value;

@@ -5,7 +5,7 @@ ghost use Rattle.node_tree.specs.declared.kind.Kind.TheVariants as kinds;
 ghost use Rattle.c_expr.specs.Words.{none_is_end, class};
 ghost use Rattle.c_expr.specs.Table.{Named};
 ghost use Rattle.c_expr.specs.Build.{cut, grafted, built};
-ghost use Rattle.c_expr.specs.Reading as reading;
+ghost use Rattle.c_expr.specs.reader.Reading as reading;
 ghost use Rattle.node_tree.specs.Gives.{Gives};
 ghost use Rattle.c_expr.specs.Table as table;
 

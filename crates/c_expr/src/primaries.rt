@@ -3,7 +3,7 @@
 ghost use Rattle.std.specs.Prelude.{◌≤◌, length, IfOk};
 ghost use Rattle.node_tree.specs.Gives.{Gives};
 ghost use Rattle.c_expr.specs.Table as table;
-ghost use Rattle.c_expr.specs.Reading as reading;
+ghost use Rattle.c_expr.specs.reader.Reading as reading;
 
 use crate::lists::{Listed, list};
 use crate::look::{is, is_among, span_at, start_at, text_at};

@@ -6,7 +6,7 @@ ghost use Rattle.node_tree.specs.declared.view.Mode.{Mode as mode_of};
 ghost use Rattle.node_tree.specs.Gives.{Gives};
 ghost use Rattle.node_tree.specs.Spans.{SpansLieIn};
 ghost use Rattle.c_lex.specs.Places.{AreTokensIn};
-ghost use Rattle.c_expr.specs.Reading as reading;
+ghost use Rattle.c_expr.specs.reader.Reading as reading;
 ghost use Rattle.c_expr.specs.Runs.{level_of, IsRunTree, IsTree, AreOf};
 
 use crate::classify::classified;

@@ -6,13 +6,14 @@ ghost use Rattle.c_expr.specs.Build as build;
 ghost use Rattle.c_expr.specs.Build.{token_at};
 ghost use Rattle.node_tree.specs.Gives.{Gives};
 ghost use Rattle.c_expr.specs.Table as table;
-ghost use Rattle.c_expr.specs.Reading as reading;
+ghost use Rattle.c_expr.specs.reader.Reading as reading;
 
 use crate::declarators::{Naming, maybe_declarator};
 use crate::look::{is, is_among, span_at, text_at};
 use crate::make::{leaf, or_absent, over, over_two};
 use crate::members::body;
 use crate::part::{Part, Spelt};
+use crate::settle::NAMES;
 use crate::word::{Token, Word};
 use node_tree::{Kind, Memory, ReadFault, Text};
 use std::alloc::Global;
@@ -200,7 +201,7 @@ fn word_or_group(
     group(alloc, tokens, room, spelt, at)
 }
 
-/// `("struct" | "union" | "enum") [NAME] [body]`
+/// `("struct" | "union" | "enum") [NAME] [body]`, where a metavariable is no name
 #[cycle(reader)]
 #[tactic(auto, using(crate::proofs::Steps::level_none, crate::proofs::Steps::group_step, crate::proofs::Steps::graft_laws))]
 fn group(
@@ -221,8 +222,11 @@ fn group(
         return Err(ReadFault::NoTree);
     }
     let spelt = spell(tokens, spelt, at)?;
-    if !is(tokens, at + 1, Word::Name) {
+    if !is_among(tokens, at + 1, &NAMES) {
         return maybe_body(alloc, tokens, room, spelt, at + 1);
+    }
+    if !is(tokens, at + 1, Word::Name) {
+        return Err(ReadFault::NoTree);
     }
     let spelt = spell(tokens, spelt, at + 1)?;
     maybe_body(alloc, tokens, room, spelt, at + 2)

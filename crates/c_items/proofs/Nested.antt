@@ -12,7 +12,7 @@ use Rattle.c_expr.specs.Words.{class}
 use Rattle.c_expr.specs.Table.{Builder, Over}
 use Rattle.c_expr.specs.Build.{token_at, start_of, span_between, absent, over, padded, cut, cut_built}
 use Rattle.c_items.specs.Table.{Row, tok, condition, else_part, Sub, If, While, DoWhile}
-use Rattle.c_items.specs.Reading.{level, row}
+use Rattle.c_items.specs.reader.Reading.{level, row}
 use Rattle.c_items.proofs.Steps.{if_step, while_step, do_step}
 
 -- ---- rows

@@ -4,7 +4,7 @@ use Rattle.grammar.specs.Check.{passes}
 use Rattle.c_expr.specs.Words.{class}
 use Rattle.c_expr.specs.Table as e
 use Rattle.c_items.specs.Table.{Level, Expression, File, FileItem, Invocation, Invoked, External, Function, Declaration, Declared, VarsTail, Items, Item, Directive, DotsItem, Block, Sub, Labelled, Mark, Label, Case, Default, Statement, Simple, If, While, DoWhile, ForC, ForParts, ForStart, Switch, Return, Jump, Goto, Empty, Evaluated, grammar}
-use Rattle.c_items.specs.Sets.{sets, ranks}
+use Rattle.c_items.specs.reader.Sets.{sets, ranks}
 
 pub pass : (l : Level) → passes grammar sets ranks l ≡ true
 unfolding class

@@ -18,13 +18,13 @@ use Rattle.c_expr.specs.Settling.{names}
 use Rattle.c_expr.specs.Table as e
 use Rattle.c_expr.specs.Table.{Over, Own}
 use Rattle.c_expr.specs.Build.{token_at, start_of, span_between, leaf, over, padded, absent, grafted, cut, cut_chained, cut_source}
-use Rattle.c_expr.specs.Reading.{grafting, list_read}
+use Rattle.c_expr.specs.reader.Reading.{grafting, list_read}
 use Rattle.c_expr.proofs.Cut.{cut_shallow}
 use Rattle.c_expr.proofs.Steps.{graft_one, graft_nothing}
 use Rattle.c_items.specs.Settling.{invokes, defines}
 use Rattle.c_items.specs.Table.{Level, Expression, Invoked, External, Function, Declaration, Declared, Block, Return, variables, some_expression, maybe}
-use Rattle.c_items.specs.Sets.{sets}
-use Rattle.c_items.specs.Reading.{level, row}
+use Rattle.c_items.specs.reader.Sets.{sets}
+use Rattle.c_items.specs.reader.Reading.{level, row}
 use Rattle.c_items.proofs.Rounds.{Got}
 use Rattle.c_items.proofs.Steps.{expression_step, invoked_step, external_step, function_step, declaration_step, declared_step, return_step}
 

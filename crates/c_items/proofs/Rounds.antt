@@ -15,8 +15,8 @@ use Rattle.c_expr.proofs.Parts.{tallest_more as known_tallest}
 use Rattle.std.specs.Prelude.{max}
 use Rattle.c_items.specs.Settling.{marks}
 use Rattle.c_items.specs.Table.{Level, Expression, File, FileItem, Items, Item, Labelled, Mark, Statement, VarsTail}
-use Rattle.c_items.specs.Sets.{sets}
-use Rattle.c_items.specs.Reading.{level, along}
+use Rattle.c_items.specs.reader.Sets.{sets}
+use Rattle.c_items.specs.reader.Reading.{level, along}
 use Rattle.c_items.proofs.Steps.{rest, rest_turn, push_more}
 
 abbrev pub Got : Type 0

@@ -11,14 +11,14 @@ use Rattle.c_expr.specs.declared.part.Part.{Part}
 use Rattle.c_expr.specs.Words.{class}
 use Rattle.c_expr.specs.Build.{token_at, start_of, cut_source, cut_chained, graft_cut}
 use Rattle.c_expr.specs.Table as e
-use Rattle.c_expr.specs.Sets as es
-use Rattle.c_expr.specs.Reading as known
-use Rattle.c_expr.specs.Reading.{grafting}
+use Rattle.c_expr.specs.reader.Sets as es
+use Rattle.c_expr.specs.reader.Reading as known
+use Rattle.c_expr.specs.reader.Reading.{grafting}
 use Rattle.c_expr.proofs.Passes.{pass as known_pass}
 use Rattle.c_items.specs.Settling.{defines}
 use Rattle.c_items.specs.Table.{Level, Expression, same, Row, table, grammar, looped, vars_round, labelled_round, File, External, Function, Declaration, Declared, VarsTail, Items, Labelled, FileItem, Invocation, Invoked, Item, Directive, DotsItem, Block, Sub, Mark, Label, Case, Default, Statement, Simple, If, While, DoWhile, ForC, ForParts, ForStart, Switch, Return, Jump, Goto, Empty, Evaluated}
-use Rattle.c_items.specs.Sets.{sets, ranks}
-use Rattle.c_items.specs.Reading.{level, row}
+use Rattle.c_items.specs.reader.Sets.{sets, ranks}
+use Rattle.c_items.specs.reader.Reading.{level, row}
 use Rattle.c_items.proofs.Passes.{pass}
 
 pub level_none : (ts : List Token) (room : ℕ) (l : Level) (i : ℕ) → room ≡ zero → level ts room l i ≡ None

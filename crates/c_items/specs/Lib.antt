@@ -1,4 +1,3 @@
 pub mod Settling
 pub mod Table
-pub mod Sets
-pub mod Reading
+pub mod reader

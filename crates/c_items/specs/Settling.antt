@@ -1,4 +1,6 @@
 -- Where the next tokens settle which declaration, statement or item of C stands there.
+-- The definitions in order: those of `c_expr`, what the next tokens settle here, and the grammar (`Table`). What a file and a
+-- pattern are is in `c_unit`. `reader/` is the reader's own.
 use Rattle.std.specs.Prelude.{ℕ, zero, suc, Bool, false, not, if◌then◌else◌, ◌&&◌, ◌||◌, List, [], ◌∷◌, eqb}
 use Rattle.grammar.specs.Rule.{has}
 use Rattle.c_expr.specs.declared.word.Word.TheVariants as w

@@ -2,8 +2,8 @@
 
 ghost use Rattle.std.specs.Prelude.{◌≤◌, length, IfOk};
 ghost use Rattle.node_tree.specs.Gives.{Gives};
-ghost use Rattle.c_expr.specs.Reading as e;
-ghost use Rattle.c_items.specs.Reading as reading;
+ghost use Rattle.c_expr.specs.reader.Reading as e;
+ghost use Rattle.c_items.specs.reader.Reading as reading;
 ghost use Rattle.c_items.specs.Table as table;
 
 use crate::declarations::declaration;

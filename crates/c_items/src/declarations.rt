@@ -3,10 +3,10 @@
 ghost use Rattle.std.specs.Prelude.{◌≤◌, ◌++◌, [], length, IfOk};
 ghost use Rattle.node_tree.specs.Gives.{Gives};
 ghost use Rattle.node_tree.specs.declared.kind.Kind.TheVariants as k;
-ghost use Rattle.c_expr.specs.Reading as e;
+ghost use Rattle.c_expr.specs.reader.Reading as e;
 ghost use Rattle.c_expr.specs.Build.{cut, over as node_over, span_between};
 ghost use Rattle.c_expr.specs.Table.{Over};
-ghost use Rattle.c_items.specs.Reading as reading;
+ghost use Rattle.c_items.specs.reader.Reading as reading;
 ghost use Rattle.c_items.specs.Table as table;
 ghost use Rattle.grammar.specs.Rule.{make};
 

@@ -7,7 +7,7 @@ ghost use Rattle.c_expr.specs.Table as e;
 ghost use Rattle.c_expr.specs.Build.{token_at};
 ghost use Rattle.c_items.specs.Table as table;
 ghost use Rattle.c_items.specs.Table.{Expression};
-ghost use Rattle.c_items.specs.Sets.{sets};
+ghost use Rattle.c_items.specs.reader.Sets.{sets};
 
 use c_expr::{Token, Word, is_among};
 

@@ -3,9 +3,9 @@
 ghost use Rattle.std.specs.Prelude.{◌≤◌, ◌∷◌, [], length, IfOk, IsTrue};
 ghost use Rattle.c_expr.specs.Words.{none_is_end};
 ghost use Rattle.node_tree.specs.Gives.{Gives};
-ghost use Rattle.c_expr.specs.Reading as e;
+ghost use Rattle.c_expr.specs.reader.Reading as e;
 ghost use Rattle.c_expr.specs.Runs.{level_of};
-ghost use Rattle.c_items.specs.Reading as reading;
+ghost use Rattle.c_items.specs.reader.Reading as reading;
 ghost use Rattle.c_items.specs.Table as rows;
 ghost use Rattle.c_items.specs.Table.{Expression};
 

@@ -21,12 +21,12 @@ use Rattle.c_lex.specs.Places.{TokensLie, AreTokensIn}
 -- ---- the characters that are left
 
 -- from a byte on, the text is these characters
-record IsRest (text : List ℕ) (at : ℕ) (cs : List ℕ) : Type 0 where
-  bytes : drop at text ≡ encode_utf8_all cs
-  scalars : all_scalars cs ≡ true
-  len : at + length (encode_utf8_all cs) ≡ length text
+pub record IsRest (text : List ℕ) (at : ℕ) (cs : List ℕ) : Type 0 where
+  pub bytes : drop at text ≡ encode_utf8_all cs
+  pub scalars : all_scalars cs ≡ true
+  pub len : at + length (encode_utf8_all cs) ≡ length text
 
-whole : (text : List ℕ) → IsUtf8 text → IsRest text 0 (chars text)
+pub whole : (text : List ℕ) → IsUtf8 text → IsRest text 0 (chars text)
 whole text u = record {
   bytes = sym (encodes-chars text u);
   scalars = scalars-chars text u;
@@ -42,7 +42,7 @@ left_scalars front left h =
     let k = seam bytes front left n u (chars-encodes (front ++ left) h) refl in
     ap all_scalars (sym k.rest_chars) ∙ scalars-chars (drop n bytes) (IsUtf8-drop bytes n u k.boundary)
 
-left_rest : {text cs : List ℕ} {at : ℕ} (front left : List ℕ) → IsRest text at cs → cs ≡ front ++ left → IsRest text (at + length (encode_utf8_all front)) left
+pub left_rest : {text cs : List ℕ} {at : ℕ} (front left : List ℕ) → IsRest text at cs → cs ≡ front ++ left → IsRest text (at + length (encode_utf8_all front)) left
 left_rest {text = text} {at = at} front left s parts =
     let e : encode_utf8_all _ ≡ encode_utf8_all front ++ encode_utf8_all left = ap encode_utf8_all parts ∙ encodes-append front left in
     let n = length (encode_utf8_all front) in
@@ -55,10 +55,10 @@ left_rest {text = text} {at = at} front left s parts =
 cut : {text cs : List ℕ} {at : ℕ} → IsRest text at cs → IsCharBoundary text at
 cut {text = text} {cs = cs} {at = at} s = IsCharBoundary-from_drop text at (omega (arith, s.len)) (cs, (s.scalars, sym s.bytes))
 
-lies : {text cs : List ℕ} {at : ℕ} (front left : List ℕ) → IsRest text at cs → cs ≡ front ++ left → LiesIn text (record { from = at; to = at + length (encode_utf8_all front) })
+pub lies : {text cs : List ℕ} {at : ℕ} (front left : List ℕ) → IsRest text at cs → cs ≡ front ++ left → LiesIn text (record { from = at; to = at + length (encode_utf8_all front) })
 lies front left s parts = record { ordered = omega arith; begins = cut s; ends = cut (left_rest front left s parts) }
 
-past : (text cs : List ℕ) → IsRest text 0 cs → IsRest text (mark_len cs) (past_mark cs)
+pub past : (text cs : List ℕ) → IsRest text 0 cs → IsRest text (mark_len cs) (past_mark cs)
 past text [] s = s
 past text (c ∷ cs) s = by_mark (c == 0xfeff) refl
   where
@@ -87,7 +87,7 @@ turn_goes : (text : List ℕ) (p : Progress) (bytes : List ℕ) → LiesIn text 
 turn_goes text p bytes l class (Some word) = record { moves = refl; lie = λ later h. (omega arith, l, h) }
 turn_goes text p bytes l class None = gap_goes text p bytes (fresh_after class p.fresh)
 
-some_is : {X : Type 0} (P : X → Type 0) (o : Option X) (x : X) → IfSome o P → o ≡ Some x → P x
+pub some_is : {X : Type 0} (P : X → Type 0) (o : Option X) (x : X) → IfSome o P → o ≡ Some x → P x
 some_is {X = X} P o x h e = subst (λ (r : Option X). IfSome r P) e h
 
 -- ---- whole readings

@@ -78,7 +78,7 @@ IsTokensOf mode text ts = Lexes (c_language mode) (first (chars text)) (past_mar
 -- ---- what functions give
 
 -- the list was given, unless memory ran out
-abbrev pub Gives : List CToken → Result (List CToken) LexFault → Type 0
+abbrev pub Gives : {T : Type 0} → List T → Result (List T) LexFault → Type 0
 Gives ts (Ok l) = l ≡ ts
 Gives ts (Err Memory) = Unit {0}
 Gives ts (Err NoTokens) = ⊥
@@ -90,7 +90,7 @@ Keeps t old new (Err Memory) = Unit {0}
 Keeps t old new (Err NoTokens) = ⊥
 
 -- the turn's tokens were pushed and its state reached, unless memory ran out
-abbrev pub Turns : Option (Turn Progress CToken) → List CToken → List CToken → Progress → Result (Unit {0}) LexFault → Type 0
-Turns turn old new after (Ok l) = (ts : List CToken) × (turn ≡ Some (record { after = after; tokens = ts })) × (new ≡ old ++ ts)
+abbrev pub Turns : {T : Type 0} → Option (Turn Progress T) → List T → List T → Progress → Result (Unit {0}) LexFault → Type 0
+Turns {T = T} turn old new after (Ok l) = (ts : List T) × (turn ≡ Some (record { after = after; tokens = ts })) × (new ≡ old ++ ts)
 Turns turn old new after (Err Memory) = Unit {0}
 Turns turn old new after (Err NoTokens) = turn ≡ None

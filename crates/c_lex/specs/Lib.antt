@@ -3,3 +3,4 @@ pub mod Classes
 pub mod Tokens
 pub mod Lexing
 pub mod Places
+pub mod Comments

@@ -1,4 +1,6 @@
 -- The tokens of C and the parts between them, as regular expressions.
+-- The definitions in order: these, the keywords (`Keywords`), the classes of lexemes (`Classes`), the list of a text's tokens
+-- (`Lexing`), its comments (`Comments`), and where both lie (`Places`).
 use Rattle.std.specs.Prelude.{Bool, List, [], ◌∷◌, ◌++◌, codes, if◌then◌else◌, map}
 use Rattle.node_tree.specs.declared.view.Mode.{Mode}
 use Rattle.node_tree.specs.declared.view.Mode.TheVariants.{Text, Pattern}

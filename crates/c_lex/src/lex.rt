@@ -15,7 +15,7 @@ use node_tree::{LexFault, List, Mode};
 use std::alloc::Global;
 
 /// The automaton of the rules in a mode, where the line has had no token yet or has had one.
-fn automaton(mode: Mode, fresh: bool) -> Automaton<'static>
+pub fn automaton(mode: Mode, fresh: bool) -> Automaton<'static>
     ensures { Accepts result.table result.start (rules mode fresh) }
 {
     match (mode, fresh) {

@@ -3,6 +3,7 @@
 ghost use Rattle.std.specs.Prelude.{◌≡◌, ◌≤◌, ◌+◌, length, OnOk};
 ghost use Rattle.c_lex.specs.Lexing as spec;
 ghost use Rattle.c_lex.specs.Classes.{class_of};
+ghost use Rattle.c_lex.specs.Comments as remarks;
 
 use crate::keyword::is_keyword;
 use crate::token::{CToken, CWord};
@@ -137,6 +138,48 @@ pub fn step(
         fresh
     };
     progress.at += text.len();
+    progress.fresh = fresh;
+    Ok(())
+}
+
+/// Whether a lexeme of this class is a comment.
+fn is_comment(class: Class) -> bool
+    ensures { result ≡ remarks.is_comment class }
+{
+    match class {
+        Class::Comment | Class::LongComment => true,
+        _ => false,
+    }
+}
+
+/// Reads one lexeme, of the class that has the number, and keeps where it stands if it is a comment.
+pub fn note(
+    comments: &mut List<Span>,
+    progress: &mut Progress,
+    number: u16,
+    text: &str,
+) -> Result<(), LexFault>
+    requires { progress.old.at + length text.now ≤ 1000000 }
+    ensures turns { spec.Turns (remarks.note progress.old number text.now) comments.old comments.new progress.new result }
+    ensures at { OnOk result (progress.new.at ≡ progress.old.at + length text.now) }
+{
+    let class = class_at(number);
+    let fresh = if word_of(class, text).is_some() {
+        false
+    } else {
+        let Some(fresh) = fresh_after(class, progress.fresh) else {
+            return Err(LexFault::NoTokens);
+        };
+        fresh
+    };
+    let end = progress.at + text.len();
+    if is_comment(class) {
+        comments.push(Span {
+            from: progress.at as u32,
+            to: end as u32,
+        })?;
+    }
+    progress.at = end;
     progress.fresh = fresh;
     Ok(())
 }

@@ -1,6 +1,6 @@
-//! Texts and patterns of C, and their tokens: each as its word, its text and its span.
+//! Texts and patterns of C, and their tokens: each as its word, its text and its span. And the comments of texts, each as its span.
 
-use c_lex::c_tokens;
+use c_lex::{c_tokens, comments};
 use node_tree::{LexFault, Mode};
 use shown::{parted, same};
 use std::alloc::Global;
@@ -64,4 +64,52 @@ fn reads_tokens(rt: HostRuntime) -> Result<(), Fail> {
         ],
     )?;
     Ok(())
+}
+
+// The comments of a text, or `none`.
+fn comments_in(alloc: Global, text: &str) -> Result<String, LexFault> {
+    let mut out = String::new(alloc);
+    if text.len() > 1_000_000 {
+        return Ok(out);
+    }
+    match comments(alloc, text) {
+        Ok(found) => for comment in found.as_slice() {
+            write!(out, "{}..{} ", comment.from, comment.to)?;
+        },
+        Err(LexFault::NoTokens) => out.push_str("none")?,
+        Err(LexFault::Memory) => return Err(LexFault::Memory),
+    }
+    Ok(out)
+}
+
+// Rows of texts and their comments.
+fn check_comments(alloc: Global, rows: &[&str]) -> Result<(), Fail> {
+    for row in rows {
+        let (text, wanted) = parted(*row);
+        same(text, comments_in(alloc, text)?.as_str(), wanted)?;
+    }
+    Ok(())
+}
+
+// C11 6.4.9, where a line comment ends with its line.
+#[test]
+fn finds_comments(rt: HostRuntime) -> Result<(), Fail> {
+    check_comments(
+        rt.alloc(),
+        &[
+            "int x; // a\n/* b */ y;\n ⇒ 7..11 12..19 ",
+            "a /* b */ + /**/ c ⇒ 2..9 12..16 ",
+            // One of a kind in one of the other; over two lines; behind a byte order mark; at the end without a line end.
+            "// a /* b\nx */ 1 ⇒ 0..9 ",
+            "/* a // b\n*/ x // c\r\n ⇒ 0..12 15..19 ",
+            "\u{feff}// é ⇒ 3..8 ",
+            "a // b \\\nc ⇒ 2..8 ",
+            // What only looks like one: in a string, in a character, and in a directive.
+            "f(\"// a /* b */\", '/*'); ⇒ ",
+            "#define A 1 // a\nx // b ⇒ 19..23 ",
+            // Texts without tokens.
+            "// a\nx /* b ⇒ none",
+            "'' // a ⇒ none",
+        ],
+    )
 }

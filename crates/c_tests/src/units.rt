@@ -15,13 +15,13 @@ fn file(alloc: Global, text: &str, spans: bool) -> Result<String, ReadFault> {
 }
 
 // The shape and the tree of a pattern, or `none`.
-fn pattern(alloc: Global, text: &str) -> Result<String, ReadFault> {
+fn pattern(alloc: Global, text: &str, spans: bool) -> Result<String, ReadFault> {
     if text.len() > 1_000_000 {
         return Err(ReadFault::NoTree);
     }
     match read_c_pattern(alloc, text) {
         Ok((shape, tree)) => {
-            let mut out = tree_line(alloc, Ok(tree), false)?;
+            let mut out = tree_line(alloc, Ok(tree), spans)?;
             out.push_str(if shape == Shape::Expr {
                 " expression"
             } else {
@@ -29,7 +29,7 @@ fn pattern(alloc: Global, text: &str) -> Result<String, ReadFault> {
             })?;
             Ok(out)
         }
-        Err(fault) => tree_line(alloc, Err(fault), false),
+        Err(fault) => tree_line(alloc, Err(fault), spans),
     }
 }
 
@@ -73,10 +73,10 @@ fn check_items(alloc: Global, rows: &[&str]) -> Result<(), Fail> {
 }
 
 // Rows of patterns and their trees.
-fn check_patterns(alloc: Global, rows: &[&str]) -> Result<(), Fail> {
+fn check_patterns(alloc: Global, spans: bool, rows: &[&str]) -> Result<(), Fail> {
     for row in rows {
         let (text, wanted) = parted(*row);
-        same(text, pattern(alloc, text)?.as_str(), wanted)?;
+        same(text, pattern(alloc, text, spans)?.as_str(), wanted)?;
     }
     Ok(())
 }
@@ -223,6 +223,7 @@ fn reads_patterns(rt: HostRuntime) -> Result<(), Fail> {
     // An expression, or a run of items of a block, or of a file.
     check_patterns(
         rt.alloc(),
+        false,
         &[
             "strcpy($D, $S) ⇒ Call[Name(strcpy) List[Meta($D) Meta($S)]] expression",
             "(T)$X ⇒ Cast[TypeName[TypeSpec(T) Absent] Meta($X)] expression",
@@ -267,6 +268,14 @@ fn reads_patterns(rt: HostRuntime) -> Result<(), Fail> {
             // No pattern.
             "const $T x; ⇒ none",
             "struct $S x; ⇒ none",
+            "struct $S { int x; }; ⇒ none",
+            "union $U { int x; } u; ⇒ none",
+            "enum $E { A, B }; ⇒ none",
+            "struct $S { ... }; ⇒ none",
+            "struct S { ... }; ⇒ none",
+            "struct $S *p; ⇒ none",
+            "struct $S; ⇒ none",
+            "f(struct $S) ⇒ none",
             "static $T $F() { ... } ⇒ none",
             "(T)... ⇒ none",
             "a b c ⇒ none",
@@ -275,6 +284,15 @@ fn reads_patterns(rt: HostRuntime) -> Result<(), Fail> {
             "for (...) ... ⇒ none",
             "int ⇒ none",
             "$X $Y $Z; ⇒ none",
+        ],
+    )?;
+    // A run stands from its first token to its last, and one of no tokens at the text's start.
+    check_patterns(
+        rt.alloc(),
+        true,
+        &[
+            " ; ; ⇒ Block 1..4[Empty 1..2 Empty 3..4] run",
+            "  /* a */\n ⇒ Block 0..0 run",
         ],
     )?;
     Ok(())
@@ -324,6 +342,25 @@ fn keeps_the_limits(rt: HostRuntime) -> Result<(), Fail> {
                     (248, "if (a) ; else "),
                     (1, "if (a) ;"),
                     (1, "}"),
+                ],
+                "none",
+            ),
+            // The width of a bit field counts as a kid of its variable, which is the seventh node from the root.
+            (
+                [
+                    (1, "struct { int a : "),
+                    (492, "~"),
+                    (1, "1"),
+                    (1, "; } x;"),
+                ],
+                "a tree",
+            ),
+            (
+                [
+                    (1, "struct { int a : "),
+                    (493, "~"),
+                    (1, "1"),
+                    (1, "; } x;"),
                 ],
                 "none",
             ),

@@ -1,6 +1,6 @@
 -- The spans of what a text is lie in it.
-use Rattle.std.proofs.Common.{◌≡◌, ℕ, ◌<◌, ◌≤◌, List, [], ◌∷◌, length, map, refl, sym, ◌∙◌, subst, arith, true}
-use Rattle.std.specs.Prelude.{◌&&◌, not}
+use Rattle.std.proofs.Common.{◌≡◌, ℕ, ◌<◌, ◌≤◌, List, [], ◌∷◌, length, map, refl, sym, ◌∙◌, subst, arith, Bool, true, false, cond}
+use Rattle.std.specs.Prelude.{◌&&◌, not, eqb}
 use Rattle.std.specs.Str.{IsUtf8}
 use Rattle.std.proofs.lemmas.Str.{IsCharBoundary-start, IsCharBoundary-end}
 use Rattle.node_tree.specs.declared.node.Node.{Node}
@@ -24,12 +24,11 @@ use Rattle.c_expr.specs.Words.{class, token_of}
 use Rattle.c_expr.specs.Table as e
 use Rattle.c_expr.specs.Table.{Leaf, Builder}
 use Rattle.c_expr.specs.Build.{node, nodes, span_between}
-use Rattle.c_expr.specs.Spells.{ArePlaced, PartsLieIn}
 use Rattle.c_expr.proofs.Ends.{goes_on, placed, ends_within, no_end as known_no_end}
-use Rattle.c_expr.proofs.Spans.{derived_lie, span_lies}
+use Rattle.c_expr.proofs.Spans.{ArePlaced, PartsLieIn, derived_lie, span_lies}
 use Rattle.c_items.specs.Table.{Level, Expression, File, FileItem, Invocation, Invoked, External, Function, Declaration, Declared, VarsTail, Items, Item, Directive, DotsItem, Block, Sub, Labelled, Mark, Label, Case, Default, Statement, Simple, If, While, DoWhile, ForC, ForParts, ForStart, Switch, Return, Jump, Goto, Empty, Evaluated, same, table, grammar}
-use Rattle.c_items.specs.Sets.{sets, ranks}
-use Rattle.c_unit.specs.Units.{IsAll, IsExpression, IsRun, IsPatternOf, expression, items, file_items}
+use Rattle.c_items.specs.reader.Sets.{sets, ranks}
+use Rattle.c_unit.specs.Units.{IsAll, IsExpression, IsRun, IsPatternOf, run_span, expression, items, file_items}
 use Rattle.c_items.proofs.Passes.{pass}
 
 -- ---- no token of a piece is the end
@@ -101,8 +100,12 @@ module _ (text : List ℕ) (ts : List CToken) (lie : AreTokensIn text ts) (mode 
   parts_lie : (l : Level) (ps : List Part) (end : ℕ) → IsAll l (map (token_of mode) ts) ps end → PartsLieIn text ps
   parts_lie l ps end a = derived_lie text (map (token_of mode) ts) sets table all_placed (is_grammar grammar sets ranks pass) a.piece.spelled (ends_before l ps end a)
 
-  block_span : (l : Level) (ps : List Part) (end : ℕ) → IsAll l (map (token_of mode) ts) ps end → LiesIn text (span_between (map (token_of mode) ts) 0 end)
-  block_span l ps end a = span_lies text (map (token_of mode) ts) all_placed 0 end (omega arith) (ends_before l ps end a)
+  block_span : (l : Level) (ps : List Part) (end : ℕ) → IsUtf8 text → IsAll l (map (token_of mode) ts) ps end → LiesIn text (run_span (map (token_of mode) ts) end)
+  block_span l ps end utf8 a = by (eqb end 0)
+    where
+      by : (none : Bool) → LiesIn text (cond none (record { from = 0; to = 0 }) (span_between (map (token_of mode) ts) 0 end))
+      by true = record { ordered = omega arith; begins = IsCharBoundary-start text utf8; ends = IsCharBoundary-start text utf8 }
+      by false = span_lies text (map (token_of mode) ts) all_placed 0 end (omega arith) (ends_before l ps end a)
 
 nodes_lie : (text : List ℕ) (ps : List Part) → PartsLieIn text ps → AllLieIn text (nodes ps)
 nodes_lie text [] h = none_lie text
@@ -121,14 +124,14 @@ unit_lies text ts mode us ps end written kids utf8 lie words a no_text all_kids 
     rw (no_text, all_kids)
     (over_lies text k.Root ps (record { from = 0; to = length text }) (record { ordered = omega arith; begins = IsCharBoundary-start text utf8; ends = IsCharBoundary-end text }) (parts_lie text ts lie mode File ps end (subst (λ (vs : List Token). IsAll File vs ps end) words a)))
 
-run_lies : (text : List ℕ) (ts : List CToken) (mode : Mode) (l : Level) (block : Node) → AreTokensIn text ts → IsRun l (map (token_of mode) ts) block → SpansLieIn text block
-run_lies text ts mode l block lie r =
-    subst (λ (n : Node). SpansLieIn text n) (sym r.is_block) (over_lies text k.Block r.items (span_between (map (token_of mode) ts) 0 r.end) (block_span text ts lie mode l r.items r.end r.all) (parts_lie text ts lie mode l r.items r.end r.all))
+run_lies : (text : List ℕ) (ts : List CToken) (mode : Mode) (l : Level) (block : Node) → IsUtf8 text → AreTokensIn text ts → IsRun l (map (token_of mode) ts) block → SpansLieIn text block
+run_lies text ts mode l block utf8 lie r =
+    subst (λ (n : Node). SpansLieIn text n) (sym r.is_block) (over_lies text k.Block r.items (run_span (map (token_of mode) ts) r.end) (block_span text ts lie mode l r.items r.end utf8 r.all) (parts_lie text ts lie mode l r.items r.end r.all))
 
-pub pattern_lies : (text : List ℕ) (ts : List CToken) (mode : Mode) (us : List Token) (shape : Shape) (tree : Node) → AreTokensIn text ts → us ≡ map (token_of mode) ts → IsPatternOf us shape tree → SpansLieIn text tree
-pattern_lies text ts mode us shape tree lie words h = by shape tree (subst (λ (vs : List Token). IsPatternOf vs shape tree) words h)
+pub pattern_lies : (text : List ℕ) (ts : List CToken) (mode : Mode) (us : List Token) (shape : Shape) (tree : Node) → IsUtf8 text → AreTokensIn text ts → us ≡ map (token_of mode) ts → IsPatternOf us shape tree → SpansLieIn text tree
+pattern_lies text ts mode us shape tree utf8 lie words h = by shape tree (subst (λ (vs : List Token). IsPatternOf vs shape tree) words h)
   where
     by : (shape : Shape) (tree : Node) → IsPatternOf (map (token_of mode) ts) shape tree → SpansLieIn text tree
     by shape tree (expression h) = (parts_lie text ts lie mode (Expression e.Comma) (record { node = tree; depth = h.depth } ∷ []) h.end h.all).0
-    by shape tree (items none h) = run_lies text ts mode Items tree lie h
-    by shape tree (file_items none others h) = run_lies text ts mode File tree lie h
+    by shape tree (items none h) = run_lies text ts mode Items tree utf8 lie h
+    by shape tree (file_items none others h) = run_lies text ts mode File tree utf8 lie h

@@ -11,14 +11,14 @@ use Rattle.c_expr.specs.declared.word.Token.{Token}
 use Rattle.c_expr.specs.declared.part.Part.{Part}
 use Rattle.c_expr.specs.Words.{class}
 use Rattle.c_expr.specs.Build.{token_at, tallest, source, cut_source}
-use Rattle.c_expr.specs.Reading.{round_at}
+use Rattle.c_expr.specs.Runs.{round_at}
 use Rattle.c_expr.proofs.Depths.{deepens}
 use Rattle.c_items.proofs.Alike.{levels_alike, cut_reads, uncut_reads}
 use Rattle.c_unit.specs.declared.whole.Whole.{Whole}
 use Rattle.c_unit.specs.declared.whole.Whole.TheVariants as wholes
 use Rattle.c_items.specs.Table.{Level, grammar}
-use Rattle.c_items.specs.Sets.{sets, ranks}
-use Rattle.c_items.specs.Reading.{level}
+use Rattle.c_items.specs.reader.Sets.{sets, ranks}
+use Rattle.c_items.specs.reader.Reading.{level}
 use Rattle.c_unit.specs.Units.{level_of, IsAll}
 use Rattle.c_items.proofs.Passes.{pass}
 

@@ -1,7 +1,10 @@
 -- Which tree a file in C has, and which pattern a text in C is.
-use Rattle.std.specs.Prelude.{◌≡◌, ◌<◌, ◌≤◌, ℕ, List, [], ◌∷◌, length, map}
+-- They rest on the tokens of `c_lex` (`Lexing`), and on the grammars of `c_expr` and `c_items` (`Table`, with what the next tokens
+-- settle in `Settling` and the nodes in `Build`).
+use Rattle.std.specs.Prelude.{◌≡◌, ◌<◌, ◌≤◌, ℕ, List, [], ◌∷◌, length, map, eqb, cond}
 use Rattle.node_tree.specs.declared.node.Node.{Node}
 use Rattle.node_tree.specs.declared.kind.Kind.TheVariants as k
+use Rattle.node_tree.specs.declared.span.Span.{Span}
 use Rattle.node_tree.specs.declared.view.Mode.{Mode}
 use Rattle.node_tree.specs.declared.view.Mode.TheVariants as modes
 use Rattle.node_tree.specs.declared.view.Shape.{Shape}
@@ -57,13 +60,17 @@ pub record IsExpression (ts : List Token) (tree : Node) : Type 0 where
   pub end : ℕ
   pub all : IsAll (Expression Comma) ts (record { node = tree; depth = depth } ∷ []) end
 
+-- from the start of the first of so many tokens to the end of the last; of none it is the empty span at the text's start
+abbrev pub run_span : List Token → ℕ → Span
+run_span ts end = cond (eqb end 0) (record { from = 0; to = 0 }) (span_between ts 0 end)
+
 -- the tokens are items of a level, and the block of them is at most 500 deep
 pub record IsRun (l : Level) (ts : List Token) (block : Node) : Type 0 where
   pub items : List Part
   pub end : ℕ
   pub all : IsAll l ts items end
   pub shallow : tallest items < 500
-  pub is_block : block ≡ node k.Block [] (nodes items) (span_between ts 0 end)
+  pub is_block : block ≡ node k.Block [] (nodes items) (run_span ts end)
 
 -- Which pattern tokens are: an expression where they are one, else a run of the items of a block, else one of a file's.
 pub data IsPatternOf (ts : List Token) : Shape → Node → Type 0 where

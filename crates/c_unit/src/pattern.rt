@@ -5,13 +5,14 @@ ghost use Rattle.node_tree.specs.Gives.{Gives};
 ghost use Rattle.node_tree.specs.Spans.{SpansLieIn};
 ghost use Rattle.node_tree.specs.declared.node.Node.{Node as a_node};
 ghost use Rattle.node_tree.specs.declared.view.Shape.{Shape as a_shape};
+ghost use Rattle.c_unit.specs.Units as units;
 ghost use Rattle.c_unit.specs.Units.{level_of, IsExpression, IsRun, IsPattern};
 
 use crate::unit::{ITEM_DEPTH, lexed};
 use crate::whole::{Whole, read_whole};
 use c_expr::{Token, classified, span_at};
 use c_items::nodes_of;
-use node_tree::{Kind, Mode, Node, ReadFault, Shape, Text};
+use node_tree::{Kind, Mode, Node, ReadFault, Shape, Span, Text};
 use std::alloc::Global;
 
 /// How deep a tree may be.
@@ -29,6 +30,16 @@ fn read_expression(alloc: Global, tokens: &[Token<'_>]) -> Result<Node, ReadFaul
     Ok(part.node)
 }
 
+/// Where the first so many tokens stand; at the text's start if there are none.
+fn run_span(tokens: &[Token<'_>], end: usize) -> Span
+    ensures { result ≡ units.run_span tokens.now end }
+{
+    if end == 0 {
+        return Span { from: 0, to: 0 };
+    }
+    span_at(tokens, 0, end)
+}
+
 /// The block of the items that the tokens are.
 fn read_run(alloc: Global, tokens: &[Token<'_>], whole: Whole) -> Result<Node, ReadFault>
     ensures found { IfOk result (IsRun (level_of whole) tokens.now) }
@@ -39,7 +50,7 @@ fn read_run(alloc: Global, tokens: &[Token<'_>], whole: Whole) -> Result<Node, R
         kind: Kind::Block,
         text: Text::new(alloc),
         kids: nodes_of(alloc, parts)?,
-        span: span_at(tokens, 0, end),
+        span: run_span(tokens, end),
     })
 }
 

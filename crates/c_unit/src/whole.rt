@@ -6,8 +6,8 @@ ghost use Rattle.c_expr.specs.declared.part.Part.{Part as a_part};
 ghost use Rattle.c_expr.specs.declared.word.Word.TheVariants.{End};
 ghost use Rattle.c_expr.specs.Words.{class};
 ghost use Rattle.c_expr.specs.Build.{tallest, token_at};
-ghost use Rattle.c_expr.specs.Reading as e;
-ghost use Rattle.c_items.specs.Reading as reading;
+ghost use Rattle.c_expr.specs.reader.Reading as e;
+ghost use Rattle.c_items.specs.reader.Reading as reading;
 ghost use Rattle.c_unit.specs.Units.{level_of, IsAll};
 
 use c_expr::{CLevel, Part, Token, Word, is, shallow_end};

@@ -11,7 +11,7 @@ use Rattle.py_expr.specs.Words.{class}
 use Rattle.py_expr.specs.Parts.{depth_nodes}
 use Rattle.py_expr.specs.Table.{grammar}
 use Rattle.py_expr.specs.Build.{token_at, source}
-use Rattle.py_expr.specs.Reading.{round_at}
+use Rattle.py_expr.specs.reader.Reading.{round_at}
 
 pub depth_opened : (n : Node) → depth_of n ≡ 1 + depth_nodes (kids_of n)
 depth_opened n = depth_is n

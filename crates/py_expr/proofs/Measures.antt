@@ -1,6 +1,6 @@
 -- How far a function is from the bottom of the grammar, where levels of the same rank in brackets are as far.
 use Rattle.std.proofs.Common.{◌≡◌, ℕ, ◌+◌, ◌<◌, true, arith}
-use Rattle.py_expr.specs.Reading.{takes_clauses}
+use Rattle.py_expr.specs.reader.Reading.{takes_clauses}
 use Rattle.py_expr.specs.declared.level.Binary.{Binary}
 use Rattle.py_expr.specs.declared.level.Binary.TheVariants as binaries
 use Rattle.py_expr.specs.declared.level.Place.{Place}

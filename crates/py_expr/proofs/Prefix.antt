@@ -14,8 +14,8 @@ use Rattle.py_expr.specs.Words.{class}
 use Rattle.py_expr.specs.Parts.{whole, depth_all}
 use Rattle.py_expr.specs.Table.{grammar}
 use Rattle.py_expr.specs.Build.{token_at, end_item, end_of, source, leaf, made}
-use Rattle.py_expr.specs.Sets.{sets, ranks}
-use Rattle.py_expr.specs.Reading.{round_at}
+use Rattle.py_expr.specs.reader.Sets.{sets, ranks}
+use Rattle.py_expr.specs.reader.Reading.{round_at}
 use Rattle.py_expr.specs.Runs.{of_mode, level_at, IsRunTree, AreOf}
 use Rattle.py_expr.proofs.Passes.{pass}
 use Rattle.py_expr.proofs.Depths.{deepens}

@@ -18,8 +18,8 @@ use Rattle.py_expr.specs.Parts.{Part, whole, lacking, clauses, wholes, node, nod
 use Rattle.py_expr.specs.Table.{Test, Braces, FirstEntry, LaterEntry, Dotted, DotsLeaf, Clause, Pair, commas, names, dots}
 use Rattle.py_expr.specs.Build.{token_at, end_of, leaf_of, kind_of, ident_kind, undecided, displayed, joint}
 use Rattle.py_expr.specs.Build as build
-use Rattle.py_expr.specs.Sets.{sets}
-use Rattle.py_expr.specs.Reading.{level, one, item_of, pair_of, entry_of, after_of, after_pair_of, set_place, after_parts, entries_parts, closed, assigned}
+use Rattle.py_expr.specs.reader.Sets.{sets}
+use Rattle.py_expr.specs.reader.Reading.{level, one, item_of, pair_of, entry_of, after_of, after_pair_of, set_place, after_parts, entries_parts, closed, assigned}
 use Rattle.py_expr.proofs.Steps.{further_rest, further_turn, comprehension_rest, comprehension_turn, dotted_rest, dotted_turn, dots_leaf_step, pairs_rest, pairs_turn, pairs_turned, braces_step, entry_step, value_of, value_step, push_more, push_whole}
 
 -- ---- loops

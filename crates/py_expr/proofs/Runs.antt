@@ -17,8 +17,8 @@ use Rattle.py_expr.specs.Parts.{whole, depth_all}
 use Rattle.py_expr.specs.Table.{Level, Exprs, Star, Named, Test, LambdaTest, Or, OrTail, And, AndTail, Not, Cmp, CmpTail, Cop, Bor, BorTail, Xor, XorTail, Band, BandTail, Shift, ShiftTail, Sum, SumTail, Term, TermTail, Unary, Power, Await, Prim, PrimTail, Suffix, Attr, Call, Sub, Atom, Strings, MoreStrings, StringsTail, Paren, Inner, Items, ListLit, Braces, FirstEntry, FirstValue, LaterEntry, LaterValue, Dotted, DottedTail, DotsLeaf, Pairs, DottedPairs, PairsTail, Pair, AfterPair, AfterFirstPair, Deep, Comprehension, ClausesTail, Clause, ForClause, Yield, Targs, Target, Index, Piece, SliceEnd, Bound, Args, FirstArg, Arg, PlainArg, Params, Param, Given, LambdaParams, LambdaParam, LambdaGiven, AfterStar, Stars, StarsTail, AfterItem, AfterTarget, Targets, TargetsTail, AfterPiece, Pieces, PiecesTail, AfterArg, AfterFirstArg, MoreArgs, MoreArgsTail, AfterParam, MoreParams, MoreParamsTail, AfterLambdaParam, MoreLambdaParams, MoreLambdaParamsTail, grammar}
 use Rattle.py_expr.specs.Build.{source, end_item}
 use Rattle.py_expr.specs.Words.{class}
-use Rattle.py_expr.specs.Sets.{sets, ranks}
-use Rattle.py_expr.specs.Reading.{level, round_at}
+use Rattle.py_expr.specs.reader.Sets.{sets, ranks}
+use Rattle.py_expr.specs.reader.Reading.{level, round_at}
 use Rattle.node_tree.specs.Gives.{Gives}
 use Rattle.py_expr.specs.Runs.{of_mode, level_at, IsRunTree, IsTree, AreOf}
 use Rattle.py_expr.proofs.Passes.{pass}

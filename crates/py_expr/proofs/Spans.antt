@@ -29,7 +29,7 @@ use Rattle.py_expr.specs.Parts.{Part, whole, node}
 use Rattle.py_expr.specs.Table.{Leaf, Own, Ident, Operator, Builder, Further, table, grammar}
 use Rattle.py_expr.specs.Table as levels
 use Rattle.py_expr.specs.Build.{token_at, end_of, kind_of, ident_kind, shown, leaf, leaf_of, source}
-use Rattle.py_expr.specs.Sets.{sets, ranks}
+use Rattle.py_expr.specs.reader.Sets.{sets, ranks}
 use Rattle.py_expr.specs.Runs.{IsTree, level_at}
 use Rattle.py_expr.proofs.Passes.{pass}
 use Rattle.py_expr.proofs.SpanBuilders.{over_lies, span_lies, at_place, Lie, joined_lie, less_lie, nodes_lie, made_lies}

@@ -19,8 +19,8 @@ use Rattle.py_expr.specs.Parts.{Part, whole, lacking, more, nodes_of, wholes}
 use Rattle.py_expr.specs.Table as rows
 use Rattle.py_expr.specs.Table.{Level, Exprs, Star, Named, Test, LambdaTest, OrTail, AndTail, Not, Cmp, CmpTail, Cop, Bor, BorTail, XorTail, BandTail, ShiftTail, SumTail, TermTail, Unary, Power, Await, Prim, PrimTail, Suffix, Attr, Call, Sub, Atom, Strings, MoreStrings, StringsTail, Paren, Inner, Items, ListLit, Braces, FirstEntry, FirstValue, LaterEntry, LaterValue, Dotted, DottedTail, DotsLeaf, Pairs, DottedPairs, PairsTail, Pair, AfterPair, AfterFirstPair, Deep, Comprehension, ClausesTail, Clause, ForClause, Yield, Targs, Target, Index, Piece, SliceEnd, Bound, Args, FirstArg, Arg, PlainArg, Params, Param, Given, LambdaParams, LambdaParam, LambdaGiven, AfterStar, Stars, StarsTail, AfterItem, TargetsTail, PiecesTail, MoreArgsTail, MoreParamsTail, MoreLambdaParamsTail, Row, table, grammar, commas, names, dots, strings, Own, Ident}
 use Rattle.py_expr.specs.Build.{token_at, end_of, source, chain, compared, undecided, parameter, leaf}
-use Rattle.py_expr.specs.Sets.{sets, ranks}
-use Rattle.py_expr.specs.Reading.{level, row, level_of, operand_of, operators_of, item_of, after_of, further_of, takes_clauses, set_place, entry_of, after_pair_of, pairs_of, pair_of, param_of, given_of, marked, annotation, marked_param}
+use Rattle.py_expr.specs.reader.Sets.{sets, ranks}
+use Rattle.py_expr.specs.reader.Reading.{level, row, level_of, operand_of, operators_of, item_of, after_of, further_of, takes_clauses, set_place, entry_of, after_pair_of, pairs_of, pair_of, param_of, given_of, marked, annotation, marked_param}
 use Rattle.py_expr.proofs.Passes.{pass}
 
 -- ---- lists of parts

@@ -12,8 +12,8 @@ use Rattle.py_expr.specs.Words.{class}
 use Rattle.py_expr.specs.Parts.{Part, whole, lacking, sign, nodes_of, node}
 use Rattle.py_expr.specs.Table.{Test, Or, Power, Await, Bor, Unary, Suffix, Cop}
 use Rattle.py_expr.specs.Build.{token_at, end_of, chain_from, farther, attached, spine, too_deep, operators, spaced}
-use Rattle.py_expr.specs.Sets.{sets}
-use Rattle.py_expr.specs.Reading.{level, level_of, operand_of, operators_of, tightest_of, tighter_of}
+use Rattle.py_expr.specs.reader.Sets.{sets}
+use Rattle.py_expr.specs.reader.Reading.{level, level_of, operand_of, operators_of, tightest_of, tighter_of}
 use Rattle.py_expr.proofs.Steps.{test_step, power_step, binary_step, binary_rest, binary_turn, binary_turned, prim_rest, prim_turn, cmp_rest, cmp_turn, push_more}
 
 pub one_before : (o : Option (List Part × ℕ)) (p : Part) (f : List Part → ℕ → List Part) → ◌>>=◌ {B = List Part × ℕ} (◌>>=◌ {B = List Part × ℕ} o (λ v. Some (p ∷ v.0, v.1))) (λ y. Some (f y.0 y.1, y.1)) ≡ ◌>>=◌ {B = List Part × ℕ} o (λ y. Some (f (p ∷ y.0) y.1, y.1))

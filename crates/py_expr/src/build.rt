@@ -5,7 +5,7 @@ ghost use Rattle.node_tree.specs.declared.kind.Kind.TheVariants as k;
 ghost use Rattle.py_expr.specs.Parts.{whole, node, wholes};
 ghost use Rattle.py_expr.specs.Build.{token_at};
 ghost use Rattle.py_expr.specs.Build as build;
-ghost use Rattle.py_expr.specs.Reading as reading;
+ghost use Rattle.py_expr.specs.reader.Reading as reading;
 
 use crate::item::Item;
 use crate::strings::{shown_prefix, shown_string};

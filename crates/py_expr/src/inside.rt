@@ -67,7 +67,7 @@ fn nodes(
     if levels == 0 {
         return Ok(None);
     }
-    let mut all = List::new(alloc);
+    let mut all = List::from_vec(Vec::with_capacity(alloc, parts.len())?);
     for at in 0..parts.len() {
         match part(alloc, mode, &parts[at], levels - 1)? {
             Some(node) => all.push(node)?,

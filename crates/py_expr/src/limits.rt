@@ -5,7 +5,7 @@ ghost use Rattle.node_tree.specs.Tree.{depth_of};
 ghost use Rattle.grammar.specs.Rule.{behind};
 ghost use Rattle.py_expr.specs.Words.{class};
 ghost use Rattle.py_expr.specs.Table.{grammar};
-ghost use Rattle.py_expr.specs.Reading.{round_at};
+ghost use Rattle.py_expr.specs.reader.Reading.{round_at};
 
 use crate::item::Item;
 use crate::word::Word;

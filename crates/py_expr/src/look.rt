@@ -7,8 +7,8 @@ ghost use Rattle.py_expr.specs.Words.{class};
 ghost use Rattle.py_expr.specs.Table as table;
 ghost use Rattle.py_expr.specs.Table.{Test, Target, Star, Piece, Arg, Param, Pair, LaterEntry, Inner, ForClause, Clause, Cop, Suffix, Braces};
 ghost use Rattle.py_expr.specs.Build.{token_at, end_of};
-ghost use Rattle.py_expr.specs.Sets.{sets};
-ghost use Rattle.py_expr.specs.Reading as reading;
+ghost use Rattle.py_expr.specs.reader.Sets.{sets};
+ghost use Rattle.py_expr.specs.reader.Reading as reading;
 
 use crate::item::Item;
 use crate::level::{Binary, Place};

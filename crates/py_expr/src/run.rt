@@ -5,7 +5,7 @@ ghost use Rattle.node_tree.specs.declared.node.Node.{Node as node};
 ghost use Rattle.node_tree.specs.Gives.{Gives};
 ghost use Rattle.node_tree.specs.Spans.{SpansLieIn};
 ghost use Rattle.py_lex.specs.Places.{AreTokensIn};
-ghost use Rattle.py_expr.specs.Reading as reading;
+ghost use Rattle.py_expr.specs.reader.Reading as reading;
 ghost use Rattle.node_tree.specs.declared.view.Mode.{Mode as mode_of};
 ghost use Rattle.py_expr.specs.Insides.{Finds, IsWhole};
 ghost use Rattle.py_expr.specs.Runs.{IsTree, IsRunTree, AreOf, level_at};

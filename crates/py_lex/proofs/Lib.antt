@@ -8,3 +8,4 @@ pub mod WordLengths
 pub mod Standing
 pub mod Lying
 pub mod Placing
+pub mod Commenting

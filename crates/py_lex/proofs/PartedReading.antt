@@ -9,8 +9,10 @@ use Rattle.lexing.specs.Conditions.{BeginsWithNoneSuch}
 use Rattle.lexing.specs.Reading.{Turn, is_end, HasTokens}
 use Rattle.lexing.proofs.Reading.{Goes, HasOneTurn, starts, goes_on, no_piece, stuck, ended, at_end}
 use Rattle.py_lex.specs.Parts.{Parting, HasSome, PartedLanguage, parted, IsFound, Looks}
-use Rattle.py_lex.specs.Layout.{Turns}
-use Rattle.py_lex.specs.Lexing.{Gives}
+use Rattle.py_lex.specs.Layout.{begins_at, Turns}
+use Rattle.py_lex.specs.Lexing.{first_line, Gives}
+use Rattle.py_lex.specs.declared.layout.Layout.{Layout}
+use Rattle.lexing.specs.Mark.{past_mark, mark_len}
 use Rattle.py_lex.specs.declared.parts.Found.{Found}
 
 -- from the first state on, characters gave these tokens, and the state and the rest of the text decide the others
@@ -21,6 +23,10 @@ pub record IsAt {S T : Type 0} (P : Parting) (L : PartedLanguage S T) (s₀ : S)
 pub begins : {S T : Type 0} (P : Parting) (L : PartedLanguage S T) (s : S) (cs rest : List ℕ) (done : List T) → IsUtf8 rest → chars rest ≡ cs → done ≡ [] → IsAt P L s cs done s rest
 begins {T = T} P L s cs rest done u e n =
     subst (λ (x : List T). IsAt P L s cs x s rest) (sym n) (record { utf8 = u; goes = subst (λ (x : List ℕ). Goes (parted P L) s cs [] s x) (sym e) (starts (parted P L) s cs) })
+
+-- the same at the start of a text's first line, behind a byte order mark
+pub begins_first : {T : Type 0} (P : Parting) (L : PartedLanguage Layout T) (cs rest : List ℕ) (done : List T) (at : ℕ) → IsUtf8 rest → chars rest ≡ past_mark cs → done ≡ [] → mark_len cs ≡ at → IsAt P L (first_line cs) (past_mark cs) done (begins_at at) rest
+begins_first P L cs rest done at u e n m = subst (λ (x : ℕ). IsAt P L (first_line cs) (past_mark cs) done (begins_at x) rest) m (begins P L (first_line cs) (past_mark cs) rest done u e n)
 
 -- ---- in the loop, while the rest is not empty
 

@@ -400,6 +400,17 @@ parts_in text mode (suc levels) at class cs xs s h = between_lies text (HasParts
 record LineStands (text : List ℕ) (s : Layout) (cs : List ℕ) : Type 0 where
   stands : Stands text s.at cs (length text)
 
+module _ (mode : Mode) (text : List ℕ) (s : Layout) (w : ℕ) (front : List ℕ) (turn : Turn Layout PyToken) (here : Stands text s.at front (s.at + length (encode_utf8_all front))) (is : (parted (HasParts (length text) mode) (py_language mode)).step s w front turn) where
+  turned : Turned text s.at (s.at + length (encode_utf8_all front)) turn
+  turned =
+      let bytes = encode_utf8_all front in
+      let ins = parted_in text (HasParts (length text) mode) (parts_in text mode (length text)) s.at (class_of w) front is.0 here is.1 in
+      some_is (Turned text s.at (s.at + length bytes)) _ turn (line_turns text s bytes (lies here) (word_of (class_of w) bytes) (class_of w) is.0 ins) is.2
+
+  -- a lexeme moves the place on by its bytes
+  pub passes : turn.after.at ≡ s.at + length (encode_utf8_all front)
+  passes = turned.moves
+
 -- the tokens of a text lie in it
 pub placed : (mode : Mode) (text : List ℕ) (ts : List PyToken) → IsUtf8 text → IsTokensOf mode text ts → AreTokensIn text ts
 placed mode text ts u h =
@@ -408,11 +419,8 @@ placed mode text ts u h =
   where
     step : (s : Layout) (cs : List ℕ) (w : ℕ) (front left : List ℕ) (turn : Turn Layout PyToken) → LineStands text s cs → cs ≡ front ++ left → (parted (HasParts (length text) mode) (py_language mode)).step s w front turn
         → InTokens text s.at turn.tokens turn.after.at × LineStands text turn.after left
-    step s cs w front left turn h parts (ps, p, is) =
-        let bytes = encode_utf8_all front in
-        let here = front_stands front left h.stands parts in
-        let ins = parted_in text (HasParts (length text) mode) (parts_in text mode (length text)) s.at (class_of w) front ps here p in
-        let k = some_is (Turned text s.at (s.at + length bytes)) _ turn (line_turns text s bytes (lies here) (word_of (class_of w) bytes) (class_of w) ps ins) is in
+    step s cs w front left turn h parts is =
+        let k = turned mode text s w front turn (front_stands front left h.stands parts) is in
         (subst (λ (n : ℕ). InTokens text s.at turn.tokens n) (sym k.moves) k.lie, record { stands = subst (λ (n : ℕ). Stands text n left (length text)) (sym k.moves) (left_stands front left h.stands parts) })
 
     last : (s : Layout) (cs : List ℕ) (us : List PyToken) → LineStands text s cs → layout.finish s ≡ Some us → InTokens text s.at us (length text)

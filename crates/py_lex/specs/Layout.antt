@@ -66,6 +66,10 @@ column_after column (b ∷ bs) = column_after (if b == 9 then (column / 8 + 1) *
 
 -- ---- steps
 
+-- reading begins at a place, at the start of the first line
+abbrev pub begins_at : ℕ → Layout
+begins_at at = record { at = at; columns = []; depth = 0; column = 0; line = Start; first = true }
+
 -- the first token of a line opens or closes blocks; the first line has column 0
 abbrev pub begun : Layout → Turn (List ℕ) PyToken → Turn Layout PyToken
 begun s t = record { after = record s { columns = t.after; line = Inside; first = false }; tokens = t.tokens }

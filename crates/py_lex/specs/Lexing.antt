@@ -1,5 +1,5 @@
 -- The tokens of a text in Python.
-use Rattle.std.specs.Prelude.{◌≡◌, ℕ, true, List, [], length, Result, Ok, Err}
+use Rattle.std.specs.Prelude.{◌≡◌, ℕ, List, [], length, Result, Ok, Err}
 use Rattle.std.specs.Str.{chars}
 use Rattle.node_tree.specs.declared.view.Mode.{Mode}
 use Rattle.node_tree.specs.declared.fault.LexFault.{LexFault}
@@ -7,11 +7,10 @@ use Rattle.node_tree.specs.declared.fault.LexFault.TheVariants.{Memory, NoTokens
 use Rattle.lexing.specs.Mark.{past_mark, mark_len}
 use Rattle.lexing.specs.Reading.{HasTokens}
 use Rattle.py_lex.specs.Tokens.{rules}
-use Rattle.py_lex.specs.Layout.{step, finish}
+use Rattle.py_lex.specs.Layout.{begins_at, step, finish}
 use Rattle.py_lex.specs.Parts.{PartedLanguage, parted, HasParts}
 use Rattle.py_lex.specs.declared.class.Forms.TheVariants.{Both}
 use Rattle.py_lex.specs.declared.token.PyToken.{PyToken}
-use Rattle.py_lex.specs.declared.layout.Line.TheVariants.{Start}
 use Rattle.py_lex.specs.declared.layout.Layout.{Layout}
 
 abbrev pub py_language : Mode → PartedLanguage Layout PyToken
@@ -19,7 +18,7 @@ py_language mode = record { rules = λ s. rules mode Both; at = λ s. s.at; step
 
 -- reading begins behind a byte order mark, at the start of the first line
 abbrev pub first_line : List ℕ → Layout
-first_line cs = record { at = mark_len cs; columns = []; depth = 0; column = 0; line = Start; first = true }
+first_line cs = begins_at (mark_len cs)
 
 -- the tokens of a text; no f-string of it has more f-strings within one another than the text has bytes
 abbrev pub IsTokensOf : Mode → List ℕ → List PyToken → Type 0

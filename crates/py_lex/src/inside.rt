@@ -7,7 +7,7 @@ ghost use Rattle.py_lex.specs.declared.token.FPart.{FPart as part};
 
 use crate::class::{Class, class_at};
 use crate::layout::{depth_after, push_written, word_of};
-use crate::token::{FPart, PyToken};
+use crate::token::{FPart, PyToken, push_closely};
 use node_tree::{LexFault, List, Span, Text};
 use std::alloc::Global;
 use std::mem;
@@ -144,12 +144,13 @@ fn end_field(
     let format = mem::replace(&mut inside.format, List::new(alloc));
     inside.at += text.len();
     inside.place = Place::Plain;
-    all.push(FPart::Field(
+    let part = FPart::Field(
         field.tokens,
         field.conversion,
         format,
         span(field.from, inside.at),
-    ))?;
+    );
+    push_closely(alloc, all, part)?;
     Ok(())
 }
 
@@ -162,12 +163,13 @@ fn end_inner(alloc: Global, inside: &mut Inside, text: &str) -> Result<(), LexFa
     let inner = taken(alloc, &mut inside.inner);
     inside.at += text.len();
     inside.place = Place::Format;
-    inside.format.push(FPart::Field(
+    let part = FPart::Field(
         inner.tokens,
         inner.conversion,
         List::new(alloc),
         span(inner.from, inside.at),
-    ))?;
+    );
+    push_closely(alloc, &mut inside.format, part)?;
     Ok(())
 }
 
@@ -186,7 +188,8 @@ fn plain_step(
     inside.at += text.len();
     match class {
         Class::Plain => {
-            all.push(FPart::Plain(Text::from_str(alloc, text)?, span(from, inside.at)))?;
+            let part = FPart::Plain(Text::from_str(alloc, text)?, span(from, inside.at));
+            push_closely(alloc, all, part)?;
             Ok(())
         }
         Class::FieldStart => {
@@ -267,10 +270,8 @@ fn format_step(
     match class {
         Class::FieldEnd => return end_field(alloc, all, inside, text),
         Class::Plain => {
-            inside.format.push(FPart::Plain(
-                Text::from_str(alloc, text)?,
-                span(from, from + text.len()),
-            ))?;
+            let part = FPart::Plain(Text::from_str(alloc, text)?, span(from, from + text.len()));
+            push_closely(alloc, &mut inside.format, part)?;
         }
         Class::FieldStart => {
             inside.place = Place::FormatField;

@@ -8,7 +8,7 @@ ghost use Rattle.py_lex.specs.declared.token.PyToken.{PyToken};
 use crate::class::{Class, class_at};
 use crate::columns::Columns;
 use crate::keyword::is_keyword;
-use crate::token::{FPart, PyToken, PyWord};
+use crate::token::{FPart, PyToken, PyWord, push_closely};
 use node_tree::{LexFault, List, Span, Text};
 use std::alloc::Global;
 
@@ -32,6 +32,22 @@ pub struct Layout {
     pub column: usize,
     pub line: Line,
     pub first: bool,
+}
+
+impl Layout {
+    /// The start of a text's first line.
+    pub fn first(alloc: Global, at: usize) -> Layout
+        ensures { result ≡ spec.begins_at at }
+    {
+        Layout {
+            at,
+            columns: Columns::new(alloc),
+            depth: 0,
+            column: 0,
+            line: Line::Start,
+            first: true,
+        }
+    }
 }
 
 /// Pushes a token without text.
@@ -71,7 +87,7 @@ pub fn push_written(
     ensures ok { OnOk result (all.new ≡ all.old ++ spec.written word text.now from parts ∷ []) }
     ensures memory { result ≢ Err NoTokens }
 {
-    all.push(PyToken {
+    let token = PyToken {
         word,
         text: Text::from_str(alloc, text)?,
         span: Span {
@@ -79,7 +95,8 @@ pub fn push_written(
             to: (from + text.len()) as u32,
         },
         parts,
-    })?;
+    };
+    push_closely(alloc, all, token)?;
     Ok(())
 }
 

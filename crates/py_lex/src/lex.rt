@@ -6,8 +6,7 @@ ghost use Rattle.py_lex.specs.Places.{AreTokensIn};
 ghost use Rattle.py_lex.specs.declared.token.PyToken.{PyToken as token};
 
 use crate::class::Forms;
-use crate::columns::Columns;
-use crate::layout::{Layout, Line, finish, step};
+use crate::layout::{Layout, finish, step};
 use crate::parts::{Lexemes, look};
 use crate::token::PyToken;
 use lexing::without_mark;
@@ -29,14 +28,7 @@ pub fn tokens(alloc: Global, text: &str, mode: Mode) -> Result<List<PyToken>, Le
     let levels = text.len();
     let mut all = List::new(alloc);
     let mut rest = without_mark(text);
-    let mut layout = Layout {
-        at: text.len() - rest.len(),
-        columns: Columns::new(alloc),
-        depth: 0,
-        column: 0,
-        line: Line::Start,
-        first: true,
-    };
+    let mut layout = Layout::first(alloc, text.len() - rest.len());
     'lexemes: while !rest.is_empty() {
         let found = match look(
             alloc,

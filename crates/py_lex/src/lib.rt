@@ -3,6 +3,7 @@
 
 mod class;
 mod columns;
+mod comment;
 mod inside;
 mod keyword;
 mod layout;
@@ -11,5 +12,6 @@ mod parts;
 mod table;
 mod token;
 
+pub use comment::comments;
 pub use lex::tokens;
 pub use token::{FPart, PyToken, PyWord};

@@ -1,6 +1,9 @@
 //! The tokens of Python.
 
-use node_tree::{List, Span, Text};
+ghost use Rattle.std.specs.Prelude.{◌≡◌, [], ◌∷◌, ◌++◌, OnOk};
+
+use node_tree::{List, Memory, Span, Text};
+use std::alloc::Global;
 
 /// The words that tokens are classed by, after the Python reference, section "Lexical analysis".
 #[derive(Clone, Copy, Debug, PartialEq, Eq)]
@@ -58,4 +61,14 @@ pub enum FPart {
     /// - Its format, which is the texts and fields behind the `:`; it is empty where there is no `:` or nothing behind
     ///   it. A field in a format has no format of its own.
     Field(List<PyToken>, Text, List<FPart>, Span),
+}
+
+/// Adds an item. A list of one has room for no other, since most lists within f-strings stay so short.
+pub fn push_closely<T: Drop>(alloc: Global, all: &mut List<T>, item: T) -> Result<(), Memory>
+    ensures { OnOk result (all.new ≡ all.old ++ item ∷ []) }
+{
+    if all.is_empty() {
+        *all = List::from_vec(Vec::with_capacity(alloc, 1)?);
+    }
+    all.push(item)
 }

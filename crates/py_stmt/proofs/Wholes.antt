@@ -7,11 +7,11 @@ use Rattle.grammar.proofs.Facts.{none_some, some_pair}
 use Rattle.grammar.proofs.Theorem.{read_piece, piece_read}
 use Rattle.py_expr.specs.declared.item.Item.{Item}
 use Rattle.py_expr.specs.Parts.{wholes, depth_nodes, depth_all}
-use Rattle.py_expr.specs.Reading.{round_at}
+use Rattle.py_expr.specs.reader.Reading.{round_at}
 use Rattle.py_suite.specs.Table.{File, grammar}
 use Rattle.py_suite.specs.Build.{source}
-use Rattle.py_suite.specs.Sets.{sets, ranks}
-use Rattle.py_suite.specs.Reading.{level}
+use Rattle.py_suite.specs.reader.Sets.{sets, ranks}
+use Rattle.py_suite.specs.reader.Reading.{level}
 use Rattle.py_stmt.specs.Modules.{AreStatements}
 use Rattle.py_suite.proofs.Passes.{pass}
 use Rattle.py_suite.proofs.Depths.{deepens}

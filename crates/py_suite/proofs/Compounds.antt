@@ -16,7 +16,7 @@ use Rattle.py_expr.specs.Build.{token_at, absent, empty_list}
 use Rattle.py_suite.specs.Table as rows
 use Rattle.py_suite.specs.Table.{Suite, Branches, ElsePart, Handlers, Handler, Caught, FinallyPart, TryRest, table}
 use Rattle.py_suite.specs.Build.{end_from, padded, filled, written}
-use Rattle.py_suite.specs.Reading.{level, row, one, one_kid, along, more_handlers, heads, body, else_or_absent, kids_behind}
+use Rattle.py_suite.specs.reader.Reading.{level, row, one, one_kid, along, more_handlers, heads, body, else_or_absent, kids_behind}
 use Rattle.py_suite.proofs.Steps.{level_row}
 use Rattle.py_suite.proofs.Orders.{push_more}
 use Rattle.py_suite.proofs.Forms.{written_append, filled_append, some_same, collected, headed}

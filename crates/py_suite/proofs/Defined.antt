@@ -10,7 +10,7 @@ use Rattle.py_expr.specs.Build.{token_at, leaf_of, ident_kind}
 use Rattle.py_expr.specs.Table.{names}
 use Rattle.py_suite.specs.Table as rows
 use Rattle.py_suite.specs.Table.{DefRest, Parameters, ClassRest, Bases}
-use Rattle.py_suite.specs.Reading.{level, row, heads, body, returns, kids_behind}
+use Rattle.py_suite.specs.reader.Reading.{level, row, heads, body, returns, kids_behind}
 use Rattle.py_suite.proofs.Steps.{level_row}
 use Rattle.py_suite.proofs.Forms.{headed}
 use Rattle.py_suite.proofs.Suites.{two_heads, one_head}

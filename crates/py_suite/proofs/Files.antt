@@ -10,7 +10,7 @@ use Rattle.py_expr.specs.Words.{class}
 use Rattle.py_expr.specs.Build.{token_at}
 use Rattle.py_expr.specs.Parts.{Part, wholes}
 use Rattle.py_suite.specs.Table.{File, Stmts, table}
-use Rattle.py_suite.specs.Reading.{level, row}
+use Rattle.py_suite.specs.reader.Reading.{level, row}
 use Rattle.py_suite.proofs.Steps.{level_row}
 
 pub file_step : (ts : List Item) (room i : ℕ) → zero < room → level ts room File i ≡ row ts room (table File) i

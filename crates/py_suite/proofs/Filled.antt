@@ -6,7 +6,7 @@ use Rattle.py_expr.specs.Words.{class}
 use Rattle.py_expr.specs.Table as e
 use Rattle.py_expr.proofs.Spans.{wide as wide_value}
 use Rattle.py_suite.specs.Table.{Level, Expression, File, Stmts, StmtsTail, Stmt, Line, LineTail, Simple, Worded, Naming, Value, ValuesTail, Evaluated, Annotated, Return, Delete, Raise, Assert, Global, Nonlocal, NamesTail, Import, AliasesTail, Alias, Dotted, DottedTail, FromImport, Origin, DotsTail, Imported, Aliases, MoreAliases, MoreAliasesTail, Suite, Compound, If, Branches, ElsePart, While, For, ForRest, With, WithRest, WithItems, WithItemsTail, WithItem, Try, TryRest, Handlers, HandlersTail, Handler, Caught, FinallyPart, Def, DefRest, Parameters, Class, ClassRest, Bases, Async, AsyncRest, Decorated, Decorators, DecoratorsTail, Decorator, DecoratedRest, Value_of, Builder, table}
-use Rattle.py_suite.specs.Sets.{sets}
+use Rattle.py_suite.specs.reader.Sets.{sets}
 
 -- the builders that stand over a token at least: no more is asked than of expressions
 abbrev pub wide : Builder → Bool

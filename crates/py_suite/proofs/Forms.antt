@@ -22,8 +22,8 @@ use Rattle.py_suite.specs.declared.series.Series.TheVariants as series_of
 use Rattle.py_suite.specs.Table.{Expression, Value, Alias, Dotted, Aliases, MoreAliases, Origin, Imported, FromImport, Import, Raise, Annotated, Evaluated, Simple, Line, WithItem, WithItems, Decorator, Decorators, Caught, points, table}
 use Rattle.py_suite.specs.Table as rows
 use Rattle.py_suite.specs.Build.{end_from, statement, padded, arity, filled, written, pointed}
-use Rattle.py_suite.specs.Sets.{sets}
-use Rattle.py_suite.specs.Reading.{level, row, along, found, further, further_parts, further_points, more_aliases, more_simples, declared, marked, assigned, caught_name, heads, behind, pointed_behind, are_signs, optional}
+use Rattle.py_suite.specs.reader.Sets.{sets}
+use Rattle.py_suite.specs.reader.Reading.{level, row, along, found, further, further_parts, further_points, more_aliases, more_simples, declared, marked, assigned, caught_name, heads, behind, pointed_behind, are_signs, optional}
 use Rattle.py_suite.proofs.Steps.{level_row}
 
 -- ---- kids and words of parts

@@ -5,7 +5,7 @@ use Rattle.grammar.specs.Check.{passes}
 use Rattle.py_expr.specs.Words.{class}
 use Rattle.py_expr.specs.Table as e
 use Rattle.py_suite.specs.Table.{Level, Expression, File, Stmts, StmtsTail, Stmt, Line, LineTail, Simple, Worded, Naming, Value, ValuesTail, Evaluated, Annotated, Return, Delete, Raise, Assert, Global, Nonlocal, NamesTail, Import, AliasesTail, Alias, Dotted, DottedTail, FromImport, Origin, DotsTail, Imported, Aliases, MoreAliases, MoreAliasesTail, Suite, Compound, If, Branches, ElsePart, While, For, ForRest, With, WithRest, WithItems, WithItemsTail, WithItem, Try, TryRest, Handlers, HandlersTail, Handler, Caught, FinallyPart, Def, DefRest, Parameters, Class, ClassRest, Bases, Async, AsyncRest, Decorated, Decorators, DecoratorsTail, Decorator, DecoratedRest, grammar}
-use Rattle.py_suite.specs.Sets.{sets, ranks}
+use Rattle.py_suite.specs.reader.Sets.{sets, ranks}
 
 pub pass : (l : Level) → passes grammar sets ranks l ≡ true
 unfolding class

@@ -16,8 +16,8 @@ use Rattle.py_suite.specs.declared.series.Series.TheVariants as series_of
 use Rattle.py_suite.specs.Table as rows
 use Rattle.py_suite.specs.Table.{Level, Row, Simple, Alias, Stmt, Handler, LineTail, MoreAliasesTail, StmtsTail, HandlersTail, DottedTail, DotsTail, looped, points}
 use Rattle.py_suite.specs.Build.{source, pointed, written}
-use Rattle.py_suite.specs.Sets.{sets}
-use Rattle.py_suite.specs.Reading.{level, row, row_of, tail_of, goes_on, along, pointed_behind, behind, are_signs, further, further_parts, further_points, more_simples, more_aliases, more_statements, more_handlers}
+use Rattle.py_suite.specs.reader.Sets.{sets}
+use Rattle.py_suite.specs.reader.Reading.{level, row, row_of, tail_of, goes_on, along, pointed_behind, behind, are_signs, further, further_parts, further_points, more_simples, more_aliases, more_statements, more_handlers}
 
 -- what a loop reads that may go round so often
 unfoldable pub rest : List Item → ℕ → Level → Row → ℕ → ℕ → Option (List Part × ℕ)

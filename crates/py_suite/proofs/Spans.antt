@@ -22,7 +22,7 @@ use Rattle.py_expr.proofs.SpanBuilders.{over_lies, at_place, both_lie, Lie, node
 use Rattle.py_expr.proofs.Spans.{ItemsLie, item_lies, After, keeps as known}
 use Rattle.py_suite.specs.Table.{Level, Builder, Value_of, Statement, Item_of, Headed, Head, Valued, Several, Listing, Dotting, table, grammar}
 use Rattle.py_suite.specs.Build.{is_layout, code_end, end_from, filled, written, arity, absents, padded, told, statement, is_dots, unless_dots, item, valued, several, listing, dotted, dotting, alone, build, source}
-use Rattle.py_suite.specs.Sets.{sets, ranks}
+use Rattle.py_suite.specs.reader.Sets.{sets, ranks}
 use Rattle.py_suite.proofs.Passes.{pass}
 use Rattle.py_suite.proofs.Filled.{wide, level_filled}
 

@@ -5,13 +5,13 @@ use Rattle.grammar.proofs.Renamed.{same_reading}
 use Rattle.py_expr.specs.declared.item.Item.{Item}
 use Rattle.py_expr.specs.Build.{source as known_source}
 use Rattle.py_expr.specs.Table as e
-use Rattle.py_expr.specs.Sets as es
-use Rattle.py_expr.specs.Reading as known
+use Rattle.py_expr.specs.reader.Sets as es
+use Rattle.py_expr.specs.reader.Reading as known
 use Rattle.py_expr.proofs.Passes.{pass as known_pass}
 use Rattle.py_suite.specs.Table.{Level, Expression, Value_of, table, grammar, Value, Stmts, Stmt, Line, Simple, Worded, Naming, Global, Nonlocal, Annotated, Evaluated, Return, Delete, Raise, Assert, Import, Alias, Dotted, FromImport, Origin, Imported, Aliases, MoreAliases, Suite, Compound, If, Branches, ElsePart, While, For, ForRest, With, WithRest, WithItems, WithItem, Try, TryRest, Handlers, Handler, Caught, FinallyPart, Def, DefRest, Parameters, Class, ClassRest, Bases, Async, AsyncRest, Decorated, Decorators, Decorator, DecoratedRest}
 use Rattle.py_suite.specs.Build.{source}
-use Rattle.py_suite.specs.Sets.{sets, ranks}
-use Rattle.py_suite.specs.Reading.{level, row}
+use Rattle.py_suite.specs.reader.Sets.{sets, ranks}
+use Rattle.py_suite.specs.reader.Reading.{level, row}
 use Rattle.py_suite.proofs.Passes.{pass}
 
 pub level_none : (ts : List Item) (room : ℕ) (l : Level) (i : ℕ) → room ≡ zero → level ts room l i ≡ None

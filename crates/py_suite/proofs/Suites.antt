@@ -18,8 +18,8 @@ use Rattle.py_expr.specs.Table as e
 use Rattle.py_expr.specs.Table.{names}
 use Rattle.py_suite.specs.Table.{Expression, Line, Stmts, Stmt, Suite, If, Branches, ElsePart, While, For, ForRest, With, WithRest, Try, TryRest, Def, DefRest, Class, ClassRest, Async, AsyncRest, Decorated, Decorators, DecoratedRest}
 use Rattle.py_suite.specs.Build.{end_from, statement, padded, filled, written}
-use Rattle.py_suite.specs.Sets.{sets}
-use Rattle.py_suite.specs.Reading.{level, along, more_statements, body, condition, some_else, kids_behind}
+use Rattle.py_suite.specs.reader.Sets.{sets}
+use Rattle.py_suite.specs.reader.Reading.{level, along, more_statements, body, condition, some_else, kids_behind}
 use Rattle.py_suite.proofs.Steps.{level_row}
 use Rattle.py_suite.proofs.Forms.{filled_wholes, written_wholes, written_append, filled_append, some_same, headed}
 

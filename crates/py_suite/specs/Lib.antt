@@ -1,4 +1,4 @@
+-- Read first Table, a row for each line of the grammar, and then Build, the nodes that rows make. The folder reader has steps of the reader.
 pub mod Table
 pub mod Build
-pub mod Sets
-pub mod Reading
+pub mod reader

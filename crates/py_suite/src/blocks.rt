@@ -2,7 +2,7 @@
 
 ghost use Rattle.std.specs.Prelude.{◌≡◌, ◌++◌, ◌<◌, ◌≤◌, length, reverse, IfOk};
 ghost use Rattle.node_tree.specs.Gives.{Gives};
-ghost use Rattle.py_suite.specs.Reading as reading;
+ghost use Rattle.py_suite.specs.reader.Reading as reading;
 ghost use Rattle.py_suite.specs.Table.{Stmts, Stmt, Suite, Compound};
 
 use crate::build::plain;

@@ -2,7 +2,7 @@
 
 ghost use Rattle.std.specs.Prelude.{◌≡◌, ◌+◌, ◌*◌, ◌<◌, ◌≤◌, [], ◌∷◌, ◌++◌, length, IfOk};
 ghost use Rattle.node_tree.specs.Gives.{Gives};
-ghost use Rattle.py_suite.specs.Reading as reading;
+ghost use Rattle.py_suite.specs.reader.Reading as reading;
 ghost use Rattle.py_suite.specs.Table.{Def, DefRest, Class, ClassRest, Async, Decorated};
 
 use crate::blocks::suite;

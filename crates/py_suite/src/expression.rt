@@ -4,7 +4,7 @@ ghost use Rattle.std.specs.Prelude.{◌≢◌, ◌≤◌, length, IfOk};
 ghost use Rattle.py_expr.specs.declared.word.Word.TheVariants.{Other};
 ghost use Rattle.node_tree.specs.Gives.{Gives};
 ghost use Rattle.py_expr.specs.Runs.{level_at};
-ghost use Rattle.py_suite.specs.Reading as reading;
+ghost use Rattle.py_suite.specs.reader.Reading as reading;
 ghost use Rattle.py_suite.specs.Table.{Expression, Value};
 
 use node_tree::{Node, ReadFault};

@@ -3,7 +3,7 @@
 ghost use Rattle.std.specs.Prelude.{◌≡◌, ◌<◌, ◌≤◌, [], ◌∷◌, ◌++◌, length, IfOk};
 ghost use Rattle.node_tree.specs.Gives.{Gives};
 ghost use Rattle.py_expr.specs.Build.{token_at};
-ghost use Rattle.py_suite.specs.Reading as reading;
+ghost use Rattle.py_suite.specs.reader.Reading as reading;
 ghost use Rattle.py_suite.specs.Table.{Import, Alias, Dotted, FromImport, Origin, Imported, Aliases};
 
 use crate::build::{plain, statement};

@@ -5,7 +5,7 @@ ghost use Rattle.grammar.specs.Rule.{has};
 ghost use Rattle.py_expr.specs.Words.{class};
 ghost use Rattle.py_expr.specs.Build.{token_at};
 ghost use Rattle.py_suite.specs.Table as table;
-ghost use Rattle.py_suite.specs.Sets.{sets};
+ghost use Rattle.py_suite.specs.reader.Sets.{sets};
 
 use py_expr::{Item, Word, is};
 

@@ -2,7 +2,7 @@
 
 ghost use Rattle.std.specs.Prelude.{◌≡◌, ◌<◌, ◌≤◌, true, length, IfOk};
 ghost use Rattle.node_tree.specs.Gives.{Gives};
-ghost use Rattle.py_suite.specs.Reading as reading;
+ghost use Rattle.py_suite.specs.reader.Reading as reading;
 
 use crate::build::plain;
 use crate::expression::{expression, value};

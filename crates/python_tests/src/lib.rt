@@ -1,6 +1,8 @@
-//! Tests of Python's tokens, expressions and statements, in texts and patterns.
+//! Tests of Python's tokens, comments, expressions and statements, in texts and patterns.
 #![tactic(auto)]
 
+#[cfg(test)]
+mod comments;
 #[cfg(test)]
 mod expressions;
 #[cfg(test)]

@@ -5,7 +5,7 @@ use Rattle.grammar.proofs.Facts.{true_false}
 use Rattle.c_expr.specs.declared.word.Word.TheVariants as w
 use Rattle.c_expr.specs.Words.{class}
 use Rattle.c_expr.specs.Build.{token_at}
-use Rattle.c_expr.specs.Reading.{operators, trails, item_starts}
+use Rattle.c_expr.specs.reader.Reading.{operators, trails, item_starts}
 use Rattle.c_expr.proofs.Climbs.{has_one, comma_on, ops_on, more_there}
 use Rattle.c_expr.proofs.Pieces.{grafted_there, cast_read, cond_part_read, sub_read, call_read, attr_read, desigs_more, fields_more, items_more, word_there, body_there, pointer_there, array_read, function_read, designated_read}
 use Rattle.c_expr.proofs.+reader.Goals as goal

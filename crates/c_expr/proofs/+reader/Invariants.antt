@@ -4,7 +4,7 @@ use Rattle.grammar.specs.Reader.{◌>>=◌}
 use Rattle.c_expr.specs.Words.{class}
 use Rattle.c_expr.specs.Table.{Comma, CommaTail, Postfix, PostfixTail, QualifiersTail, Typed, TypedTail, DeclrTail, Fields, Desigs, DesigsTail}
 use Rattle.c_expr.specs.Build.{token_at}
-use Rattle.c_expr.specs.Reading.{level, optional, grafting, gathering, climbed, looseness, operators, ops_level, list_level, list_tail}
+use Rattle.c_expr.specs.reader.Reading.{level, optional, grafting, gathering, climbed, looseness, operators, ops_level, list_level, list_tail}
 use Rattle.c_expr.proofs.Steps.{rest}
 use Rattle.c_expr.proofs.Climbs.{ops_rest, still}
 use Rattle.c_expr.proofs.+reader.Given as goal

@@ -1,6 +1,6 @@
 use Rattle.std.proofs.Common.{◌≡◌, ◌≤◌, ◌+◌, ◌-◌, ◌*◌, suc, length}
 use Rattle.c_items.specs.Table.{Items, Labelled}
-use Rattle.c_items.specs.Reading.{level, along}
+use Rattle.c_items.specs.reader.Reading.{level, along}
 use Rattle.c_items.proofs.Steps.{rest}
 use Rattle.c_items.proofs.+items.Given as goal
 

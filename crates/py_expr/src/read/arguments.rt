@@ -2,7 +2,7 @@
 
 ghost use Rattle.std.specs.Prelude.{◌≡◌, ◌≢◌, ◌+◌, ◌<◌, ◌≤◌, [], ◌∷◌, length, IfOk};
 ghost use Rattle.node_tree.specs.Gives.{Gives};
-ghost use Rattle.py_expr.specs.Reading as reading;
+ghost use Rattle.py_expr.specs.reader.Reading as reading;
 ghost use Rattle.py_expr.specs.Table.{Args, FirstArg, Arg, PlainArg, Params, LambdaParams};
 ghost use Rattle.node_tree.specs.declared.kind.Kind.TheVariants as k;
 ghost use Rattle.py_expr.specs.declared.word.Word.TheVariants.{Other};

@@ -3,7 +3,7 @@
 ghost use Rattle.std.specs.Prelude.{◌≡◌, ◌+◌, ◌<◌, ◌≤◌, ◌&&◌, true, length, IfOk, eqb};
 ghost use Rattle.grammar.specs.Rule.{has};
 ghost use Rattle.node_tree.specs.Gives.{Gives};
-ghost use Rattle.py_expr.specs.Reading as reading;
+ghost use Rattle.py_expr.specs.reader.Reading as reading;
 ghost use Rattle.py_expr.specs.declared.word.Word.TheVariants.{Walrus};
 ghost use Rattle.py_expr.specs.Words.{class};
 ghost use Rattle.py_expr.specs.Build.{token_at};

@@ -2,7 +2,7 @@
 
 ghost use Rattle.std.specs.Prelude.{◌+◌, ◌<◌, ◌≤◌, length, IfOk};
 ghost use Rattle.node_tree.specs.Gives.{Gives};
-ghost use Rattle.py_expr.specs.Reading as reading;
+ghost use Rattle.py_expr.specs.reader.Reading as reading;
 ghost use Rattle.py_expr.specs.Table.{Exprs, Star, Targs, Target, Index, Piece, SliceEnd, Bound, Yield};
 
 use crate::build::{After, absent, grouped, one, over, slice};

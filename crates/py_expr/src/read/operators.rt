@@ -2,7 +2,7 @@
 
 ghost use Rattle.std.specs.Prelude.{◌≡◌, ◌≢◌, ◌+◌, ◌<◌, ◌≤◌, [], ◌∷◌, Some, length, IfOk};
 ghost use Rattle.node_tree.specs.Gives.{Gives};
-ghost use Rattle.py_expr.specs.Reading as reading;
+ghost use Rattle.py_expr.specs.reader.Reading as reading;
 ghost use Rattle.py_expr.specs.Table.{Named, Test, LambdaTest, Not, Cmp, Cop, Unary, Power, Await};
 
 use crate::build::{

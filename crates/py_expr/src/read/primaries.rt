@@ -2,7 +2,7 @@
 
 ghost use Rattle.std.specs.Prelude.{◌≡◌, ◌≢◌, ◌+◌, ◌<◌, ◌≤◌, [], ◌∷◌, length, IfOk};
 ghost use Rattle.node_tree.specs.Gives.{Gives};
-ghost use Rattle.py_expr.specs.Reading as reading;
+ghost use Rattle.py_expr.specs.reader.Reading as reading;
 ghost use Rattle.py_expr.specs.Table.{Prim, Suffix, Attr, Call, Sub, Atom, Strings, MoreStrings, Paren, Inner, Items, ListLit, Deep};
 
 use crate::build::{

@@ -5,8 +5,8 @@ use Rattle.py_expr.specs.declared.word.Word.TheVariants as words
 use Rattle.py_expr.specs.Words.{class}
 use Rattle.py_expr.specs.Build.{token_at, empty_list}
 use Rattle.py_suite.specs.Table.{Stmt, StmtsTail, Handler, HandlersTail, TryRest, DefRest, ClassRest, looped}
-use Rattle.py_suite.specs.Reading as reading
-use Rattle.py_suite.specs.Reading.{level}
+use Rattle.py_suite.specs.reader.Reading as reading
+use Rattle.py_suite.specs.reader.Reading.{level}
 use Rattle.py_suite.proofs.Rounds as by
 use Rattle.py_suite.proofs.Rounds.{chained_more, chained_end, chained_lost, along_turned, has_one, statements_rest}
 use Rattle.py_suite.proofs.Forms.{passed_on, collected_some, collected_none}

@@ -1,7 +1,7 @@
 use Rattle.std.proofs.Common.{◌≡◌, suc, length, ◌≤◌, ◌-◌, ◌+◌, ◌*◌}
 use Rattle.grammar.specs.Rule.{ref}
 use Rattle.py_suite.specs.Table.{Stmt, StmtsTail, Handler, HandlersTail, looped}
-use Rattle.py_suite.specs.Reading as reading
+use Rattle.py_suite.specs.reader.Reading as reading
 use Rattle.py_suite.proofs.Rounds.{rest}
 use Rattle.py_suite.proofs.+blocks.Given as goal
 

@@ -1,6 +1,6 @@
 use Rattle.std.proofs.Common.{◌≡◌, ◌≤◌, ◌-◌, [], suc, length}
 use Rattle.c_expr.specs.Table.{Words}
-use Rattle.c_expr.specs.Reading.{level, gathering}
+use Rattle.c_expr.specs.reader.Reading.{level, gathering}
 use Rattle.c_expr.proofs.Steps.{rest}
 use Rattle.c_expr.proofs.declarators.words.Given as goal
 

@@ -1,5 +1,5 @@
 use Rattle.std.proofs.Common.{◌≡◌, ℕ, ◌≤◌, ◌<◌}
-use Rattle.c_expr.specs.Reading.{round_at}
+use Rattle.c_expr.specs.Runs.{round_at}
 use Rattle.c_expr.proofs.Counting.{open_before}
 use Rattle.c_expr.proofs.limits.shallow_end.Given as goal
 

@@ -2,7 +2,7 @@ use Rattle.std.proofs.Common.{◌≡◌, ◌<◌, ◌≤◌, ◌-◌, ◌++◌, 
 use Rattle.grammar.specs.Reader.{◌>>=◌}
 use Rattle.c_expr.specs.Table.{Strings, StringsTail}
 use Rattle.c_expr.specs.Build.{span_between, cut_joined}
-use Rattle.c_expr.specs.Reading.{level}
+use Rattle.c_expr.specs.reader.Reading.{level}
 use Rattle.c_expr.proofs.Steps.{rest}
 use Rattle.c_expr.proofs.primaries.strings.Given as goal
 

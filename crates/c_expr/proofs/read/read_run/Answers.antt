@@ -1,7 +1,7 @@
 use Rattle.std.proofs.Common.{rules, ◌≡◌, ◌≤◌, ℕ, take, arith, ap}
 use Rattle.node_tree.specs.declared.node.Node.{Node}
 use Rattle.c_expr.specs.declared.part.Part.{Part}
-use Rattle.c_expr.specs.Reading.{one}
+use Rattle.c_expr.specs.reader.Reading.{one}
 use Rattle.c_expr.proofs.Prefix.{IsCut, tree_of_all, tree_of_left, left_of_mode, few_left, end_within}
 use Rattle.c_expr.proofs.Runs.{read_is_tree, tree_is_read, one_tree, tree_is_shallow, fails_still, same_answer}
 use Rattle.c_expr.proofs.read.read_run.Goals as goal

@@ -1,8 +1,8 @@
 use Rattle.std.proofs.Common.{rules, ◌≡◌, ◌+◌, ap, sym, arith}
 use Rattle.std.proofs.lemmas.Grind.{common_steps}
-use Rattle.c_expr.specs.Reading.{one, grafting}
+use Rattle.c_expr.specs.reader.Reading.{one, grafting}
 use Rattle.c_items.specs.Table.{Declared}
-use Rattle.c_items.specs.Reading.{level}
+use Rattle.c_items.specs.reader.Reading.{level}
 use Rattle.c_items.proofs.Steps.{level_none}
 use Rattle.c_items.proofs.Pieces.{grafted_there, grafted_nowhere, fails_too, declared_read, declared_unended, declared_fails}
 use Rattle.c_items.proofs.declarations.declared.Goals as goal

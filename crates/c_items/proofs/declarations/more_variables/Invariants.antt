@@ -1,6 +1,6 @@
 use Rattle.std.proofs.Common.{◌≡◌, ◌≤◌, ◌-◌, suc, length}
 use Rattle.c_items.specs.Table.{VarsTail}
-use Rattle.c_items.specs.Reading.{level, along}
+use Rattle.c_items.specs.reader.Reading.{level, along}
 use Rattle.c_items.proofs.Steps.{rest}
 use Rattle.c_items.proofs.declarations.more_variables.Given as goal
 

@@ -1,7 +1,7 @@
 use Rattle.std.proofs.Common.{rules, ◌≡◌, arith}
-use Rattle.c_expr.specs.Reading.{one, grafting}
+use Rattle.c_expr.specs.reader.Reading.{one, grafting}
 use Rattle.c_items.specs.Table.{Function}
-use Rattle.c_items.specs.Reading.{level}
+use Rattle.c_items.specs.reader.Reading.{level}
 use Rattle.c_items.proofs.Steps.{level_none}
 use Rattle.c_items.proofs.Pieces.{grafted_there, grafted_nowhere, fails_too, function_read, function_unnamed, function_fails}
 use Rattle.c_items.proofs.file.function.Goals as goal

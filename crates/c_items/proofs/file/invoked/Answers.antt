@@ -1,8 +1,8 @@
 use Rattle.std.proofs.Common.{rules, ◌≡◌, sym, arith}
 use Rattle.std.proofs.lemmas.Grind.{common_steps}
-use Rattle.c_expr.specs.Reading.{one}
+use Rattle.c_expr.specs.reader.Reading.{one}
 use Rattle.c_items.specs.Table.{Invoked}
-use Rattle.c_items.specs.Reading.{level}
+use Rattle.c_items.specs.reader.Reading.{level}
 use Rattle.c_items.proofs.Pieces.{fails_too, invoked_read, invoked_unclosed, invoked_fails}
 use Rattle.c_items.proofs.file.invoked.Goals as goal
 

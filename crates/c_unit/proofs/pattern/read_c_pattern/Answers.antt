@@ -28,7 +28,7 @@ returns-in-Ok-clause-found c = record {
 }
 
 pub returns-in-Ok-clause-placed : goal.returns-in-Ok-clause-placed
-returns-in-Ok-clause-placed c = pattern_lies c.args.text.now c.in_ok-all.all Pattern c.as_slice-tokens.result.now Expr c.in-Ok.tree c.in_ok-all.ensures.placed (c.as_slice-tokens.ensures ∙ c.in_ok-classed.ensures) (expression c.in-Ok.ensures.found)
+returns-in-Ok-clause-placed c = pattern_lies c.args.text.now c.in_ok-all.all Pattern c.as_slice-tokens.result.now Expr c.in-Ok.tree c.utf8.text c.in_ok-all.ensures.placed (c.as_slice-tokens.ensures ∙ c.in_ok-classed.ensures) (expression c.in-Ok.ensures.found)
 
 pub returns-in-Ok-clause-only : goal.returns-in-Ok-clause-only
 returns-in-Ok-clause-only c = λ s n p.
@@ -47,7 +47,7 @@ returns-in-Ok-read_run-clause-found c = record {
 
 pub returns-in-Ok-read_run-clause-placed : goal.returns-in-Ok-read_run-clause-placed
 unfolding returns-in-Ok-read_run-clause-found
-returns-in-Ok-read_run-clause-placed c = pattern_lies c.args.text.now c.in_ok-all.all Pattern c.as_slice-tokens.result.now Run c.in-Ok-read_run.block c.in_ok-all.ensures.placed (c.as_slice-tokens.ensures ∙ c.in_ok-classed.ensures) (returns-in-Ok-read_run-clause-found c).is_pattern
+returns-in-Ok-read_run-clause-placed c = pattern_lies c.args.text.now c.in_ok-all.all Pattern c.as_slice-tokens.result.now Run c.in-Ok-read_run.block c.utf8.text c.in_ok-all.ensures.placed (c.as_slice-tokens.ensures ∙ c.in_ok-classed.ensures) (returns-in-Ok-read_run-clause-found c).is_pattern
 
 pub returns-in-Ok-read_run-clause-only : goal.returns-in-Ok-read_run-clause-only
 returns-in-Ok-read_run-clause-only c = λ s n p.
@@ -77,7 +77,7 @@ returns-clause-found c = record {
 
 pub returns-clause-placed : goal.returns-clause-placed
 unfolding returns-clause-found
-returns-clause-placed c = pattern_lies c.args.text.now c.in_ok-all.all Pattern c.as_slice-tokens.result.now Run c.in_ok-block.block c.in_ok-all.ensures.placed (c.as_slice-tokens.ensures ∙ c.in_ok-classed.ensures) (returns-clause-found c).is_pattern
+returns-clause-placed c = pattern_lies c.args.text.now c.in_ok-all.all Pattern c.as_slice-tokens.result.now Run c.in_ok-block.block c.utf8.text c.in_ok-all.ensures.placed (c.as_slice-tokens.ensures ∙ c.in_ok-classed.ensures) (returns-clause-found c).is_pattern
 
 pub returns-clause-only : goal.returns-clause-only
 returns-clause-only c = λ s n p.

@@ -3,7 +3,7 @@ use Rattle.node_tree.specs.declared.view.Mode.TheVariants.{Text}
 use Rattle.c_lex.specs.declared.token.CToken.{CToken}
 use Rattle.c_expr.specs.declared.word.Token.{Token}
 use Rattle.c_expr.specs.Words.{token_of}
-use Rattle.c_expr.specs.Reading.{parts}
+use Rattle.c_expr.specs.reader.Reading.{parts}
 use Rattle.c_items.specs.Table.{File}
 use Rattle.c_unit.specs.Units.{IsAll}
 use Rattle.c_unit.proofs.Patterns.{same_classed, fault_still, same_root}

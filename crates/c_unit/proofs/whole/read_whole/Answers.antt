@@ -3,7 +3,7 @@ use Rattle.std.specs.Prelude.{Err}
 use Rattle.c_expr.specs.declared.word.Word.TheVariants.{End}
 use Rattle.c_expr.specs.Words.{class}
 use Rattle.c_expr.specs.Build.{token_at, tallest}
-use Rattle.c_expr.specs.Reading.{parts}
+use Rattle.c_expr.specs.reader.Reading.{parts}
 use Rattle.c_unit.proofs.Wholes.{read_is_all, all_is_read, is_end, same_read, one_reading, not_past, no_end}
 use Rattle.c_unit.proofs.whole.read_whole.Goals as goal
 

@@ -1,5 +1,5 @@
 use Rattle.std.proofs.Common.{◌≡◌, ℕ, ◌≤◌, ◌<◌}
-use Rattle.py_expr.specs.Reading.{round_at}
+use Rattle.py_expr.specs.reader.Reading.{round_at}
 use Rattle.py_expr.proofs.Counting.{open_before}
 use Rattle.py_expr.proofs.limits.shallow_end.Given as goal
 

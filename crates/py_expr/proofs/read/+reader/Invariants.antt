@@ -4,7 +4,7 @@ use Rattle.grammar.specs.Reader.{◌>>=◌}
 use Rattle.py_expr.specs.Parts.{whole, clauses, wholes, node, nodes_of}
 use Rattle.py_expr.specs.Table.{Prim, Cmp, Dotted, Comprehension}
 use Rattle.py_expr.specs.Build.{token_at, end_of, chain_from, operators, undecided}
-use Rattle.py_expr.specs.Reading.{level, level_of, further_of, pairs_of}
+use Rattle.py_expr.specs.reader.Reading.{level, level_of, further_of, pairs_of}
 use Rattle.py_expr.proofs.Steps.{binary_rest, prim_rest, cmp_rest, dotted_rest, comprehension_rest, further_rest, pairs_rest}
 use Rattle.py_expr.proofs.Measures.{of_operand, of_item}
 use Rattle.py_expr.proofs.read.+reader.Given as goal

@@ -1,6 +1,6 @@
 use Rattle.std.proofs.Common.{rules, ◌≤◌, take, arith}
 use Rattle.node_tree.specs.Tree.{depth_of}
-use Rattle.py_expr.specs.Reading.{one}
+use Rattle.py_expr.specs.reader.Reading.{one}
 use Rattle.py_expr.proofs.Prefix.{IsCut, tree_of_all, tree_of_left, left_of_mode, few_left, end_within}
 use Rattle.py_expr.proofs.Runs.{read_is_tree, tree_is_read, one_tree, tree_is_shallow, fails_still, leb_true, same_answer}
 use Rattle.py_expr.proofs.run.read_items.Goals as goal

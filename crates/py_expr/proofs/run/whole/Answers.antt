@@ -1,6 +1,6 @@
 use Rattle.std.proofs.Common.{◌≤◌, arith}
 use Rattle.node_tree.specs.Tree.{depth_of}
-use Rattle.py_expr.specs.Reading.{one}
+use Rattle.py_expr.specs.reader.Reading.{one}
 use Rattle.py_expr.proofs.Runs.{read_is_whole, whole_is_read, one_whole, whole_is_shallow, whole_is_bracketed, nothing_read, leb_true}
 use Rattle.py_expr.proofs.run.whole.Goals as goal
 

@@ -1,25 +1,16 @@
-use Rattle.std.proofs.Common.{◌≡◌, ℕ, ◌-◌, length, ap, sym, subst, arith, length-append, List, [], true}
+use Rattle.std.proofs.Common.{◌≡◌, ◌-◌, length, ap, arith, length-append, List}
 use Rattle.std.specs.Prelude.{Option, None, Err}
 use Rattle.std.specs.Str.{chars}
 use Rattle.std.proofs.lemmas.Result.{err_from_is_err_and}
-use Rattle.lexing.specs.Mark.{past_mark, mark_len}
+use Rattle.lexing.specs.Mark.{mark_len}
 use Rattle.node_tree.specs.declared.fault.LexFault.{LexFault}
 use Rattle.node_tree.specs.declared.fault.LexFault.TheVariants.{Memory, NoTokens}
-use Rattle.node_tree.specs.declared.view.Mode.{Mode}
 use Rattle.py_lex.specs.Layout.{Ends}
-use Rattle.py_lex.specs.Lexing.{py_language, first_line, Gives}
-use Rattle.py_lex.specs.Parts.{Parting}
-use Rattle.py_lex.specs.declared.layout.Line.TheVariants.{Start}
+use Rattle.py_lex.specs.Lexing.{py_language, Gives}
 use Rattle.py_lex.specs.declared.token.PyToken.{PyToken}
-use Rattle.py_lex.proofs.PartedReading.{IsAt, begins, turned, not_found, failed, given, only, unfinished}
+use Rattle.py_lex.proofs.PartedReading.{begins_first, turned, not_found, failed, given, only, unfinished}
 use Rattle.py_lex.proofs.Placing.{placed}
 use Rattle.py_lex.proofs.lex.tokens.Goals as goal
-
-from_first : (P : Parting) (mode : Mode) (cs rest : List ℕ) (all : List PyToken) (at : ℕ) (columns : List ℕ) → mark_len cs ≡ at → columns ≡ [] → IsAt P (py_language mode) (first_line cs) (past_mark cs) all (first_line cs) rest
-    → IsAt P (py_language mode) (first_line cs) (past_mark cs) all (record { at = at; columns = columns; depth = 0; column = 0; line = Start; first = true }) rest
-from_first P mode cs rest all at columns e n h =
-    subst (λ (x : List ℕ). IsAt P (py_language mode) (first_line cs) (past_mark cs) all (record { at = at; columns = x; depth = 0; column = 0; line = Start; first = true }) rest) (sym n)
-    (subst (λ (x : ℕ). IsAt P (py_language mode) (first_line cs) (past_mark cs) all (record { at = x; columns = []; depth = 0; column = 0; line = Start; first = true }) rest) e h)
 
 pub lexemes-init : goal.lexemes-init
 lexemes-init c =
@@ -27,11 +18,11 @@ lexemes-init c =
     let rest = c.without_mark-rest.result.now in
     let read = c.without_mark-rest.ensures in
     let at : mark_len (chars text) ≡ length text - length rest = omega (arith, read.len) in
-    record {
+    rw c.first-layout.ensures (record {
       place = omega (arith, read.len);
       bounded = record { column = omega arith; depth = omega arith };
-      read = from_first _ c.args.mode (chars text) rest c.new-all.result _ _ at c.new.ensures (begins _ (py_language c.args.mode) (first_line (chars text)) (past_mark (chars text)) rest c.new-all.result c.without_mark-rest.utf8 read.chars c.new-all.ensures);
-    }
+      read = begins_first _ (py_language c.args.mode) (chars text) rest c.new-all.result _ c.without_mark-rest.utf8 read.chars c.new-all.ensures at;
+    })
 
 pub returns-in-Err-clause-only : goal.returns-in-Err-clause-only
 returns-in-Err-clause-only c = λ ts is. not_found c.in-Err.fault c.lexemes.invariant.read c.lexemes-test.ensures c.in-Err.ensures ts is

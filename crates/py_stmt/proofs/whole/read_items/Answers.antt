@@ -1,5 +1,5 @@
 use Rattle.std.proofs.Common.{arith, ap, Some}
-use Rattle.py_suite.specs.Reading as reading
+use Rattle.py_suite.specs.reader.Reading as reading
 use Rattle.py_suite.proofs.Forms.{passed_on}
 use Rattle.py_stmt.proofs.Wholes.{read_are, one_whole, not_nothing, are_bracketed}
 use Rattle.py_stmt.proofs.whole.read_items.Goals as goal

@@ -1,6 +1,6 @@
 use Rattle.std.proofs.Common.{arith, sym, ◌∙◌}
 use Rattle.node_tree.specs.declared.kind.Kind.TheVariants as k
-use Rattle.py_suite.specs.Reading as reading
+use Rattle.py_suite.specs.reader.Reading as reading
 use Rattle.py_suite.proofs.Forms.{import_read, stated_some, stated_none, passed_on}
 use Rattle.py_suite.proofs.imports.import.Goals as goal
 

@@ -1,5 +1,5 @@
 use Rattle.std.proofs.Common.{arith, sym}
-use Rattle.py_suite.specs.Reading as reading
+use Rattle.py_suite.specs.reader.Reading as reading
 use Rattle.py_suite.proofs.Forms.{imported_read, imported_lost, passed_on}
 use Rattle.py_suite.proofs.imports.imported.Goals as goal
 

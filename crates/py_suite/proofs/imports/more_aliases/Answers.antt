@@ -4,7 +4,7 @@ use Rattle.py_suite.specs.Table as rows
 use Rattle.py_suite.specs.Table.{Alias, MoreAliasesTail}
 use Rattle.py_suite.proofs.Rounds as by
 use Rattle.py_suite.proofs.Rounds.{parted_more, along_turned}
-use Rattle.py_suite.specs.Reading as reading
+use Rattle.py_suite.specs.reader.Reading as reading
 use Rattle.py_suite.proofs.Forms.{passed_on}
 use Rattle.py_suite.proofs.Rounds.{parted_end, parted_last, parted_lost}
 use Rattle.py_suite.proofs.imports.more_aliases.Goals as goal

@@ -2,7 +2,7 @@ use Rattle.std.proofs.Common.{◌≡◌, suc, length, ◌≤◌, ◌-◌}
 use Rattle.py_expr.specs.Table.{commas}
 use Rattle.py_suite.specs.Table as rows
 use Rattle.py_suite.specs.Table.{MoreAliasesTail, Alias}
-use Rattle.py_suite.specs.Reading as reading
+use Rattle.py_suite.specs.reader.Reading as reading
 use Rattle.py_suite.proofs.Rounds.{rest}
 use Rattle.py_suite.proofs.imports.more_aliases.Given as goal
 

@@ -1,7 +1,7 @@
 use Rattle.std.proofs.Common.{◌≡◌, suc, length, ◌≤◌, ◌-◌}
 use Rattle.py_suite.specs.Table as rows
 use Rattle.py_suite.specs.Table.{DottedTail, looped}
-use Rattle.py_suite.specs.Reading as reading
+use Rattle.py_suite.specs.reader.Reading as reading
 use Rattle.py_suite.proofs.Rounds.{rest}
 use Rattle.py_suite.proofs.imports.pointed.Given as goal
 

@@ -3,7 +3,7 @@ use Rattle.grammar.specs.Rule.{word}
 use Rattle.py_expr.specs.Table.{Operator}
 use Rattle.py_suite.specs.Table as rows
 use Rattle.py_suite.specs.Table.{DotsTail, looped}
-use Rattle.py_suite.specs.Reading as reading
+use Rattle.py_suite.specs.reader.Reading as reading
 use Rattle.py_suite.proofs.Rounds.{rest}
 use Rattle.py_suite.proofs.imports.points.Given as goal
 

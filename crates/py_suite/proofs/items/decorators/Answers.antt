@@ -1,6 +1,6 @@
 use Rattle.std.proofs.Common.{arith, refl, ◌∙◌}
 use Rattle.node_tree.specs.declared.kind.Kind.TheVariants as k
-use Rattle.py_suite.specs.Reading as reading
+use Rattle.py_suite.specs.reader.Reading as reading
 use Rattle.py_suite.proofs.Forms.{decorators_read, collected_some, collected_none, passed_on}
 use Rattle.py_suite.proofs.items.decorators.Goals as goal
 

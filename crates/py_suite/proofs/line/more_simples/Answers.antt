@@ -5,7 +5,7 @@ use Rattle.py_suite.specs.Table as rows
 use Rattle.py_suite.specs.Table.{Simple, LineTail}
 use Rattle.py_suite.proofs.Rounds as by
 use Rattle.py_suite.proofs.Rounds.{parted_more, along_turned, has_one}
-use Rattle.py_suite.specs.Reading as reading
+use Rattle.py_suite.specs.reader.Reading as reading
 use Rattle.py_suite.proofs.Forms.{passed_on}
 use Rattle.py_suite.proofs.Rounds.{parted_end, parted_last, parted_lost}
 use Rattle.py_suite.proofs.line.more_simples.Goals as goal

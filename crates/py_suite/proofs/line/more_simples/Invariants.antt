@@ -3,7 +3,7 @@ use Rattle.py_expr.specs.declared.word.Word.TheVariants as w
 use Rattle.py_expr.specs.Words.{class}
 use Rattle.py_suite.specs.Table as rows
 use Rattle.py_suite.specs.Table.{LineTail, Simple}
-use Rattle.py_suite.specs.Reading as reading
+use Rattle.py_suite.specs.reader.Reading as reading
 use Rattle.py_suite.proofs.Rounds.{rest}
 use Rattle.py_suite.proofs.line.more_simples.Given as goal
 

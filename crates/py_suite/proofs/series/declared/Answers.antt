@@ -1,5 +1,5 @@
 use Rattle.std.proofs.Common.{sym, refl, ◌∙◌, ◌+◌}
-use Rattle.py_suite.specs.Reading as reading
+use Rattle.py_suite.specs.reader.Reading as reading
 use Rattle.py_suite.proofs.Forms.{declared_read, stated_some, stated_none, passed_on}
 use Rattle.py_suite.proofs.series.declared.Goals as goal
 

@@ -1,8 +1,8 @@
 use Rattle.std.proofs.Common.{arith, sym, refl, zero, suc, length, ◌-◌, ◌++◌, ◌∷◌, []}
 use Rattle.py_suite.specs.Table.{looped}
-use Rattle.py_suite.specs.Reading.{row_of, tail_of}
+use Rattle.py_suite.specs.reader.Reading.{row_of, tail_of}
 use Rattle.py_suite.proofs.Rounds.{series_more, along_turned}
-use Rattle.py_suite.specs.Reading as reading
+use Rattle.py_suite.specs.reader.Reading as reading
 use Rattle.py_suite.proofs.Forms.{passed_on}
 use Rattle.py_suite.proofs.Rounds.{series_lost}
 use Rattle.py_suite.proofs.series.further.Goals as goal

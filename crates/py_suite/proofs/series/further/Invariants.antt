@@ -1,6 +1,6 @@
 use Rattle.std.proofs.Common.{◌≡◌, suc, length, ◌≤◌, ◌-◌}
 use Rattle.py_suite.specs.Table.{looped}
-use Rattle.py_suite.specs.Reading as reading
+use Rattle.py_suite.specs.reader.Reading as reading
 use Rattle.py_suite.proofs.Rounds.{rest}
 use Rattle.py_suite.proofs.series.further.Given as goal
 

@@ -2,7 +2,7 @@ use Rattle.std.proofs.Common.{◌≡◌, suc, length, ◌≤◌, ◌-◌, ◌++�
 use Rattle.grammar.specs.Reader.{◌>>=◌}
 use Rattle.py_expr.specs.Parts.{more, nodes_of}
 use Rattle.py_expr.specs.Table.{MoreStrings}
-use Rattle.py_expr.specs.Reading.{level}
+use Rattle.py_expr.specs.reader.Reading.{level}
 use Rattle.py_expr.proofs.Steps.{more_strings_rest}
 use Rattle.py_expr.proofs.read.primaries.more_strings.Given as goal
 

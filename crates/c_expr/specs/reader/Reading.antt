@@ -1,8 +1,8 @@
--- What the functions of the reader read.
-use Rattle.std.specs.Prelude.{◌<◌, ◌≤◌, ℕ, zero, suc, Bool, true, false, cond, List, [], ◌∷◌, length, get_or, Option, Some, None, Vec}
+-- Steps of the reader: what each of its functions reads. No promise of `read_c` cites them; of the public functions only `read_level` and `list` do, over which `c_items` reads.
+use Rattle.std.specs.Prelude.{ℕ, zero, suc, Bool, true, false, cond, List, [], ◌∷◌, length, get_or, Option, Some, None, Vec}
 use Rattle.std.specs.declared.alloc.Global.{Global}
 use Rattle.node_tree.specs.declared.kind.Kind.TheVariants as kinds
-use Rattle.grammar.specs.Rule.{has, brackets_round}
+use Rattle.grammar.specs.Rule.{has}
 use Rattle.grammar.specs.Reader.{read_level, ◌>>=◌}
 use Rattle.c_expr.specs.declared.word.Word.{Word}
 use Rattle.c_expr.specs.declared.word.Word.TheVariants as w
@@ -17,10 +17,10 @@ use Rattle.c_expr.specs.declared.declarators.Naming.{Naming}
 use Rattle.c_expr.specs.declared.declarators.Naming.TheVariants as naming
 use Rattle.c_expr.specs.Words.{class}
 use Rattle.c_expr.specs.Table as t
-use Rattle.c_expr.specs.Table.{Level, table, grammar}
+use Rattle.c_expr.specs.Table.{Level, table}
 use Rattle.c_expr.specs.Settling.{names, opens_declarator}
-use Rattle.c_expr.specs.Build.{token_at, span_between, source, cut_source, leaf, over, cut, graft_cut, gathered}
-use Rattle.c_expr.specs.Sets.{sets, ranks}
+use Rattle.c_expr.specs.Build.{token_at, span_between, list_of, cut_source, leaf, over, cut, graft_cut, gathered}
+use Rattle.c_expr.specs.reader.Sets.{sets, ranks}
 
 -- the reader of a level, by the table
 unfoldable pub level : List Token → ℕ → Level → ℕ → Option (List Part × ℕ)
@@ -37,11 +37,6 @@ one x = (x.0 ∷ [], x.1)
 -- several
 abbrev pub parts : Vec Part Global × ℕ → List Part × ℕ
 parts x = (x.0.items, x.1)
-
--- one or none
-abbrev pub list_of : Option Part → List Part
-list_of None = []
-list_of (Some p) = p ∷ []
 
 abbrev pub maybe : Option Part × ℕ → List Part × ℕ
 maybe x = (list_of x.0, x.1)
@@ -263,11 +258,3 @@ abbrev pub takes_name : Naming → (ℕ → ℕ) → ℕ → Bool
 takes_name naming.Named f i = has names (f i)
 takes_name naming.Nameless f i = false
 takes_name naming.Maybe f i = has names (f i)
-
--- how many brackets the token at a place stands inside, from another place on
-unfoldable pub round_at : List Token → ℕ → ℕ → ℕ
-round_at ts from n = brackets_round grammar.opens grammar.closes (source ts).cls from n
-
--- no token between the places stands inside more than 500 brackets, counted from the first place
-abbrev pub FewBrackets : List Token → ℕ → ℕ → Type 0
-FewBrackets ts from to = (n : ℕ) → from ≤ n → n < to → round_at ts from n ≤ 500

@@ -1,4 +1,4 @@
--- What the reader by the table gives, in the forms of the functions that read.
+-- Steps of the reader: what it gives by the table, in the forms of its functions. No promise of `py_stmt` cites them.
 use Rattle.std.specs.Prelude.{ℕ, suc, length, ◌-◌, Bool, true, false, List, [], ◌∷◌, ◌++◌, Option, Some, None}
 use Rattle.node_tree.specs.declared.node.Node.{Node}
 use Rattle.node_tree.specs.declared.kind.Kind.{Kind}
@@ -19,7 +19,7 @@ use Rattle.py_suite.specs.declared.series.Series.TheVariants as series_of
 use Rattle.py_suite.specs.Table as rows
 use Rattle.py_suite.specs.Table.{Level, Expression, Row, Value, ValuesTail, NamesTail, AliasesTail, WithItemsTail, DecoratorsTail, DottedTail, DotsTail, MoreAliasesTail, LineTail, StmtsTail, HandlersTail, Simple, Alias, Stmt, Handler, Decorator, ElsePart, Statement, Valued, Several, Dotting, table, tok, sign, value, looped}
 use Rattle.py_suite.specs.Build.{source, filled, written, pointed}
-use Rattle.py_suite.specs.Sets.{sets, ranks}
+use Rattle.py_suite.specs.reader.Sets.{sets, ranks}
 
 -- the reader of a level, by the table
 unfoldable pub level : List Item → ℕ → Level → ℕ → Option (List Part × ℕ)

@@ -1,11 +1,11 @@
--- What the functions of the reader read.
+-- Steps of the reader: what each of its functions reads. `items`, `file_items` and `expression` promise them to `c_unit`, whose own promises cite none.
 use Rattle.std.specs.Prelude.{ℕ, suc, ◌-◌, List, ◌∷◌, [], ◌++◌, length, Option, Some, None}
 use Rattle.grammar.specs.Reader.{read, read_level, choice, ◌>>=◌}
 use Rattle.c_expr.specs.declared.word.Token.{Token}
 use Rattle.c_expr.specs.declared.part.Part.{Part}
 use Rattle.c_expr.specs.Build.{cut_source}
 use Rattle.c_items.specs.Table.{Level, Row, table}
-use Rattle.c_items.specs.Sets.{sets, ranks}
+use Rattle.c_items.specs.reader.Sets.{sets, ranks}
 
 -- the reader of a level, by the table
 unfoldable pub level : List Token → ℕ → Level → ℕ → Option (List Part × ℕ)

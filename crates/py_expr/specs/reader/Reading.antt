@@ -1,4 +1,4 @@
--- What the functions of the reader read.
+-- Steps of the reader: what its functions read, in their forms. No promise of `read_py` cites them.
 use Rattle.std.specs.Prelude.{ℕ, suc, ◌+◌, ◌-◌, Bool, true, false, cond, eqb, List, [], ◌∷◌, ◌++◌, length, Option, Some, None}
 use Rattle.node_tree.specs.declared.node.Node.{Node}
 use Rattle.node_tree.specs.declared.kind.Kind.{Kind}
@@ -20,7 +20,7 @@ use Rattle.py_expr.specs.Table.{Level, Or, And, Not, Bor, Xor, Band, Shift, Sum,
 use Rattle.py_expr.specs.declared.word.Word.{Word}
 use Rattle.py_expr.specs.Table as rows
 use Rattle.py_expr.specs.Build.{token_at, end_of, empty_list, undecided, parameter, leaf, source}
-use Rattle.py_expr.specs.Sets.{sets, ranks}
+use Rattle.py_expr.specs.reader.Sets.{sets, ranks}
 
 -- the reader of a level, by the table
 unfoldable pub level : List Item → ℕ → Level → ℕ → Option (List Part × ℕ)
