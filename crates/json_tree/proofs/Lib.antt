@@ -7,3 +7,4 @@ pub mod Whole
 pub mod Places
 pub mod Spans
 pub mod Trees
+pub mod States

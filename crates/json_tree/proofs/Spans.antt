@@ -18,7 +18,7 @@ use Rattle.json_tree.specs.Table.{Level, Value, Array, Values, ValuesTail, Objec
 use Rattle.json_tree.specs.Build.{token_at, end_of, node, source}
 use Rattle.json_tree.specs.Lexing.{ArePlaced}
 use Rattle.json_tree.specs.Words.{kind_of, shown}
-use Rattle.json_tree.specs.Sets.{sets, ranks}
+use Rattle.json_tree.specs.reader.Sets.{sets, ranks}
 use Rattle.json_tree.specs.Spells.{IsValueOf}
 use Rattle.json_tree.proofs.Passes.{pass}
 

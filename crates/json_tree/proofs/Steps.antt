@@ -12,8 +12,8 @@ use Rattle.json_tree.specs.declared.reader.Container.TheVariants as containers
 use Rattle.json_tree.specs.Words.{class}
 use Rattle.json_tree.specs.Table.{Level, Value, Entry, Member, Deep, Row, table, grammar, further, bracketed}
 use Rattle.json_tree.specs.Build.{token_at, end_of, node, source}
-use Rattle.json_tree.specs.Sets.{sets, ranks}
-use Rattle.json_tree.specs.Reading.{level, kind_in, left_of, right_of, whole, inside, part, tail}
+use Rattle.json_tree.specs.reader.Sets.{sets, ranks}
+use Rattle.json_tree.specs.reader.Reading.{level, kind_in, left_of, right_of, whole, inside, part, tail}
 use Rattle.json_tree.proofs.Passes.{pass}
 
 pub level_none : (ts : List Token) (room : ℕ) (l : Level) (i : ℕ) → room ≡ zero → level ts room l i ≡ None

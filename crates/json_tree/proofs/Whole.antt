@@ -10,8 +10,8 @@ use Rattle.grammar.proofs.Theorem.{read_piece, piece_read}
 use Rattle.json_tree.specs.declared.token.Token.{Token}
 use Rattle.json_tree.specs.Table.{Value, grammar}
 use Rattle.json_tree.specs.Build.{node, source, depth_all}
-use Rattle.json_tree.specs.Sets.{sets, ranks}
-use Rattle.json_tree.specs.Reading.{level, one, round_at}
+use Rattle.json_tree.specs.reader.Sets.{sets, ranks}
+use Rattle.json_tree.specs.reader.Reading.{level, one, round_at}
 use Rattle.node_tree.specs.Gives.{Gives}
 use Rattle.json_tree.specs.Spells.{IsValueOf, IsTreeOf}
 use Rattle.json_tree.specs.Lexing.{IsTokensOf}

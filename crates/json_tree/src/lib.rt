@@ -9,7 +9,10 @@ mod lex;
 mod limits;
 mod read;
 mod reader;
+mod state;
 mod table;
 mod token;
 
 pub use read::read_json;
+pub use state::{BEFORE, IN_BLANKS, may_end, next_state};
+pub use token::Word;

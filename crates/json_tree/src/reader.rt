@@ -9,8 +9,8 @@ ghost use Rattle.json_tree.specs.Table.{Value, Member, Deep};
 ghost use Rattle.json_tree.specs.Table as table;
 ghost use Rattle.json_tree.specs.Build.{token_at, end_of};
 ghost use Rattle.json_tree.specs.Build as build;
-ghost use Rattle.json_tree.specs.Sets.{sets};
-ghost use Rattle.json_tree.specs.Reading as reading;
+ghost use Rattle.json_tree.specs.reader.Sets.{sets};
+ghost use Rattle.json_tree.specs.reader.Reading as reading;
 
 use crate::token::{Token, Word, kind_of, shown};
 use node_tree::{Kind, List, Memory, Node, ReadFault, Span, Text};

@@ -1,0 +1,11 @@
+pub mod Means
+pub mod Runs
+pub mod Accepts
+pub mod Taken
+pub mod Builds
+pub mod Standings
+pub mod Labels
+pub mod Scans
+pub mod Fronts
+pub mod Viables
+pub mod Bad
