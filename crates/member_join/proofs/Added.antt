@@ -2,9 +2,9 @@
 use Rattle.std.proofs.Common.{◌≡◌, ◌↔◌, ◌⊎◌, ◌≤◌, inl, inr, List, refl, sym, ◌∙◌, subst, arith}
 use Rattle.std.specs.Prelude.{Result, Ok, Err, OnOk, IfOk}
 use Rattle.node_tree.specs.declared.span.Span.{Span}
-use Rattle.tree_match.specs.Sets.{Among, Adds}
+use Rattle.node_match.specs.Sets.{Among, Adds}
 use Rattle.tree_match.specs.Members.{Member}
-use Rattle.tree_match.proofs.Sets.{adds_as}
+use Rattle.node_match.proofs.Sets.{adds_as}
 use Rattle.member_join.specs.declared.state.State.{State}
 use Rattle.member_join.specs.declared.operand.Operand.{Operand}
 use Rattle.member_join.specs.declared.operand.Role.{Role}

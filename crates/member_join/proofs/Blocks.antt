@@ -15,8 +15,8 @@ use Rattle.meta_bind.specs.declared.bound.Bound.{Bound}
 use Rattle.meta_bind.specs.Bounds.{bound_at}
 use Rattle.meta_bind.proofs.Chains.{lists_chain, node_chains}
 use Rattle.tree_match.specs.Members.{Member}
-use Rattle.tree_match.specs.Sets.{Among}
-use Rattle.tree_match.proofs.Sets.{gathered}
+use Rattle.node_match.specs.Sets.{Among}
+use Rattle.node_match.proofs.Sets.{gathered}
 use Rattle.sorted_sets.specs.Sizes.{Each, Any}
 use Rattle.member_join.specs.Agreements.{AgreesWith}
 use Rattle.sorted_sets.specs.Orders.{total_of}

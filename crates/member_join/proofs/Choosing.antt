@@ -9,7 +9,7 @@ use Rattle.meta_bind.specs.declared.join.Keep.TheVariants.{Later}
 use Rattle.meta_bind.specs.Bounds.{NamesAscend, Agree}
 use Rattle.meta_bind.specs.Merges.{merged}
 use Rattle.meta_bind.proofs.Joins.{ascends_joined}
-use Rattle.tree_match.specs.Sets.{Among}
+use Rattle.node_match.specs.Sets.{Among}
 use Rattle.tree_match.specs.Members.{Member}
 use Rattle.member_join.specs.declared.state.State.{State}
 use Rattle.member_join.specs.declared.operand.Role.{Role}

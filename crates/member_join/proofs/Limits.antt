@@ -1,7 +1,7 @@
 -- Sets with at most, or more than, 10,000 members.
 use Rattle.std.proofs.Common.{◌≡◌, ◌↔◌, inl, inr, ◌<◌, ◌≤◌, List, [], length, reverse, sym, ap, subst}
 use Rattle.std.specs.Prelude.{ℕ, Option, None, Some, Result, Ok, Err, IfErr}
-use Rattle.tree_match.specs.Sets.{Among}
+use Rattle.node_match.specs.Sets.{Among}
 use Rattle.tree_match.specs.Ascending.{IsAscending}
 use Rattle.tree_match.specs.Members.{Member, member_cmp}
 use Rattle.member_join.specs.declared.fault.EvalFault.{EvalFault}

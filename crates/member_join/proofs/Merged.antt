@@ -12,7 +12,7 @@ use Rattle.meta_bind.specs.declared.join.Keep.TheVariants.{Later, First}
 use Rattle.meta_bind.specs.Bounds.{name_cmp, NamesAscend, bound_at, Agree}
 use Rattle.meta_bind.specs.Merges.{is_later, kept, with_kept, joined}
 use Rattle.meta_bind.proofs.Names.{one_name, tail_ascends}
-use Rattle.tree_match.specs.Sets.{Among}
+use Rattle.node_match.specs.Sets.{Among}
 
 same_name : (a b : List ℕ) → name_cmp a b ≡ Equal → a ≡ b
 same_name a b e = (lists_order nat_cmp nat_order).same a b e

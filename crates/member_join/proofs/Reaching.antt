@@ -4,9 +4,9 @@ use Rattle.std.specs.Prelude.{Option, None, Some, max, min, ◌&&◌}
 use Rattle.std.proofs.lemmas.List.{append-nil, take-append-drop, take_more, drop_all}
 use Rattle.node_tree.specs.declared.span.Span.{Span}
 use Rattle.meta_bind.proofs.Lookups.{opened}
-use Rattle.tree_match.specs.Sets.{Among}
+use Rattle.node_match.specs.Sets.{Among}
 use Rattle.tree_match.specs.Members.{Member}
-use Rattle.tree_match.proofs.Ascents.{among_at}
+use Rattle.node_match.proofs.Sets.{among_at}
 use Rattle.member_join.specs.declared.state.State.{State}
 use Rattle.member_join.specs.declared.operand.Operand.{Operand}
 use Rattle.member_join.specs.declared.operand.Role.TheVariants.{Plain, Inside}

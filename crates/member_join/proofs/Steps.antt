@@ -5,7 +5,7 @@ use Rattle.node_tree.specs.declared.span.Span.{Span}
 use Rattle.meta_bind.specs.declared.bound.Bound.{Bound}
 use Rattle.meta_bind.specs.Bounds.{Agree}
 use Rattle.meta_bind.specs.Merges.{merged}
-use Rattle.tree_match.specs.Sets.{Among}
+use Rattle.node_match.specs.Sets.{Among}
 use Rattle.sorted_sets.specs.Sizes.{Each}
 use Rattle.member_join.specs.Ranges.{IsShared}
 use Rattle.member_join.specs.Choices.{AllAgree, merged_with}

@@ -10,7 +10,7 @@ use Rattle.node_tree.specs.Tree.{content_of}
 use Rattle.meta_bind.specs.declared.bound.Bound.{Bound}
 use Rattle.meta_bind.specs.Bounds.{bound_at}
 use Rattle.tree_match.specs.Members.{Member}
-use Rattle.tree_match.specs.Sets.{Among}
+use Rattle.node_match.specs.Sets.{Among}
 use Rattle.sorted_sets.specs.Sizes.{Each, Any}
 use Rattle.member_join.specs.Agreements.{AgreesWith}
 use Rattle.member_join.specs.Joins.{meet, IsJoinedFrom}

@@ -4,7 +4,7 @@ use Rattle.node_tree.specs.declared.span.Span.{Span}
 use Rattle.meta_bind.specs.declared.bound.Bound.{Bound}
 use Rattle.meta_bind.specs.Bounds.{Agree}
 use Rattle.meta_bind.specs.Merges.{merged, extended}
-use Rattle.tree_match.specs.Sets.{Among}
+use Rattle.node_match.specs.Sets.{Among}
 use Rattle.tree_match.specs.Members.{Member}
 use Rattle.member_join.specs.declared.state.State.{State}
 use Rattle.sorted_sets.specs.Sizes.{Each}

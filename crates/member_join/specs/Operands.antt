@@ -2,7 +2,7 @@
 use Rattle.std.specs.Prelude.{◌≡◌, List, [], ◌∷◌, ◌++◌, true}
 use Rattle.meta_bind.specs.Bounds.{NamesAscend}
 use Rattle.meta_bind.specs.Merges.{extended}
-use Rattle.tree_match.specs.Sets.{Among}
+use Rattle.node_match.specs.Sets.{Among}
 use Rattle.tree_match.specs.Members.{Member}
 use Rattle.member_join.specs.declared.state.State.{State}
 use Rattle.member_join.specs.declared.operand.Operand.{Operand}

@@ -1,7 +1,7 @@
 -- Ranges that lie in ranges, and the bytes that ranges share.
 use Rattle.std.specs.Prelude.{◌≡◌, ◌≤◌, ◌<◌, ℕ, List}
 use Rattle.node_tree.specs.declared.span.Span.{Span}
-use Rattle.tree_match.specs.Sets.{Among}
+use Rattle.node_match.specs.Sets.{Among}
 use Rattle.sorted_sets.specs.Sizes.{Each}
 
 -- the first range lies in the second

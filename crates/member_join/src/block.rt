@@ -5,7 +5,7 @@ ghost use Rattle.std.specs.Ordering.{is_lt};
 ghost use Rattle.node_tree.specs.declared.node.Node.{Node as node_value};
 ghost use Rattle.node_tree.specs.Tree.{content_of};
 ghost use Rattle.meta_bind.specs.Bounds.{Agree};
-ghost use Rattle.tree_match.specs.Sets.{Among};
+ghost use Rattle.node_match.specs.Sets.{Among};
 ghost use Rattle.tree_match.specs.Members.{Member as member_value};
 ghost use Rattle.sorted_sets.specs.Sizes.{Each, Any};
 ghost use Rattle.member_join.specs.Agreements.{AgreesWith};

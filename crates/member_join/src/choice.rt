@@ -7,7 +7,7 @@ ghost use Rattle.member_join.specs.Limits.{NamesSet, OneSet, IsFaultFrom};
 ghost use Rattle.member_join.specs.Joins.{IsJoined, IsNeeded};
 ghost use Rattle.member_join.specs.Operands.{OperandsAscend, ChosenFrom, IsReached, IsBegun, IsGivenBy, WithBytes, Fronts};
 ghost use Rattle.sorted_sets.specs.Sizes.{Any};
-ghost use Rattle.tree_match.specs.Sets.{Among, Adds};
+ghost use Rattle.node_match.specs.Sets.{Among, Adds};
 ghost use Rattle.tree_match.specs.Members.{Member as member_value};
 ghost use Rattle.member_join.specs.declared.state.State.{State as state_value};
 

@@ -1,7 +1,7 @@
 //! One operand more to a choice.
 
 ghost use Rattle.std.specs.Prelude.{◌≡◌, ◌↔◌, ◌≤◌, IsTrue, OnOk, IfOk, count_by};
-ghost use Rattle.tree_match.specs.Sets.{Among, Adds};
+ghost use Rattle.node_match.specs.Sets.{Among, Adds};
 ghost use Rattle.tree_match.specs.Ascending.{IsAscending};
 ghost use Rattle.sorted_sets.specs.Sizes.{Each, Any};
 ghost use Rattle.member_join.specs.Agreements.{has_bytes as has};

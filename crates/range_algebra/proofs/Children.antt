@@ -8,7 +8,7 @@ use Rattle.rule_form.specs.declared.formula.Formula.{Formula}
 use Rattle.rule_form.specs.declared.formula.Child.{Child}
 use Rattle.tree_match.specs.declared.leaf.Leaf.{Leaf}
 use Rattle.tree_match.specs.Members.{Member}
-use Rattle.tree_match.specs.Sets.{Among, Adds}
+use Rattle.node_match.specs.Sets.{Among, Adds}
 use Rattle.sorted_sets.proofs.Searches.{any_cons, any_end}
 use Rattle.range_algebra.specs.declared.part.Part.{Part}
 use Rattle.member_join.specs.declared.fault.EvalFault.{EvalFault}

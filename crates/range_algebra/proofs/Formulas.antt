@@ -10,7 +10,7 @@ use Rattle.rule_form.specs.declared.formula.Child.TheVariants as children
 use Rattle.rule_form.specs.declared.formula.Child.TheVariants.{rolls-Positive, rolls-Inside, rolls-Not, rolls-NotInside, rolls-NotRegex, rolls-MetaRegex, rolls-MetaCompare, rolls-MetaPattern, rolls-Focus}
 use Rattle.rule_form.specs.declared.formula.Child.TheOpen as layers
 use Rattle.tree_match.specs.declared.leaf.Leaf.{Leaf}
-use Rattle.tree_match.specs.Sets.{Among}
+use Rattle.node_match.specs.Sets.{Among}
 use Rattle.tree_match.specs.Ascending.{IsAscending}
 use Rattle.tree_match.specs.Members.{Member, member_cmp}
 use Rattle.member_join.specs.declared.fault.EvalFault.{EvalFault}

@@ -9,9 +9,9 @@ use Rattle.rule_form.specs.declared.formula.Child.TheOpen as layers
 use Rattle.rule_form.specs.declared.formula.Child.TheVariants.{rolls-Focus}
 use Rattle.rule_form.specs.declared.formula.Child.TheVariants as children
 use Rattle.tree_match.specs.declared.leaf.Leaf.{Leaf}
-use Rattle.tree_match.specs.Sets.{Among, Adds}
+use Rattle.node_match.specs.Sets.{Among, Adds}
 use Rattle.tree_match.specs.Members.{Member}
-use Rattle.tree_match.proofs.Sets.{pushed, adds_as, adds_none}
+use Rattle.node_match.proofs.Sets.{pushed, adds_as, adds_none}
 use Rattle.member_join.specs.Ranges.{HasBytes}
 use Rattle.range_algebra.specs.Trees.{Branches, no_branches, branches_of, branch_of, names_of, focus, focused, has, is_focus, all_of}
 use Rattle.range_algebra.specs.Meets.{Meets, IsChosen, Allowed, IsShown, IsShownAt, IsShownAmong}

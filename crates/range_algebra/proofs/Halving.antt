@@ -14,10 +14,10 @@ use Rattle.meta_bind.specs.declared.bound.Bound.{Bound}
 use Rattle.meta_bind.specs.Bounds.{binding_cmp}
 use Rattle.meta_bind.proofs.Chains.{Follows, span_chains}
 use Rattle.meta_bind.proofs.Lookups.{opened}
-use Rattle.tree_match.specs.Sets.{Among}
+use Rattle.node_match.specs.Sets.{Among}
 use Rattle.tree_match.specs.Ascending.{IsAscending}
 use Rattle.tree_match.specs.Members.{Member, member_cmp}
-use Rattle.tree_match.proofs.Ascents.{among_at}
+use Rattle.node_match.proofs.Sets.{among_at}
 use Rattle.sorted_sets.specs.Orders.{member_total}
 use Rattle.sorted_sets.specs.Sizes.{Any, Each}
 use Rattle.range_algebra.specs.Conditions.{IsEqualTo, IsAround}

@@ -2,7 +2,7 @@
 use Rattle.std.proofs.Common.{◌≡◌, inl, inr, ℕ, suc, List, [], ◌∷◌, ap}
 use Rattle.std.specs.Prelude.{Option, Some, slice_get}
 use Rattle.tree_match.specs.declared.leaf.Leaf.{Leaf}
-use Rattle.tree_match.specs.Sets.{Among}
+use Rattle.node_match.specs.Sets.{Among}
 use Rattle.tree_match.specs.Members.{Member}
 use Rattle.range_algebra.specs.Meets.{InLeaf}
 use Rattle.member_join.specs.Operands.{Ascends}

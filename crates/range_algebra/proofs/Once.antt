@@ -3,7 +3,7 @@ use Rattle.std.proofs.Common.{◌≡◌, ◌⊎◌, inl, inr, ℕ, suc, ◌≤�
 use Rattle.std.specs.Prelude.{Option, None, Some, MatchBool, slice_get}
 use Rattle.tree_match.specs.declared.leaf.Leaf.{Leaf}
 use Rattle.tree_match.specs.declared.leaf.Leaf.TheVariants.{Full, Crowded}
-use Rattle.tree_match.specs.Sets.{Among}
+use Rattle.node_match.specs.Sets.{Among}
 use Rattle.member_join.specs.declared.operand.Role.{Role}
 use Rattle.member_join.specs.declared.operand.Role.TheVariants.{Plain, Inside}
 use Rattle.sorted_sets.specs.Sizes.{IsDistinct, HasAtMost, HasMoreThan}

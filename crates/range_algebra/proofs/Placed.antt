@@ -14,7 +14,7 @@ use Rattle.meta_bind.specs.Places.{EndsLieIn}
 use Rattle.meta_bind.proofs.Fillings.{found_has}
 use Rattle.tree_match.specs.declared.leaf.Leaf.{Leaf}
 use Rattle.tree_match.specs.declared.leaf.Leaf.TheVariants.{Full, Crowded}
-use Rattle.tree_match.specs.Sets.{Among}
+use Rattle.node_match.specs.Sets.{Among}
 use Rattle.tree_match.specs.Members.{Member}
 use Rattle.tree_match.specs.Placed.{IsPlaced, IsLeafPlaced}
 use Rattle.tree_match.proofs.Placed.{all_among, among_all}

@@ -3,7 +3,7 @@ use Rattle.std.proofs.Common.{◌≡◌, ◌↔◌, inl, inr, ℕ, suc, ◌+◌,
 use Rattle.std.specs.Prelude.{Option, None, Some, MatchBool, Vec, ◌||◌}
 use Rattle.std.specs.declared.alloc.Global.{Global}
 use Rattle.tree_match.specs.declared.leaf.Leaf.{Leaf}
-use Rattle.tree_match.specs.Sets.{Among}
+use Rattle.node_match.specs.Sets.{Among}
 use Rattle.tree_match.specs.Members.{Member}
 use Rattle.member_join.specs.declared.state.State.{State}
 use Rattle.member_join.specs.declared.operand.Operand.{Operand}

@@ -14,7 +14,7 @@ use Rattle.meta_filter.specs.BoundTexts.{holds_regex}
 use Rattle.rx_text.specs.Searches.{all_matches, FollowFrom}
 use Rattle.rx_text.proofs.Matches.{all_follow}
 use Rattle.tree_match.specs.declared.leaf.Leaf.{Leaf}
-use Rattle.tree_match.specs.Sets.{Among}
+use Rattle.node_match.specs.Sets.{Among}
 use Rattle.tree_match.specs.Ascending.{IsAscending}
 use Rattle.tree_match.specs.Members.{Member, member_cmp}
 use Rattle.member_join.specs.Choices.{range_of}

@@ -2,7 +2,7 @@
 use Rattle.std.specs.Prelude.{◌≡◌, ◌⊎◌, ℕ, zero, suc, List, [], ◌∷◌, Option, None, Some, Bool, MatchBool, slice_get}
 use Rattle.tree_match.specs.declared.leaf.Leaf.{Leaf}
 use Rattle.tree_match.specs.declared.leaf.Leaf.TheVariants.{Full, Crowded}
-use Rattle.tree_match.specs.Sets.{Among}
+use Rattle.node_match.specs.Sets.{Among}
 use Rattle.member_join.specs.declared.operand.Role.{Role}
 use Rattle.member_join.specs.declared.operand.Role.TheVariants.{Plain, Inside}
 use Rattle.member_join.specs.declared.fault.EvalFault.{EvalFault}

@@ -6,7 +6,7 @@ use Rattle.meta_bind.specs.Bounds.{Agree, bound_at}
 use Rattle.meta_filter.specs.Values.{holds}
 use Rattle.tree_match.specs.declared.leaf.Leaf.{Leaf}
 use Rattle.tree_match.specs.declared.leaf.Leaf.TheVariants.{Full, Crowded}
-use Rattle.tree_match.specs.Sets.{Among}
+use Rattle.node_match.specs.Sets.{Among}
 use Rattle.tree_match.specs.Members.{Member}
 use Rattle.member_join.specs.declared.operand.Role.{Role}
 use Rattle.member_join.specs.declared.operand.Role.TheVariants.{Plain, Inside}

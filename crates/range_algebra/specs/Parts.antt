@@ -2,7 +2,7 @@
 use Rattle.std.specs.Prelude.{◌≡◌, ℕ, List, [], ◌∷◌, Vec, Bool, false, None, ◌||◌}
 use Rattle.std.specs.declared.alloc.Global.{Global}
 use Rattle.tree_match.specs.declared.leaf.Leaf.{Leaf}
-use Rattle.tree_match.specs.Sets.{Among}
+use Rattle.node_match.specs.Sets.{Among}
 use Rattle.tree_match.specs.Members.{Member}
 use Rattle.tree_match.specs.Leaf.{IsWhole}
 use Rattle.range_algebra.specs.declared.part.Part.{Part}

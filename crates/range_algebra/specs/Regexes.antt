@@ -4,7 +4,7 @@ use Rattle.node_tree.specs.declared.span.Span.{Span}
 use Rattle.meta_bind.specs.declared.bound.Bound.{Bound}
 use Rattle.meta_filter.specs.BoundTexts.{holds_regex}
 use Rattle.rx_text.specs.Searches.{all_matches}
-use Rattle.tree_match.specs.Sets.{Among}
+use Rattle.node_match.specs.Sets.{Among}
 use Rattle.tree_match.specs.Members.{Member}
 
 -- the range with nothing bound

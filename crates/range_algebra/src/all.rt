@@ -3,7 +3,7 @@
 ghost use Rattle.std.specs.Prelude.{◌≡◌, ◌↔◌, [], All, map, None, IsTrue, IfOk, IfErr, OnOk};
 ghost use Rattle.tree_match.specs.Members.{Member as member_value};
 ghost use Rattle.tree_match.specs.Placed.{IsLeafPlaced};
-ghost use Rattle.tree_match.specs.Sets.{Among, Adds};
+ghost use Rattle.node_match.specs.Sets.{Among, Adds};
 ghost use Rattle.range_algebra.specs.Trees.{all_of, branch_of, branches_of, names_of};
 ghost use Rattle.range_algebra.specs.Meets.{Allowed, IsShown, IsShownAt, IsShownAmong};
 ghost use Rattle.range_algebra.specs.Parts.{AreParts, IsSetOf};

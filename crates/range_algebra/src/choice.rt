@@ -8,7 +8,7 @@ ghost use Rattle.member_join.specs.Operands.{Ascends};
 ghost use Rattle.range_algebra.specs.Operands.{LeavesAscend};
 ghost use Rattle.range_algebra.specs.Parts.{AreParts};
 ghost use Rattle.range_algebra.specs.Trees.{branch_of, branches_of};
-ghost use Rattle.tree_match.specs.Sets.{Among};
+ghost use Rattle.node_match.specs.Sets.{Among};
 ghost use Rattle.tree_match.specs.Members.{Member as member_value};
 
 use crate::operand::operands;

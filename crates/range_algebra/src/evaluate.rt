@@ -2,7 +2,7 @@
 
 ghost use Rattle.std.specs.Prelude.{◌≡◌, ◌↔◌, ◌≤◌, ◌<◌, ℕ, All, List, [], length, map, None, Ok, OnOk, IfOk, IfErr};
 ghost use Rattle.tree_match.specs.Placed.{IsLeafPlaced};
-ghost use Rattle.tree_match.specs.Sets.{Among, Adds};
+ghost use Rattle.node_match.specs.Sets.{Among, Adds};
 ghost use Rattle.tree_match.specs.Ascending.{IsAscending};
 ghost use Rattle.tree_match.specs.Members.{Member as member_value, member_cmp};
 ghost use Rattle.range_algebra.specs.Trees.{tree_of, trees_of, branch_of, branches_of, meta_pattern};

@@ -1,7 +1,7 @@
 //! The members of a pattern.
 
 ghost use Rattle.std.specs.Prelude.{◌≤◌, ◌↔◌, [], length, None, IfOk, IfErr};
-ghost use Rattle.tree_match.specs.Sets.{Among};
+ghost use Rattle.node_match.specs.Sets.{Among};
 ghost use Rattle.tree_match.specs.Ascending.{IsAscending};
 ghost use Rattle.tree_match.specs.Members.{Member as member_value, member_cmp};
 ghost use Rattle.range_algebra.specs.Trees.{leaf};

@@ -1,6 +1,6 @@
 -- Lists with one item more at the end.
 use Rattle.std.proofs.Common.{◌≡◌, ◌⊎◌, inl, inr, List, [], ◌∷◌, ◌++◌, refl, subst}
-use Rattle.tree_match.specs.Sets.{Among}
+use Rattle.node_match.specs.Sets.{Among}
 use Rattle.sorted_sets.specs.Sizes.{Each}
 
 pub among_front : {X : Type 0} (xs : List X) (y x : X) → Among xs x → Among (xs ++ y ∷ []) x

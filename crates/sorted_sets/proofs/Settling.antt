@@ -10,9 +10,9 @@ use Rattle.std.specs.Ordering.{is_lt, ordering_reverse}
 use Rattle.std.proofs.lemmas.List.Sorted.{sorted_far, ranks_by, IsStrictWeakOrder-flip, Contains-permutation, IsPermutation-sym}
 use Rattle.std.proofs.lemmas.Cmp.{tied_itself}
 use Rattle.meta_bind.proofs.Lookups.{opened}
-use Rattle.tree_match.specs.Sets.{Among}
+use Rattle.node_match.specs.Sets.{Among}
 use Rattle.tree_match.specs.Ascending.{IsAscending}
-use Rattle.tree_match.proofs.Ascents.{among_at}
+use Rattle.node_match.proofs.Sets.{among_at}
 use Rattle.sorted_sets.specs.Sizes.{Each}
 use Rattle.sorted_sets.specs.Ends.{EndsWith, IsEndedBy}
 use Rattle.sorted_sets.proofs.Lasts.{among_front, among_end, among_snoc}

@@ -1,6 +1,6 @@
 -- How many members a set has.
 use Rattle.std.specs.Prelude.{◌≤◌, ◌<◌, ℕ, List, [], ◌∷◌, length}
-use Rattle.tree_match.specs.Sets.{Among}
+use Rattle.node_match.specs.Sets.{Among}
 
 -- what holds of each of the items
 abbrev pub Each : {X : Type 0} → (X → Type 0) → List X → Type 0

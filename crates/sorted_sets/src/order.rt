@@ -1,7 +1,7 @@
 //! Items in order, each once.
 
 ghost use Rattle.std.specs.Prelude.{◌≡◌, ◌↔◌, IsTrue, IfOk, OnOk};
-ghost use Rattle.tree_match.specs.Sets.{Among};
+ghost use Rattle.node_match.specs.Sets.{Among};
 ghost use Rattle.sorted_sets.specs.Ends.{EndsWith, IsEndedBy};
 ghost use Rattle.tree_match.specs.Ascending.{IsAscending};
 

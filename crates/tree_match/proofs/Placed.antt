@@ -12,7 +12,7 @@ use Rattle.node_tree.specs.declared.view.Pattern.{Pattern}
 use Rattle.node_tree.specs.declared.view.Shape.{Shape}
 use Rattle.node_tree.specs.declared.view.Shape.TheVariants as shapes
 use Rattle.node_tree.specs.Tree.{kind_of, text_of, kids_of, span_of, pre_of}
-use Rattle.node_tree.specs.Blocks.{is_block, blocks_of}
+use Rattle.node_tree.specs.Blocks.{is_block}
 use Rattle.node_tree.specs.Span.{LiesIn}
 use Rattle.node_tree.specs.Spans.{SpansLieIn}
 use Rattle.node_tree.proofs.Trees.{pre_is}
@@ -21,10 +21,15 @@ use Rattle.meta_bind.specs.Bounds.{name_cmp, with_bound}
 use Rattle.meta_bind.specs.Places.{EndsLieIn}
 use Rattle.tree_match.specs.declared.leaf.Leaf.{Leaf}
 use Rattle.tree_match.specs.declared.leaf.Leaf.TheVariants.{Full, Crowded}
-use Rattle.tree_match.specs.Sets.{Among}
-use Rattle.tree_match.specs.Free.{Part, parts_of}
-use Rattle.tree_match.specs.Relation.{end_of, run_span, bound_by, Binds, fresh, again, Matches, same_node, wildcard, metavariable, some_string, deep, MatchesKids, in_order, MatchesList, both_empty, head_and_rest, free_and_rest, dots, named_dots}
-use Rattle.tree_match.specs.Members.{Member, MemberAt, MemberRun, MemberOf, IsMember, kids_between}
+use Rattle.node_match.specs.Sets.{Among}
+use Rattle.node_match.specs.Free.{Part, parts_of}
+use Rattle.node_match.specs.Relation.{end_of, run_span, bound_by, Binds, fresh, again, Matches, same_node, known_literal, known_string, wildcard, metavariable, some_string, deep, nodes_of, MatchesKids, in_order, MatchesList, both_empty, head_and_rest, free_and_rest, dots, named_dots}
+use Rattle.node_tree.specs.Numbers.{root_of}
+use Rattle.tree_match.specs.Members.{Member, MemberAt, MemberRun, MemberOf, IsMember, KnownTree, kids_between, range_of, blocks_at, known_to}
+use Rattle.node_tree.specs.declared.known.Known.{Known}
+use Rattle.node_tree.specs.Numbers.{Numbered, kids_at, pre_at}
+use Rattle.node_match.proofs.Numbering.{kids_nodes}
+use Rattle.tree_match.proofs.Pres.{pre_nodes}
 use Rattle.tree_match.specs.Leaf.{IsLeaf}
 use Rattle.tree_match.specs.Placed.{IsPlaced, IsLeafPlaced}
 
@@ -76,7 +81,7 @@ module _ (text : List ℕ) where
       let both = subst P (flat_map-cons pre_of n ns) all in
       All-cons Lies n ns (all_front SpanLies (pre_of n) (flat_map pre_of ns) both) (trees_lie ns (all_rest SpanLies (pre_of n) (flat_map pre_of ns) both))
 
-  kids_lie : (n : Node) → Lies n → All Lies (kids_of n)
+  pub kids_lie : (n : Node) → Lies n → All Lies (kids_of n)
   kids_lie n lies = trees_lie (kids_of n) (All-tail SpanLies n (flat_map pre_of (kids_of n)) (opened n lies))
 
   -- so it is with each node below
@@ -132,54 +137,79 @@ module _ (text : List ℕ) where
   binds_lies h name run b _ lies all (fresh none) = one_more (bound_by h name run) b lies all
   binds_lies h name run b _ lies all (again old is same) = all
 
+  -- ---- nodes with numbers
+
+  abbrev LiesAt : Numbered → Type 0
+  LiesAt s = Lies s.node
+
+  lift : (ss : List Numbered) → All Lies (nodes_of ss) → All LiesAt ss
+  lift [] all = All-nil LiesAt
+  lift (s ∷ ss) all = All-cons LiesAt s ss (All-head Lies s.node (nodes_of ss) all) (lift ss (All-tail Lies s.node (nodes_of ss) all))
+
+  lower : (ss : List Numbered) → All LiesAt ss → All Lies (nodes_of ss)
+  lower [] all = All-nil Lies
+  lower (s ∷ ss) all = All-cons Lies s.node (nodes_of ss) (All-head LiesAt s ss all) (lower ss (All-tail LiesAt s ss all))
+
+  kids_lie_at : (s : Numbered) → Lies s.node → All LiesAt (kids_at s)
+  kids_lie_at s lies = let P : List Node → Type 0 = All Lies in lift (kids_at s) (subst P (sym (kids_nodes s)) (kids_lie s.node lies))
+
+  pre_lie_at : (s : Numbered) → Lies s.node → All LiesAt (pre_at s)
+  pre_lie_at s lies = let P : List Node → Type 0 = All Lies in lift (pre_at s) (subst P (sym (pre_nodes s)) (nodes_lie s.node lies))
+
   -- ---- matches
 
   mutual
-    one_bound : (p n : Node) (b c : List Bound) → Matches p n b c → Lies n → AreBound b → AreBound c
-    one_bound p n b c (same_node r k t x) lies all = kids_bound n (parts_of p) (kids_of n) b c x lies (kids_lie n lies) all
-    one_bound p n b _ (wildcard r w t) lies all = all
-    one_bound p n b c (metavariable r w t x) lies all = binds_lies n (text_of p) (n ∷ []) b c (kids_run_lies n (n ∷ []) lies (All-cons Lies n [] lies (All-nil Lies))) all x
-    one_bound p n b _ (some_string r s) lies all = all
-    one_bound p n b c (deep q m r k e among x) lies all = one_bound q m b c x (all_among Lies (pre_of n) m (nodes_lie n lies) among) all
+    one_bound : (C : List Known) (p : Node) (n : Numbered) (b c : List Bound) → Matches C p n b c → Lies n.node → AreBound b → AreBound c
+    one_bound C p n b c (same_node r k t x) lies all = kids_bound C n (parts_of p) (kids_at n) b c x lies (kids_lie_at n lies) all
+    one_bound C p n b _ (known_literal l r is h e) lies all = all
+    one_bound C p n b _ (wildcard r w t) lies all = all
+    one_bound C p n b c (metavariable r w t x) lies all =
+        binds_lies n.node (text_of p) (n.node ∷ []) b c (kids_run_lies n.node (n.node ∷ []) lies (All-cons Lies n.node [] lies (All-nil Lies))) all x
+    one_bound C p n b _ (some_string r s) lies all = all
+    one_bound C p n b _ (known_string l r h k) lies all = all
+    one_bound C p n b c (deep q m r k e among x) lies all = one_bound C q m b c x (all_among LiesAt (pre_at n) m (pre_lie_at n lies) among) all
 
-    kids_bound : (h : Node) (ps : List Part) (ns : List Node) (b c : List Bound) → MatchesKids h ps ns b c → Lies h → All Lies ns → AreBound b → AreBound c
-    kids_bound h ps ns b c (in_order x) lies kids all = list_bound h ps ns b c x lies kids all
+    kids_bound : (C : List Known) (h : Numbered) (ps : List Part) (ns : List Numbered) (b c : List Bound) → MatchesKids C h ps ns b c → Lies h.node → All LiesAt ns → AreBound b → AreBound c
+    kids_bound C h ps ns b c (in_order x) lies kids all = list_bound C h ps ns b c x lies kids all
 
-    list_bound : (h : Node) (ps : List Part) (ns : List Node) (b c : List Bound) → MatchesList h ps ns b c → Lies h → All Lies ns → AreBound b → AreBound c
-    list_bound h _ _ b _ both_empty lies kids all = all
-    list_bound h (Some p ∷ ps) (n ∷ ns) b c (head_and_rest {c = d} x y) lies kids all = list_bound h ps ns d c y lies (All-tail Lies n ns kids) (one_bound p n b d x (All-head Lies n ns kids) all)
-    list_bound h (None ∷ ps) (n ∷ ns) b c (free_and_rest y) lies kids all = list_bound h ps ns b c y lies (All-tail Lies n ns kids) all
-    list_bound h (Some p ∷ ps) ns b c (dots k r y) lies kids all = list_bound h ps (drop k ns) b c y lies (All-drop Lies k ns kids) all
-    list_bound h (Some p ∷ ps) ns b c (named_dots {c = d} k r x y) lies kids all =
-        list_bound h ps (drop k ns) d c y lies (All-drop Lies k ns kids) (binds_lies h (text_of p) (take k ns) b d (kids_run_lies h (take k ns) lies (All-take Lies k ns kids)) all x)
+    list_bound : (C : List Known) (h : Numbered) (ps : List Part) (ns : List Numbered) (b c : List Bound) → MatchesList C h ps ns b c → Lies h.node → All LiesAt ns → AreBound b → AreBound c
+    list_bound C h _ _ b _ both_empty lies kids all = all
+    list_bound C h (Some p ∷ ps) (n ∷ ns) b c (head_and_rest {c = d} x y) lies kids all =
+        list_bound C h ps ns d c y lies (All-tail LiesAt n ns kids) (one_bound C p n b d x (All-head LiesAt n ns kids) all)
+    list_bound C h (None ∷ ps) (n ∷ ns) b c (free_and_rest y) lies kids all = list_bound C h ps ns b c y lies (All-tail LiesAt n ns kids) all
+    list_bound C h (Some p ∷ ps) ns b c (dots k r y) lies kids all = list_bound C h ps (drop k ns) b c y lies (All-drop LiesAt k ns kids) all
+    list_bound C h (Some p ∷ ps) ns b c (named_dots {c = d} k r x y) lies kids all =
+        list_bound C h ps (drop k ns) d c y lies (All-drop LiesAt k ns kids)
+        (binds_lies h.node (text_of p) (nodes_of (take k ns)) b d (kids_run_lies h.node (nodes_of (take k ns)) lies (lower (take k ns) (All-take LiesAt k ns kids))) all x)
 
   -- ---- members
 
   at_range : (s t : Span) → s ≡ t → EndsLieIn text t → EndsLieIn text s
   at_range s t e lies = let P : Span → Type 0 = EndsLieIn text in subst P (sym e) lies
 
-  node_member : (p n : Node) (m : Member) → Lies n → MemberAt p n m → IsPlaced text m
-  node_member p n m lies (may, is, x) = (at_range m.0 (span_of n) is (ends_lie n lies), one_bound p n [] m.1 x lies (All-nil BoundLies))
+  node_member : (C : List Known) (p : Node) (n : Numbered) (m : Member) → Lies n.node → MemberAt C p n m → IsPlaced text m
+  node_member C p n m lies (may, is, x) = (at_range m.0 (span_of n.node) is (ends_lie n.node lies), one_bound C p n [] m.1 x lies (All-nil BoundLies))
 
-  run_member : (p h : Node) (m : Member) → Lies h → MemberRun p h m → IsPlaced text m
-  run_member p h m lies r =
-      let kids = All-take Lies (r.end - r.from) (drop r.from (kids_of h)) (All-drop Lies r.from (kids_of h) (kids_lie h lies)) in (
-        at_range m.0 (run_span h (kids_between h r.from r.end)) r.range (kids_run_lies h (kids_between h r.from r.end) lies kids),
-        list_bound h (parts_of p) (kids_between h r.from r.end) [] m.1 r.matches lies kids (All-nil BoundLies),
+  run_member : (C : List Known) (p : Node) (h : Numbered) (m : Member) → Lies h.node → MemberRun C p h m → IsPlaced text m
+  run_member C p h m lies r =
+      let ns = kids_between h r.from r.end in
+      let kids = All-take LiesAt (r.end - r.from) (drop r.from (kids_at h)) (All-drop LiesAt r.from (kids_at h) (kids_lie_at h lies)) in (
+        at_range m.0 (range_of h ns) r.range (kids_run_lies h.node (nodes_of ns) lies (lower ns kids)),
+        list_bound C h (parts_of p) ns [] m.1 r.matches lies kids (All-nil BoundLies),
       )
 
-  member_of : (s : Shape) (p tree : Node) (m : Member) → Lies tree → MemberOf s p tree m → IsPlaced text m
-  member_of shapes.Expr p tree m lies (n, among, x) = node_member p n m (all_among Lies (pre_of tree) n (nodes_lie tree lies) among) x
-  member_of shapes.Run p tree m lies (h, among, x) =
-      run_member p h m (all_among Lies (blocks_of tree) h (All-filter (λ (n : Node). is_block (kind_of n)) Lies (pre_of tree) (nodes_lie tree lies)) among) x
+  member_of : (C : List Known) (s : Shape) (p tree : Node) (m : Member) → Lies tree → MemberOf C s p tree m → IsPlaced text m
+  member_of C shapes.Expr p tree m lies (n, among, x) = node_member C p n m (all_among LiesAt (pre_at (root_of tree)) n (pre_lie_at (root_of tree) lies) among) x
+  member_of C shapes.Run p tree m lies (h, among, x) =
+      run_member C p h m (all_among LiesAt (blocks_at (root_of tree)) h (All-filter (λ (n : Numbered). is_block (kind_of n.node)) LiesAt (pre_at (root_of tree)) (pre_lie_at (root_of tree) lies)) among) x
 
-  pub member_placed : (pattern : Pattern) (tree : Node) (m : Member) → SpansLieIn text tree → IsMember pattern tree m → IsPlaced text m
-  member_placed pattern tree m lies x = member_of pattern.shape pattern.tree tree m lies x
+  pub member_placed : (pattern : Pattern) (file : KnownTree) (m : Member) → SpansLieIn text file.tree → IsMember pattern file m → IsPlaced text m
+  member_placed pattern file m lies x = member_of (known_to pattern file.known) pattern.shape pattern.tree file.tree m lies x
 
-  leaf_placed : (pattern : Pattern) (tree : Node) (leaf : Leaf) → SpansLieIn text tree → IsLeaf (IsMember pattern tree) leaf → IsLeafPlaced text leaf
-  leaf_placed pattern tree (Full members) lies whole = among_all (IsPlaced text) members (λ m h. member_placed pattern tree m lies ((whole.0.exact m).0 h))
-  leaf_placed pattern tree Crowded lies more = tt
+  leaf_placed : (pattern : Pattern) (file : KnownTree) (leaf : Leaf) → SpansLieIn text file.tree → IsLeaf (IsMember pattern file) leaf → IsLeafPlaced text leaf
+  leaf_placed pattern file (Full members) lies whole = among_all (IsPlaced text) members (λ m h. member_placed pattern file m lies ((whole.0.exact m).0 h))
+  leaf_placed pattern file Crowded lies more = tt
 
-  pub leaves_placed : {E : Type 0} (pattern : Pattern) (tree : Node) (r : Result Leaf E) → SpansLieIn text tree → IfOk r (λ leaf. IsLeaf (IsMember pattern tree) leaf) → IfOk r (λ leaf. IsLeafPlaced text leaf)
-  leaves_placed pattern tree (Ok leaf) lies exact = leaf_placed pattern tree leaf lies exact
-  leaves_placed pattern tree (Err e) lies exact = tt
+  pub leaves_placed : {E : Type 0} (pattern : Pattern) (file : KnownTree) (r : Result Leaf E) → SpansLieIn text file.tree → IfOk r (λ leaf. IsLeaf (IsMember pattern file) leaf) → IfOk r (λ leaf. IsLeafPlaced text leaf)
+  leaves_placed pattern file (Ok leaf) lies exact = leaf_placed pattern file leaf lies exact
+  leaves_placed pattern file (Err e) lies exact = tt

@@ -1,16 +1,22 @@
 //! The set of members of a pattern in a file.
 
-ghost use Rattle.std.specs.Prelude.{◌≡◌, [], length, slice_get, IfOk};
+ghost use Rattle.std.specs.Prelude.{◌≡◌, [], ◌∷◌, length, slice_get, slice_index, slice_index_or, ◌<◌, IsTrue, IfOk, OnOk};
 ghost use Rattle.std.specs.Option.{option_copied};
-ghost use Rattle.node_tree.specs.Tree.{pre_of};
-ghost use Rattle.node_tree.specs.Blocks.{blocks_of};
-ghost use Rattle.tree_match.specs.Members.{MemberAt, MemberRun, MemberIn, MemberOf};
+ghost use Rattle.node_tree.specs.Blocks.{is_block};
+ghost use Rattle.node_tree.specs.Numbers.{Numbered, count_of, pre_at};
+ghost use Rattle.tree_match.specs.Starts.{kinds_at, IsElsewhere};
+ghost use Rattle.node_pool.specs.Spots.{seen};
+ghost use Rattle.node_match.specs.Sets.{AddsUpTo};
+ghost use Rattle.tree_match.specs.Ascending.{IsAscending};
+ghost use Rattle.tree_match.specs.Members.{MemberAt, MemberRun, MemberIn, MemberUnder, blocks_at, those_blocks, member_cmp};
 ghost use Rattle.tree_match.specs.Leaf.{IsFound};
 
 use crate::expression::add_node;
 use crate::run::add_block;
 use meta_bind::{Binding, Trail};
-use node_tree::{List, Memory, Node, Shape, Span, Twin};
+use node_match::{Role, role_of};
+use node_pool::Spot;
+use node_tree::{Kind, Known, List, Memory, Node, Shape, Span, Twin};
 use std::alloc::Global;
 use std::marker::Model;
 
@@ -36,7 +42,12 @@ impl Model for LeafSet {
 
     ghost coded = { coded_list (coded× spans.the_row.coded bindings.the_row.coded) };
 
+    ghost use Rattle.tree_match.specs.Ascending.{IsAscending};
+    ghost use Rattle.tree_match.specs.Members.{member_cmp};
+
     ghost view = { λ s. s.members };
+
+    ghost invariant = { λ s. IsAscending member_cmp s.members };
 }
 
 impl LeafSet {
@@ -90,50 +101,105 @@ impl Twin for Leaf {
     }
 }
 
-/// The members with borrowed bindings, or none where there are more than 10,000.
+/// The members with borrowed bindings, or none where there are more than 10,000. The kinds are those of the nodes.
 pub fn members_of<'t>(
     alloc: Global,
+    known: &[Known],
     shape: Shape,
     pattern: &'t Node,
-    tree: &'t Node,
+    root: Spot<'_, 't>,
+    kinds: &[u8],
 ) -> Result<Option<List<(Span, Trail<'t>)>>, Memory>
-    ensures { IfOk result (λ found. IsFound (MemberOf shape pattern.now tree.now) found) }
+    requires { kinds.now ≡ kinds_at (seen root) }
+    ensures { IfOk result (λ found. IsFound (MemberUnder known.now shape pattern.now (seen root.entry)) found) }
 {
     match shape {
-        Shape::Expr => members_at_nodes(alloc, pattern, tree),
-        Shape::Run => members_in_blocks(alloc, pattern, tree),
+        Shape::Expr => members_of_kinds(alloc, known, pattern, root, kinds),
+        Shape::Run => members_in_blocks(alloc, known, pattern, root),
     }
 }
 
 // The same for an expression's pattern.
-fn members_at_nodes<'t>(
+fn members_of_kinds<'t>(
     alloc: Global,
+    known: &[Known],
     pattern: &'t Node,
-    tree: &'t Node,
+    root: Spot<'_, 't>,
+    kinds: &[u8],
 ) -> Result<Option<List<(Span, Trail<'t>)>>, Memory>
-    ensures { IfOk result (λ found. IsFound (MemberIn (MemberAt pattern.now) (pre_of tree.now)) found) }
+    requires { kinds.now ≡ kinds_at (seen root) }
+    ensures { IfOk result (λ found. IsFound (MemberIn (MemberAt known.now pattern.now) (pre_at (seen root.entry))) found) }
 {
     let mut members = List::new(alloc);
-    for node in tree.walk()? {
-        add_node(alloc, pattern, node, &mut members, MOST)?;
+    for further in 0..root.size() {
+        let kind = kinds[further as usize];
+        add_begun_at(alloc, known, pattern, root, further, kind, &mut members)?;
         if members.len() > MOST {
             return Ok(None);
         }
     }
     Ok(Some(members))
+}
+
+// Adds the members at the node so far on, which has that kind.
+fn add_begun_at<'t>(
+    alloc: Global,
+    known: &[Known],
+    pattern: &'t Node,
+    root: Spot<'_, 't>,
+    further: u32,
+    kind: u8,
+    members: &mut List<(Span, Trail<'t>)>,
+) -> Result<(), Memory>
+    requires within { further < count_of (seen root).node }
+    requires kind { kind ≡ slice_index (kinds_at (seen root)) further }
+    requires ascend { IsAscending member_cmp members.old }
+    ensures ordered { IsAscending member_cmp members.new }
+    ensures added { OnOk result ((s : Numbered) → s ≡ slice_index_or (pre_at (seen root.entry)) further s → AddsUpTo 10000 members.old members.new (λ m. MemberAt known.now pattern.now s m)) }
+{
+    if is_elsewhere(pattern, kind) {
+        return Ok(());
+    }
+    add_node(alloc, known, pattern, root.below(further), members, MOST)?;
+    Ok(())
+}
+
+// Whether the pattern matches nodes of another kind alone.
+fn is_elsewhere(pattern: &Node, kind: u8) -> bool
+    ensures { IsTrue result → IsElsewhere pattern.now kind }
+{
+    if pattern.kind.is_literal() {
+        return false;
+    }
+    if role_of(pattern.kind) != Role::Plain {
+        return false;
+    }
+    pattern.kind.place() != kind
+}
+
+/// The kinds of the nodes below a node in preorder, as their places in the order of kinds.
+pub fn kinds_of(alloc: Global, root: Spot<'_, '_>) -> Result<Vec<u8>, Memory>
+    ensures { IfOk result (λ kinds. kinds.items ≡ kinds_at (seen root.entry)) }
+{
+    let mut kinds = Vec::new(alloc);
+    for further in 0..root.size() {
+        kinds.push(root.below(further).node.kind.place())?;
+    }
+    Ok(kinds)
 }
 
 // The same for a run's pattern.
 fn members_in_blocks<'t>(
     alloc: Global,
+    known: &[Known],
     pattern: &'t Node,
-    tree: &'t Node,
+    root: Spot<'_, 't>,
 ) -> Result<Option<List<(Span, Trail<'t>)>>, Memory>
-    ensures { IfOk result (λ found. IsFound (MemberIn (MemberRun pattern.now) (blocks_of tree.now)) found) }
+    ensures { IfOk result (λ found. IsFound (MemberIn (MemberRun known.now pattern.now) (blocks_at (seen root.entry))) found) }
 {
     let mut members = List::new(alloc);
-    for block in tree.blocks()? {
-        add_block(alloc, pattern, block, &mut members, MOST)?;
+    for further in 0..root.size() {
+        add_run_at(alloc, known, pattern, root.below(further), &mut members)?;
         if members.len() > MOST {
             return Ok(None);
         }
@@ -141,8 +207,39 @@ fn members_in_blocks<'t>(
     Ok(Some(members))
 }
 
+// Adds the members in this node, where it is a block.
+fn add_run_at<'t>(
+    alloc: Global,
+    known: &[Known],
+    pattern: &'t Node,
+    spot: Spot<'_, 't>,
+    members: &mut List<(Span, Trail<'t>)>,
+) -> Result<(), Memory>
+    requires { IsAscending member_cmp members.old }
+    ensures ordered { IsAscending member_cmp members.new }
+    ensures added { OnOk result (AddsUpTo 10000 members.old members.new (λ m. MemberIn (MemberRun known.now pattern.now) (those_blocks (seen spot.entry ∷ [])) m)) }
+{
+    if !holds_statements(spot.node.kind) {
+        return Ok(());
+    }
+    add_block(alloc, known, pattern, spot, members, MOST)?;
+    Ok(())
+}
+
+// Whether a node of this kind has statements as its kids.
+fn holds_statements(kind: Kind) -> bool
+    ensures { result ≡ is_block kind }
+{
+    match kind {
+        Kind::Root => true,
+        Kind::Block => true,
+        _ => false,
+    }
+}
+
 /// The members with bindings of their own.
 pub fn keep_all(alloc: Global, members: &[(Span, Trail<'_>)]) -> Result<LeafSet, Memory>
+    requires { IsAscending member_cmp members.now }
     ensures { IfOk result (λ s. s ≡ members.now) }
 {
     let mut kept = List::new(alloc);

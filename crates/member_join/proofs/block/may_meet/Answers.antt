@@ -1,6 +1,6 @@
 use Rattle.std.proofs.Common.{List, subst}
-use Rattle.tree_match.specs.Sets.{Among}
-use Rattle.tree_match.proofs.Ascents.{among_at}
+use Rattle.node_match.specs.Sets.{Among}
+use Rattle.node_match.proofs.Sets.{among_at}
 use Rattle.member_join.specs.declared.block.Hull.{Hull}
 use Rattle.member_join.proofs.Blocks.{bound_outside}
 use Rattle.member_join.proofs.block.may_meet.Goals as goal

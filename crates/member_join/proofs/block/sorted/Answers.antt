@@ -1,7 +1,7 @@
 use Rattle.std.proofs.Common.{◌≡◌, ◌↔◌, ◌∙◌, List, subst}
 use Rattle.std.proofs.lemmas.List.{take_all}
 use Rattle.tree_match.specs.Members.{Member}
-use Rattle.tree_match.specs.Sets.{Among}
+use Rattle.node_match.specs.Sets.{Among}
 use Rattle.sorted_sets.proofs.Settling.{same_items}
 use Rattle.member_join.proofs.block.sorted.Goals as goal
 

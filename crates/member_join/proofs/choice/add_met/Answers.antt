@@ -1,7 +1,7 @@
 use Rattle.std.proofs.Common.{List, ap, sym, ◌∙◌}
 use Rattle.meta_bind.specs.declared.bound.Bound.{Bound}
 use Rattle.tree_match.specs.Members.{Member}
-use Rattle.tree_match.proofs.Sets.{pushed, adds_as}
+use Rattle.node_match.proofs.Sets.{pushed, adds_as}
 use Rattle.member_join.proofs.choice.add_met.Goals as goal
 
 pub returns-in_ok-push : goal.returns-in_ok-push

@@ -1,4 +1,4 @@
-use Rattle.tree_match.proofs.Sets.{gathered, gathered_all}
+use Rattle.node_match.proofs.Sets.{gathered, gathered_all}
 use Rattle.member_join.specs.Operands.{IsGivenBy}
 use Rattle.sorted_sets.proofs.Searches.{any_step, any_end}
 use Rattle.member_join.proofs.Added.{if_ok_same}

@@ -1,7 +1,7 @@
 use Rattle.std.proofs.Common.{◌↔◌, List, subst}
 use Rattle.std.proofs.lemmas.Result.{err_from_is_err_and}
-use Rattle.tree_match.specs.Sets.{Among}
-use Rattle.tree_match.proofs.Sets.{chain}
+use Rattle.node_match.specs.Sets.{Among}
+use Rattle.node_match.proofs.Sets.{chain}
 use Rattle.member_join.specs.declared.state.State.{State}
 use Rattle.sorted_sets.specs.Sizes.{Any}
 use Rattle.member_join.specs.Operands.{IsGivenBy}

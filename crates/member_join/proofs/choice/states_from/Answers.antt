@@ -4,7 +4,7 @@ use Rattle.std.proofs.lemmas.Result.{err_from_is_err_and}
 use Rattle.meta_bind.proofs.Joins.{slice_rest}
 use Rattle.member_join.specs.declared.state.State.{State}
 use Rattle.member_join.specs.declared.operand.Role.TheVariants.{Plain, Inside}
-use Rattle.tree_match.specs.Sets.{Among}
+use Rattle.node_match.specs.Sets.{Among}
 use Rattle.member_join.specs.Joins.{IsJoined, IsNeeded}
 use Rattle.member_join.specs.Limits.{OneSet, IsFaultFrom}
 use Rattle.member_join.specs.Operands.{WithBytes}

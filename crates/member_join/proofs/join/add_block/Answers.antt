@@ -1,4 +1,4 @@
-use Rattle.tree_match.proofs.Sets.{gathered, gathered_all, adds_none}
+use Rattle.node_match.proofs.Sets.{gathered, gathered_all, adds_none}
 use Rattle.member_join.specs.Joins.{IsJoinedWith, IsNeeded}
 use Rattle.sorted_sets.proofs.Searches.{any_split, any_none}
 use Rattle.member_join.proofs.Blocks.{none_apart}

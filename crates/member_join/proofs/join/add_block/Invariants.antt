@@ -1,5 +1,5 @@
 use Rattle.std.proofs.Common.{◌↔◌, ◌⊎◌, drop}
-use Rattle.tree_match.specs.Sets.{Among}
+use Rattle.node_match.specs.Sets.{Among}
 use Rattle.member_join.specs.declared.state.State.{State}
 use Rattle.member_join.specs.Joins.{IsJoinedFrom, IsNeeded}
 use Rattle.member_join.proofs.join.add_block.Given as goal

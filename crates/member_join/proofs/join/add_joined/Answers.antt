@@ -1,5 +1,5 @@
-use Rattle.tree_match.proofs.Ascents.{among_at}
-use Rattle.tree_match.proofs.Sets.{gathered, gathered_all}
+use Rattle.node_match.proofs.Sets.{among_at}
+use Rattle.node_match.proofs.Sets.{gathered, gathered_all}
 use Rattle.member_join.specs.Blocks.{IsJoinedIn}
 use Rattle.member_join.specs.Joins.{IsNeeded}
 use Rattle.sorted_sets.proofs.Searches.{any_split, any_none}

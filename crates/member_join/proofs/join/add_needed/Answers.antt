@@ -1,5 +1,5 @@
 use Rattle.std.proofs.Common.{subst}
-use Rattle.tree_match.proofs.Sets.{pushed, adds_as}
+use Rattle.node_match.proofs.Sets.{pushed, adds_as}
 use Rattle.member_join.specs.declared.state.State.{State}
 use Rattle.member_join.specs.Joins.{IsNeeded}
 use Rattle.member_join.proofs.join.add_needed.Goals as goal

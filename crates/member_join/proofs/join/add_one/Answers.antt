@@ -1,5 +1,5 @@
 use Rattle.std.proofs.Common.{sym, ◌∙◌}
-use Rattle.tree_match.proofs.Sets.{adds_none}
+use Rattle.node_match.proofs.Sets.{adds_none}
 use Rattle.member_join.proofs.Added.{with_agreement, needed_touches}
 use Rattle.member_join.proofs.join.add_one.Goals as goal
 

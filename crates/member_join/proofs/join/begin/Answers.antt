@@ -1,5 +1,5 @@
 use Rattle.std.proofs.Common.{◌≡◌}
-use Rattle.tree_match.proofs.Sets.{gathered, gathered_all, plus_as}
+use Rattle.node_match.proofs.Sets.{gathered, gathered_all, plus_as}
 use Rattle.member_join.specs.Joins.{begun, IsNeeded}
 use Rattle.sorted_sets.proofs.Searches.{any_split, any_none}
 use Rattle.member_join.proofs.Added.{if_ok_same, same_first}

@@ -1,5 +1,5 @@
 use Rattle.std.proofs.Common.{◌≡◌, ◌↔◌, ◌⊎◌, drop}
-use Rattle.tree_match.specs.Sets.{Among}
+use Rattle.node_match.specs.Sets.{Among}
 use Rattle.member_join.specs.declared.state.State.{State}
 use Rattle.sorted_sets.specs.Sizes.{Any}
 use Rattle.member_join.specs.Joins.{begun, IsNeeded}

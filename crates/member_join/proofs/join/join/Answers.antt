@@ -2,7 +2,7 @@ use Rattle.std.proofs.Common.{◌≤◌, count_by}
 use Rattle.std.specs.Prelude.{Vec}
 use Rattle.std.specs.declared.alloc.Global.{Global}
 use Rattle.std.proofs.lemmas.Result.{IfOk-weaker}
-use Rattle.tree_match.specs.Sets.{Among}
+use Rattle.node_match.specs.Sets.{Among}
 use Rattle.member_join.specs.declared.state.State.{State}
 use Rattle.member_join.specs.Agreements.{has_bytes}
 use Rattle.member_join.specs.Blocks.{IsJoinedToBlocks}

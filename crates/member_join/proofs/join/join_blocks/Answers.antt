@@ -1,7 +1,7 @@
 use Rattle.std.proofs.Common.{ap}
 use Rattle.std.specs.Prelude.{Vec}
 use Rattle.std.specs.declared.alloc.Global.{Global}
-use Rattle.tree_match.proofs.Sets.{gathered}
+use Rattle.node_match.proofs.Sets.{gathered}
 use Rattle.member_join.specs.declared.state.State.{State}
 use Rattle.sorted_sets.specs.Sizes.{Any}
 use Rattle.member_join.specs.Blocks.{IsJoinedIn}

@@ -1,5 +1,5 @@
 use Rattle.std.proofs.Common.{◌≡◌, map, sym, ◌∙◌}
-use Rattle.tree_match.proofs.Sets.{adds_none}
+use Rattle.node_match.proofs.Sets.{adds_none}
 use Rattle.range_algebra.specs.Trees.{branch_of, branches_of}
 use Rattle.range_algebra.specs.Shown.{Shows}
 use Rattle.range_algebra.proofs.Gathering.{shown_allowed}

@@ -1,6 +1,6 @@
 use Rattle.std.proofs.Common.{◌↔◌, ◌⊎◌, List, ℕ}
 use Rattle.tree_match.specs.Members.{Member}
-use Rattle.tree_match.proofs.Sets.{gathered, gathered_all}
+use Rattle.node_match.proofs.Sets.{gathered, gathered_all}
 use Rattle.range_algebra.specs.Meets.{IsShownAt}
 use Rattle.sorted_sets.proofs.Searches.{any_parted, any_end}
 use Rattle.range_algebra.proofs.Gathering.{adds_named, adds_focused, adds_unfocused}

@@ -1,5 +1,5 @@
 use Rattle.std.proofs.Common.{◌↔◌, ◌⊎◌, map, sym, ◌∙◌}
-use Rattle.tree_match.proofs.Sets.{gathered, gathered_all, plus_as}
+use Rattle.node_match.proofs.Sets.{gathered, gathered_all, plus_as}
 use Rattle.range_algebra.specs.Trees.{branch_of, branches_of}
 use Rattle.range_algebra.proofs.Gathering.{adds_whole, in_focus, focus_left, focus_end}
 use Rattle.range_algebra.proofs.all.add_shown.Goals as goal

@@ -2,8 +2,8 @@ use Rattle.std.proofs.Common.{◌↔◌, List, [], map, sym, subst}
 use Rattle.std.specs.Prelude.{None}
 use Rattle.std.proofs.lemmas.Result.{err_from_is_err_and, IfErr-weaker}
 use Rattle.tree_match.specs.Members.{Member}
-use Rattle.tree_match.specs.Sets.{Among}
-use Rattle.tree_match.proofs.Sets.{chain}
+use Rattle.node_match.specs.Sets.{Among}
+use Rattle.node_match.proofs.Sets.{chain}
 use Rattle.range_algebra.specs.Trees.{branch_of, branches_of, all_of}
 use Rattle.range_algebra.specs.Meets.{Meets}
 use Rattle.sorted_sets.specs.Sizes.{Each}

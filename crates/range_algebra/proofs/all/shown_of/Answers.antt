@@ -1,9 +1,9 @@
 use Rattle.std.proofs.Common.{◌↔◌, ◌⊎◌, [], inl, inr, map}
 use Rattle.std.proofs.lemmas.Result.{err_from_is_err_and}
-use Rattle.tree_match.specs.Sets.{Among}
+use Rattle.node_match.specs.Sets.{Among}
 use Rattle.tree_match.specs.Members.{Member}
-use Rattle.tree_match.proofs.Ascents.{among_at}
-use Rattle.tree_match.proofs.Sets.{gathered, gathered_all, chain}
+use Rattle.node_match.proofs.Sets.{among_at}
+use Rattle.node_match.proofs.Sets.{gathered, gathered_all, chain}
 use Rattle.range_algebra.specs.Trees.{branch_of, branches_of}
 use Rattle.range_algebra.specs.Shown.{Shows, IsShownOfSome}
 use Rattle.sorted_sets.proofs.Searches.{any_here, any_parted, any_end}

@@ -1,6 +1,6 @@
 use Rattle.std.proofs.Common.{◌≡◌}
 use Rattle.range_algebra.proofs.Halving.{rest_from, equal_from, rest_whole}
-use Rattle.tree_match.proofs.Sets.{chain}
+use Rattle.node_match.proofs.Sets.{chain}
 use Rattle.range_algebra.proofs.condition.has_equal.Goals as goal
 
 pub first_from-first-requires : goal.first_from-first-requires

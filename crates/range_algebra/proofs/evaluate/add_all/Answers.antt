@@ -1,6 +1,6 @@
 use Rattle.std.proofs.Common.{List, [], ◌∷◌, ◌++◌, ap, ◌∙◌}
 use Rattle.meta_bind.specs.declared.bound.Bound.{Bound}
-use Rattle.tree_match.proofs.Sets.{gathered, pushed}
+use Rattle.node_match.proofs.Sets.{gathered, pushed}
 use Rattle.range_algebra.proofs.Children.{among_left}
 use Rattle.range_algebra.proofs.evaluate.add_all.Goals as goal
 

@@ -1,8 +1,8 @@
 use Rattle.std.proofs.Common.{◌↔◌, ◌⊎◌, inl, inr, List, [], subst}
 use Rattle.std.proofs.lemmas.Result.{err_from_is_err_and}
 use Rattle.tree_match.specs.Members.{Member}
-use Rattle.tree_match.specs.Sets.{Among}
-use Rattle.tree_match.proofs.Sets.{gathered, gathered_all, chain}
+use Rattle.node_match.specs.Sets.{Among}
+use Rattle.node_match.proofs.Sets.{gathered, gathered_all, chain}
 use Rattle.range_algebra.specs.Parts.{IsInSome}
 use Rattle.member_join.specs.Limits.{OneSet}
 use Rattle.member_join.proofs.Added.{if_ok_same}

@@ -1,5 +1,5 @@
 use Rattle.std.proofs.Common.{◌↔◌, ◌⊎◌, drop}
-use Rattle.tree_match.specs.Sets.{Among}
+use Rattle.node_match.specs.Sets.{Among}
 use Rattle.tree_match.specs.Members.{Member}
 use Rattle.range_algebra.specs.Parts.{IsInSome}
 use Rattle.range_algebra.proofs.evaluate.union.Given as goal

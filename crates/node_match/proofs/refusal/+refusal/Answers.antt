@@ -1,0 +1,54 @@
+use Rattle.std.proofs.Common.{◌≡◌, Bool, true, false, not, arith, sym, ◌∙◌, List, subst, IsTrue}
+use Rattle.node_match.specs.Refused.{AreRefused}
+use Rattle.std.specs.Prelude.{Option}
+use Rattle.std.specs.Option.{option_copied}
+use Rattle.std.specs.Borrow.{Bor}
+use Rattle.node_tree.specs.declared.node.Node.{Node}
+use Rattle.node_match.specs.Free.{parts_of}
+use Rattle.node_match.proofs.Refusals.{other_refused, kids_refused, string_refused}
+use Rattle.node_match.proofs.Parts.{parts_as_many}
+use Rattle.node_match.proofs.Refused.{same_number, whole_refused, none_left, one_refused, next_reached, NeverTakes}
+use Rattle.node_match.proofs.refusal.+refusal.Goals as goal
+
+not_both : (r : Bool) → not r ≡ true → r ≡ true → ⊥
+not_both true e f = absurd cc
+not_both false e f = absurd cc
+
+untrue : {A : Type 0} (r : Bool) → (A → IsTrue r) → r ≡ false → A → ⊥
+untrue r f is a = let e : false ≡ true = sym is ∙ f a in cc
+
+pub is_refused-returns-else-is_same : goal.is_refused-returns-else-is_same
+is_refused-returns-else-is_same t c fails =
+    string_refused c.args.pattern.now c.args.node.now (sym c.role_of.ensures ∙ c.in-StrAny.is) (untrue _ c.is_same.ensures.1 c.if-is_same.false) (λ is. not_both _ fails (c.is_string.ensures.1 is))
+
+pub is_refused-returns-then-not-is_alike : goal.is_refused-returns-then-not-is_alike
+is_refused-returns-then-not-is_alike t c _ =
+    other_refused c.args.pattern.now c.args.node.now (sym c.role_of.ensures ∙ c.in-Plain.is) (untrue _ c.may_hold.ensures.1 c.if-may_hold.false) (untrue _ c.is_alike.ensures.1 c.if-not-is_alike.true)
+
+pub is_refused-returns-else-levels-eq0 : goal.is_refused-returns-else-levels-eq0
+is_refused-returns-else-levels-eq0 t c refused =
+    let p = c.args.pattern.now in
+    let P : List Node → Type 0 = λ ns. AreRefused (parts_of p) ns in
+    kids_refused p c.args.node.now (sym c.role_of.ensures ∙ c.in-Plain.is) (untrue _ c.may_hold.ensures.1 c.if-may_hold.false) (subst P c.as_slice.ensures (c.are_refused.ensures refused))
+
+pub are_refused-returns-then-are_single : goal.are_refused-returns-then-are_single
+are_refused-returns-then-are_single t c _ =
+    same_number (parts_of c.args.pattern.now) c.args.nodes.now (c.are_single.ensures.0 c.if-are_single.true) (omega (arith, parts_as_many c.args.pattern.now, c.len.ensures, c.if-len-nodes.true))
+
+pub are_refused-returns : goal.are_refused-returns
+are_refused-returns t c refused = whole_refused (parts_of c.args.pattern.now) c.args.nodes.now (c.is_front_refused.ensures refused)
+
+pub is_front_refused-returns-then-nodes-at : goal.is_front_refused-returns-then-nodes-at
+is_front_refused-returns-then-nodes-at t c _ =
+    none_left (parts_of c.args.pattern.now) c.args.nodes.now c.loop-at.at _ (c.is_single.ensures.0 c.if-not-is_single.false) c.part_at-part.ensures c.loop-at.invariant (omega (arith, c.if-nodes-at.true))
+
+pub is_front_refused-returns-then-is_refused : goal.is_front_refused-returns-then-is_refused
+is_front_refused-returns-then-is_refused t c _ =
+    let P : Option (Bor Node) → Type 0 = λ o. NeverTakes (option_copied o) c.index-nodes-at.result in
+    one_refused (parts_of c.args.pattern.now) c.args.nodes.now c.loop-at.at _ (c.is_single.ensures.0 c.if-not-is_single.false) c.part_at-part.ensures c.loop-at.invariant
+    c.index-nodes-at.result (omega (arith, c.if-nodes-at.false)) c.index-nodes-at.is (subst P (sym c.in-Some.is) (c.is_refused.ensures c.if-is_refused.true))
+
+pub is_front_refused-loop-at-preserved : goal.is_front_refused-loop-at-preserved
+is_front_refused-loop-at-preserved t c =
+    next_reached (parts_of c.args.pattern.now) c.args.nodes.now c.loop-at.at _ (c.is_single.ensures.0 c.if-not-is_single.false) c.part_at-part.ensures c.loop-at.invariant
+    c.index-nodes-at.result (omega (arith, c.if-nodes-at.false)) c.index-nodes-at.is

@@ -1,0 +1,9 @@
+pub mod Sets
+pub mod Kinds
+pub mod Kids
+pub mod Free
+pub mod Relation
+pub mod Holding
+pub mod Refused
+pub mod Fronts
+pub mod States

@@ -1,0 +1,54 @@
+-- Where the search of a list of kids stands.
+use Rattle.std.specs.Prelude.{◌≡◌, ◌⊎◌, ◌↔◌, ◌≤◌, ℕ, List, [], ◌∷◌, take, drop, Bool, true, false}
+use Rattle.node_tree.specs.declared.node.Node.{Node}
+use Rattle.node_tree.specs.Tree.{text_of}
+use Rattle.node_tree.specs.declared.known.Known.{Known}
+use Rattle.node_tree.specs.Numbers.{Numbered, kids_at}
+use Rattle.meta_bind.specs.declared.bound.Bound.{Bound}
+use Rattle.node_match.specs.declared.state.State.{State}
+use Rattle.node_match.specs.Sets.{Among}
+use Rattle.node_match.specs.Free.{Part}
+use Rattle.node_match.specs.Relation.{Matches, Binds, nodes_of}
+use Rattle.node_match.specs.Fronts.{End, Leads}
+
+-- the parts match these nodes, or where it floats what remains after some of them
+abbrev pub Goes : List Known → Bool → Numbered → List Part → List Numbered → List Bound → End → Type 0
+Goes C true h ps ns b c = (k : ℕ) × Leads C h ps (drop k ns) b c
+Goes C false h ps ns b c = Leads C h ps ns b c
+
+-- what the parts that are left lead to from a state
+abbrev pub From : List Known → Numbered → List Part → State → End → Type 0
+From C h ps s c = Goes C s.floating h ps (drop s.at (kids_at h)) s.trail c
+
+-- the same from one of the states
+abbrev pub AnyFrom : List Known → Numbered → List Part → List State → End → Type 0
+AnyFrom C h ps states c = (s : State) × Among states s × From C h ps s c
+
+-- the new states lead to what the old ones lead to, and to what P says
+abbrev pub AddsFrom : List Known → Numbered → List State → List State → (List Part → End → Type 0) → Type 0
+AddsFrom C h old new P = (ps : List Part) (c : End) → AnyFrom C h ps new c ↔ (AnyFrom C h ps old c ⊎ P ps c)
+
+-- from one of these bindings, at this place
+abbrev pub Entered : List Known → Numbered → List Part → ℕ → List (List Bound) → End → Type 0
+Entered C h ps at found c = (d : List Bound) × Among found d × Leads C h ps (drop at (kids_at h)) d c
+
+-- the first node matches the pattern, and the others those that are left
+abbrev pub Heads : List Known → Numbered → Node → List Part → List Numbered → List Bound → End → Type 0
+Heads C h p ps [] b c = ⊥
+Heads C h p ps (n ∷ ns) b c = (d : List Bound) × Matches C p n b d × Leads C h ps ns d c
+
+-- some nodes at the front, at least so many, are bound, and the others match the parts that are left
+abbrev pub Runs : List Known → ℕ → Numbered → Node → List Part → List Numbered → List Bound → End → Type 0
+Runs C least h p ps ns b c = (k : ℕ) × (least ≤ k) × (d : List Bound) × Binds h.node (text_of p) (nodes_of (take k ns)) b d × Leads C h ps (drop k ns) d c
+
+-- so many nodes at the front are bound, and the others match the parts that are left
+abbrev pub RunOf : List Known → ℕ → Numbered → Node → List Part → List Numbered → List Bound → End → Type 0
+RunOf C k h p ps ns b c = (d : List Bound) × Binds h.node (text_of p) (nodes_of (take k ns)) b d × Leads C h ps (drop k ns) d c
+
+-- the new states lead to what the old ones lead to by one part more
+abbrev pub Steps : List Known → Numbered → Part → List State → List State → Type 0
+Steps C h p old new = (ps : List Part) (c : End) → AnyFrom C h ps new c ↔ AnyFrom C h (p ∷ ps) old c
+
+-- some state floats from there on with this binding
+abbrev pub IsCovered : List State → ℕ → List Bound → Type 0
+IsCovered states at b = (s : State) × Among states s × (s.floating ≡ true) × (s.at ≤ at) × (s.trail ≡ b)

@@ -1,0 +1,114 @@
+//! A look at a node and the levels below it that rules a match out, whatever is bound, before the search makes any state.
+
+ghost use Rattle.std.specs.Prelude.{◌≡◌, ◌↔◌, true, IsTrue};
+ghost use Rattle.node_tree.specs.declared.kind.Kind.TheVariants.{Name};
+ghost use Rattle.node_tree.specs.Kinds.{is_literal as literal};
+ghost use Rattle.std.specs.Option.{option_copied};
+ghost use Rattle.node_match.specs.Free.{parts_of};
+ghost use Rattle.node_match.specs.Refused.{IsSingle, all_single, IsRefused, AreRefused, IsFrontRefused};
+
+use crate::class::{Role, is_alike, is_one, is_same, is_string, role_of};
+use crate::free::part_at;
+use node_tree::{Kind, Node};
+
+/// How many levels below the kids of a node are looked at. A name of a member is at the first of them.
+pub const LOOK: u32 = 2;
+
+// Whether the part takes one node, and not a run.
+fn is_single(part: Option<&Node>) -> bool
+    ensures { IsTrue result ↔ IsSingle (option_copied part.entry) }
+{
+    match part {
+        None => true,
+        Some(pattern) => is_one(role_of(pattern.kind)),
+    }
+}
+
+// Whether each part takes one node.
+fn are_single(pattern: &Node) -> bool
+    ensures { IsTrue result ↔ all_single (parts_of pattern.now) }
+{
+    for at in 0..pattern.kids.len() {
+        if !is_single(part_at(pattern, at)) {
+            return false;
+        }
+    }
+    true
+}
+
+// Whether the pattern is a literal, and the node a name that may be known to hold it.
+fn may_hold(pattern: Kind, node: Kind) -> bool
+    ensures { IsTrue result ↔ ((literal pattern ≡ true) × (node ≡ Name)) }
+{
+    if !pattern.is_literal() {
+        return false;
+    }
+    is_same(node, Kind::Name)
+}
+
+// Whether a match of the node is ruled out by the node itself and so many levels below it.
+#[cycle(refusal)]
+fn is_refused(pattern: &Node, node: &Node, levels: u32) -> bool
+    ensures { IsTrue result → IsRefused pattern.now node.now }
+{
+    match role_of(pattern.kind) {
+        Role::Plain => {
+            if may_hold(pattern.kind, node.kind) {
+                return false;
+            }
+            if !is_alike(pattern, node) {
+                return true;
+            }
+            if levels == 0 {
+                return false;
+            }
+            are_refused(pattern, node.kids.as_slice(), levels - 1)
+        }
+        Role::Meta => !node.kind.is_term(),
+        Role::StrAny => {
+            if is_same(node.kind, Kind::Name) {
+                return false;
+            }
+            !is_string(node)
+        }
+        Role::Deep => !node.kind.is_expression(),
+        Role::Dots => false,
+        Role::MetaDots => false,
+    }
+}
+
+/// Whether a match of these nodes, all of them and in order, by what the pattern asks of kids is ruled out by how many they
+/// are, or by one before the first dots and so many levels below it.
+#[cycle(refusal)]
+pub fn are_refused(pattern: &Node, nodes: &[Node], levels: u32) -> bool
+    ensures { IsTrue result → AreRefused (parts_of pattern.now) nodes.now }
+{
+    if pattern.kids.len() < nodes.len() && are_single(pattern) {
+        return true;
+    }
+    is_front_refused(pattern, nodes, levels)
+}
+
+/// Whether a match of some of these nodes from the first on is ruled out by one before the first dots and so many levels
+/// below it.
+#[cycle(refusal)]
+pub fn is_front_refused(pattern: &Node, nodes: &[Node], levels: u32) -> bool
+    ensures { IsTrue result → IsFrontRefused (parts_of pattern.now) nodes.now }
+{
+    for at in 0..pattern.kids.len() {
+        let part = part_at(pattern, at);
+        if !is_single(part) {
+            return false;
+        }
+        if nodes.len() <= at {
+            return true;
+        }
+        let node = &nodes[at];
+        if let Some(kid) = part {
+            if is_refused(kid, node, levels) {
+                return true;
+            }
+        }
+    }
+    false
+}

@@ -1,0 +1,4 @@
+pub mod Induction
+pub mod Placing
+pub mod SpotKids
+pub mod Siblings
