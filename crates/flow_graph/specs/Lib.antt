@@ -1,0 +1,4 @@
+pub mod Keys
+pub mod Outline
+pub mod Ranges
+pub mod Units
