@@ -8,7 +8,10 @@ use Rattle.meta_bind.specs.declared.bound.Bound.{Bound}
 use Rattle.report_form.specs.declared.notice.Notice.{Notice}
 use Rattle.report_form.specs.declared.report.Reported.{Reported}
 use Rattle.report_form.specs.declared.report.Report.{Report}
-use Rattle.finding_json.specs.Reports.{metavar_members, source_members, with_fix, result_data, notice_data, report_data, severity_word}
+use Rattle.report_form.specs.declared.edit.Edit.{Edit}
+use Rattle.fix_apply.specs.declared.fixed.FixedFile.{FixedFile}
+use Rattle.fix_apply.specs.declared.fixed.FixReport.{FixReport}
+use Rattle.finding_json.specs.Reports.{metavar_members, source_members, with_fix, result_data, notice_data, report_members, report_data, edit_data, fixed_data, fix_data, severity_word}
 
 in_list : {X : Type 0} (f : X → Data) → ((x : X) → has_float (f x) ≡ false) → (xs : List X) → items_have_float (items_of (map f xs)) ≡ false
 in_list f none [] = refl
@@ -31,7 +34,19 @@ in_result r = ap (λ b. b || false) (in_extra r.fix r.message (severity_word r.s
 in_notice : (n : Notice) → has_float (notice_data n) ≡ false
 in_notice n = refl
 
-pub in_report : (r : Report) → has_float (report_data r) ≡ false
-in_report r =
+in_lists : (r : Report) → members_have_float (report_members r) ≡ false
+in_lists r =
     ap (λ b. b || (items_have_float (items_of (map result_data r.results)) || false)) (in_list notice_data in_notice r.notices)
     ∙ ap (λ b. b || false) (in_list result_data in_result r.results)
+
+pub in_report : (r : Report) → has_float (report_data r) ≡ false
+in_report r = in_lists r
+
+in_edit : (e : Edit) → has_float (edit_data e) ≡ false
+in_edit e = refl
+
+in_file : (f : FixedFile) → has_float (fixed_data f) ≡ false
+in_file f = ap (λ b. b || false) (in_list edit_data in_edit f.edits)
+
+pub in_fixes : (f : FixReport) → has_float (fix_data f) ≡ false
+in_fixes f = ap (λ b. b || members_have_float (report_members f.report)) (in_list fixed_data in_file f.files) ∙ in_lists f.report

@@ -14,6 +14,9 @@ use Rattle.report_form.specs.Notice.{kind_word}
 use Rattle.report_form.specs.declared.notice.Notice.{Notice}
 use Rattle.report_form.specs.declared.report.Reported.{Reported}
 use Rattle.report_form.specs.declared.report.Report.{Report}
+use Rattle.report_form.specs.declared.edit.Edit.{Edit}
+use Rattle.fix_apply.specs.declared.fixed.FixedFile.{FixedFile}
+use Rattle.fix_apply.specs.declared.fixed.FixReport.{FixReport}
 
 abbrev pub number_data : ℕ → Data
 number_data n = number (unsigned n)
@@ -66,9 +69,23 @@ notice_data n =
     object (member (codes "detail") (string n.detail) (member (codes "kind") (string (kind_word n.kind))
     (member (codes "path") (string n.path) (member (codes "rule") (string n.rule_id) no_members))))
 
+-- what a scan found and what it passed over
+abbrev pub report_members : Report → Members
+report_members r = member (codes "notices") (array (items_of (map notice_data r.notices))) (member (codes "results") (array (items_of (map result_data r.results))) no_members)
+
 abbrev pub report_data : Report → Data
-report_data r =
-    object (member (codes "notices") (array (items_of (map notice_data r.notices))) (member (codes "results") (array (items_of (map result_data r.results))) no_members))
+report_data r = object (report_members r)
+
+-- [from,to,text]
+abbrev pub edit_data : Edit → Data
+edit_data e = array (item (number_data e.span.from) (item (number_data e.span.to) (item (string e.text) no_items)))
+
+-- a file that fixes changed: its path, and the edits that were taken
+abbrev pub fixed_data : FixedFile → Data
+fixed_data f = object (member (codes "path") (string f.path) (member (codes "ranges") (array (items_of (map edit_data f.edits))) no_members))
+
+abbrev pub fix_data : FixReport → Data
+fix_data f = object (member (codes "fixed") (array (items_of (map fixed_data f.files))) (report_members f.report))
 
 -- ---- for private clauses
 

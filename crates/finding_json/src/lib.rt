@@ -4,8 +4,11 @@
 //! built: its members go to the writer one by one.
 #![tactic(auto)]
 
+mod fixes;
 mod parts;
 mod report;
 
+pub use fix_apply::{FixReport, FixedFile};
+pub use fixes::fix_text;
 pub use report::report_text;
 pub use report_form::{Notice, NoticeKind, Report, Reported};

@@ -34,8 +34,8 @@ impl<'r> Serialize for Line<'r> {
     }
 }
 
-// The notices in order.
-fn send_notices<S: Serializer>(notices: &[Notice], out: &mut S) -> Result<(), S::Error>
+/// Sends the notices in order.
+pub fn send_notices<S: Serializer>(notices: &[Notice], out: &mut S) -> Result<(), S::Error>
     ensures { OnOk result (SendsValue (array (items_of (map notice_data notices.now))) (S.written out.old) (S.written out.new)) }
 {
     out.begin_seq(Some(notices.len()))?;
@@ -45,8 +45,8 @@ fn send_notices<S: Serializer>(notices: &[Notice], out: &mut S) -> Result<(), S:
     out.end_seq()
 }
 
-// The results in order.
-fn send_results<S: Serializer>(results: &[Reported], out: &mut S) -> Result<(), S::Error>
+/// Sends the results in order.
+pub fn send_results<S: Serializer>(results: &[Reported], out: &mut S) -> Result<(), S::Error>
     ensures { OnOk result (SendsValue (array (items_of (map result_data results.now))) (S.written out.old) (S.written out.new)) }
 {
     out.begin_seq(Some(results.len()))?;
@@ -54,6 +54,15 @@ fn send_results<S: Serializer>(results: &[Reported], out: &mut S) -> Result<(), 
         send_result(reported, out)?;
     }
     out.end_seq()
+}
+
+/// A line that has this text.
+pub fn ended(text: Vec<u8>) -> Result<Bytes, Memory>
+    ensures { IfOk result (λ line. line ≡ text.items ++ 10 ∷ []) }
+{
+    let mut line = Bytes::from_vec(text);
+    line.push(b'\n')?;
+    Ok(line)
 }
 
 /// The line of a report: its JSON text without blanks, with the keys in order, and a line feed.
@@ -64,7 +73,5 @@ pub fn report_text(alloc: Global, report: &Report) -> Result<Bytes, Memory>
     let Ok(text) = serde_json::to_vec(alloc, &Line { report }) else {
         return Err(Memory);
     };
-    let mut line = Bytes::from_vec(text);
-    line.push(b'\n')?;
-    Ok(line)
+    ended(text)
 }

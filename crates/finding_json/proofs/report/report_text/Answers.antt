@@ -1,4 +1,5 @@
 use Rattle.std.proofs.Common.{◌≡◌, ◌∷◌, [], ◌++◌, ℕ, List, ap, ◌∙◌}
+use Rattle.std.proofs.lemmas.Result.{IfOk-weaker}
 use Rattle.serde_json.specs.Written.{compact_text}
 use Rattle.serde_json.proofs.FreeTexts.{text_of_value}
 use Rattle.finding_json.specs.Reports.{report_data}
@@ -10,4 +11,4 @@ returns c =
     let d = report_data c.args.report.now in
     let sent = c.in-Ok.ensures.events in
     let text : c.in-Ok.text.items ≡ compact_text d = text_of_value d sent.0 c.in-Ok.text.items sent.1 sent.2 (in_report c.args.report.now) in
-    c.in_ok-push.ensures.ok ∙ ap (λ (xs : List ℕ). xs ++ 10 ∷ []) (c.from_vec-line.ensures ∙ text)
+    IfOk-weaker c.ended.result _ _ (λ (line : List ℕ) (is : line ≡ c.in-Ok.text.items ++ 10 ∷ []). is ∙ ap (λ (xs : List ℕ). xs ++ 10 ∷ []) text) c.ended.ensures
