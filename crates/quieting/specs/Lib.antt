@@ -1,0 +1,5 @@
+pub mod Words
+pub mod Ids
+pub mod Comments
+pub mod Quieting
+pub mod Lines
