@@ -1,6 +1,7 @@
 //! The languages that are read here: JSON, Python and C.
 #![tactic(auto)]
 
+mod comments;
 mod patterns;
 mod trees;
 

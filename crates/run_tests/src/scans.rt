@@ -107,6 +107,31 @@ fn prints_what_a_rule_finds(rt: HostRuntime) -> Result<(), Fail> {
             "regex ⇒   pattern-regex: (\n ⇒ n.txt ⇒ caab\n",
             "{\"notices\":[{\"detail\":\"(\",\"kind\":\"Regex\",\"path\":\"r.rules\",\"rule\":\"p\"}],\"results\":[]}\n",
         ),
+        // Comments that quiet, in files of Python and C with a tree.
+        (
+            "python ⇒   pattern: f($X)\n ⇒ a.py ⇒ f(1)  # nosemgrep\nf(2)\nf(3)\n",
+            "{\"notices\":[],\"results\":[{\"check_id\":\"p\",\"end\":{\"col\":5,\"line\":3,\"offset\":27},\"extra\":{\"message\":\"m\",\"metavars\":{\"$X\":[25,26]},\"severity\":\"INFO\"},\"path\":\"a.py\",\"start\":{\"col\":1,\"line\":3,\"offset\":23}}]}\n",
+        ),
+        (
+            "python ⇒   pattern: f($X)\n ⇒ a.py ⇒ f(1)  # nosemgrep: q\nf(2)\nf(3)\n",
+            "{\"notices\":[],\"results\":[{\"check_id\":\"p\",\"end\":{\"col\":5,\"line\":1,\"offset\":4},\"extra\":{\"message\":\"m\",\"metavars\":{\"$X\":[2,3]},\"severity\":\"INFO\"},\"path\":\"a.py\",\"start\":{\"col\":1,\"line\":1,\"offset\":0}},{\"check_id\":\"p\",\"end\":{\"col\":5,\"line\":2,\"offset\":25},\"extra\":{\"message\":\"m\",\"metavars\":{\"$X\":[23,24]},\"severity\":\"INFO\"},\"path\":\"a.py\",\"start\":{\"col\":1,\"line\":2,\"offset\":21}},{\"check_id\":\"p\",\"end\":{\"col\":5,\"line\":3,\"offset\":30},\"extra\":{\"message\":\"m\",\"metavars\":{\"$X\":[28,29]},\"severity\":\"INFO\"},\"path\":\"a.py\",\"start\":{\"col\":1,\"line\":3,\"offset\":26}}]}\n",
+        ),
+        (
+            "python ⇒   pattern: f($X)\n ⇒ a.py ⇒ f(\"# nosemgrep\")\n",
+            "{\"notices\":[],\"results\":[{\"check_id\":\"p\",\"end\":{\"col\":17,\"line\":1,\"offset\":16},\"extra\":{\"message\":\"m\",\"metavars\":{\"$X\":[2,15]},\"severity\":\"INFO\"},\"path\":\"a.py\",\"start\":{\"col\":1,\"line\":1,\"offset\":0}}]}\n",
+        ),
+        (
+            "c ⇒   pattern: f($X)\n ⇒ a.c ⇒ void g(void) {\n  f(1); /* nosemgrep: q, p\n*/ f(2);\n  f(3);\n}\n",
+            "{\"notices\":[],\"results\":[{\"check_id\":\"p\",\"end\":{\"col\":7,\"line\":4,\"offset\":57},\"extra\":{\"message\":\"m\",\"metavars\":{\"$X\":[55,56]},\"severity\":\"INFO\"},\"path\":\"a.c\",\"start\":{\"col\":3,\"line\":4,\"offset\":53}}]}\n",
+        ),
+        (
+            "regex ⇒   pattern-regex: a+\n ⇒ a.py ⇒ # nosemgrep\naa\n",
+            NOTHING,
+        ),
+        (
+            "regex ⇒   pattern-regex: a+\n ⇒ n.txt ⇒ caab # nosemgrep\n",
+            A_PLUS,
+        ),
         // The fix of each result.
         (
             "python ⇒   pattern: f($X)\n  fix: g($X)\n ⇒ a.py ⇒ f(f(1))\nf(2)\nf (  3 )\n",

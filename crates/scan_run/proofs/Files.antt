@@ -10,7 +10,6 @@ use Rattle.scan_world.specs.Trees.{KeepsFiles, LacksFile, HasFront, HasPaths, Is
 use Rattle.scan_world.specs.declared.tree.TreeFault.{TreeFault}
 use Rattle.scan_world.specs.declared.tree.TreeFault.TheVariants.{Absent}
 use Rattle.languages.specs.declared.patterns.Languages.{Languages}
-use Rattle.languages.specs.Trees.{IsTree}
 use Rattle.scan_session.specs.declared.scanner.Scanner.{Scanner}
 use Rattle.scan_session.specs.Fresh.{file_cmp}
 use Rattle.scan_session.specs.Scans.{Scans}
@@ -18,6 +17,7 @@ use Rattle.scan_session.proofs.Scans.{scans_then}
 use Rattle.scan_run.specs.declared.status.Status.{Status}
 use Rattle.scan_run.specs.Taking.{File, IsTaken, AreTaken, IsKept, AreRead, AreFiles, limit_end, IsOver, ReadingEnds, FilesEnd}
 use Rattle.scan_run.specs.Status.{IsAnswer}
+use Rattle.scan_run.specs.Scan.{grammars}
 use Rattle.scan_run.specs.Scanned.{ScansRead, ScansFiles}
 use Rattle.scan_run.proofs.Limits.{bytes_of, limit_after, count_more}
 use Rattle.scan_run.specs.Config.{IsConfig}
@@ -212,7 +212,7 @@ pub record Far (told : Option Files) (paths : List Path) (count total : ℕ) (ol
   pub summed : total ≡ bytes_of files
   pub small : total ≤ 33554432
   pub within : limit_end 0 0 files ≡ None
-  pub scans : Scans IsTree files old new
+  pub scans : Scans grammars files old new
 
 module _ (told now : Option Files) (kept : KeepsFiles told now) (paths : List Path) (count total : ℕ) (old mid : Scanner Languages) (i : ℕ) (x asked : Path) (lt : i < length paths) (is : x ≡ get_or paths i x) (far : Far told (take i paths) count total old mid) (e : asked ≡ x) where
   pub far_absent : LacksFile now asked → Far told (take (i + 1) paths) count total old mid
@@ -228,7 +228,7 @@ module _ (told now : Option Files) (kept : KeepsFiles told now) (paths : List Pa
   }
 
   module _ (bytes : List ℕ) (short : length bytes ≤ 1000001) (front : HasFront now asked 1000001 bytes) where
-    pub far_read : (size all : ℕ) (new : Scanner Languages) → size ≡ length bytes → count + 1 ≤ 10000 → all ≤ 33554432 → all ≡ total + size → Scans IsTree ((asked, bytes) ∷ []) mid new → Far told (take (i + 1) paths) (count + 1) all old new
+    pub far_read : (size all : ℕ) (new : Scanner Languages) → size ≡ length bytes → count + 1 ≤ 10000 → all ≤ 33554432 → all ≡ total + size → Scans grammars ((asked, bytes) ∷ []) mid new → Far told (take (i + 1) paths) (count + 1) all old new
     far_read size all new es few small ea scans =
         let f : File = (asked, bytes) in
         let c = count_more far.files f count total size all far.counted far.summed far.within es few small ea in
@@ -240,7 +240,7 @@ module _ (told now : Option Files) (kept : KeepsFiles told now) (paths : List Pa
           summed = c.counted;
           small = small;
           within = c.within;
-          scans = scans_then IsTree far.files (f ∷ []) old mid new far.scans scans;
+          scans = scans_then grammars far.files (f ∷ []) old mid new far.scans scans;
         }
 
     pub far_over : (size : ℕ) (status : Status) → length bytes ≡ size → IsOver count total size status → ReadingEnds told paths status

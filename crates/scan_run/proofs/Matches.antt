@@ -7,9 +7,10 @@ use Rattle.std.proofs.lemmas.List.{append-nil}
 use Rattle.node_tree.specs.declared.node.Node.{Node}
 use Rattle.node_tree.specs.declared.view.Pattern.{Pattern}
 use Rattle.node_tree.specs.declared.view.FileView.{FileView}
+use Rattle.node_tree.specs.declared.known.Known.{Known}
 use Rattle.node_tree.specs.declared.view.Lang.{Lang}
 use Rattle.pattern_read.specs.Patterns.{IsPatternOf}
-use Rattle.tree_match.specs.Members.{IsMember}
+use Rattle.tree_match.specs.Members.{IsMember, KnownTree, known_tree}
 use Rattle.tree_match.proofs.Exclusion.{few_or_more, whole_once}
 use Rattle.file_open.specs.declared.opened.Opened.{Opened}
 use Rattle.file_open.specs.declared.opened.Opened.TheVariants as opened
@@ -30,7 +31,7 @@ use Rattle.scan_run.proofs.Streaming.{nothing_written}
 
 -- ---- the search of a file
 
-module _ (pattern : Pattern) (tree : Node) where
+module _ (pattern : Pattern) (tree : KnownTree) where
   search_once : (s t : Status) (ls ms : List (List ℕ)) → SearchEnds pattern tree s ls → SearchEnds pattern tree t ms → (t ≡ s) × (ms ≡ ls)
   search_once _ _ _ _ (too_many more) (too_many _) = (refl, refl)
   search_once _ _ _ _ (too_many more) (done members whole) = absurd (few_or_more (IsMember pattern tree) 10000 members whole.0 whole.1 more)
@@ -43,7 +44,7 @@ HasSearched (TooMany n) = Unit {0}
 HasSearched Done = Unit {0}
 HasSearched _ = ⊥
 
-has_searched : (pattern : Pattern) (tree : Node) (s : Status) (ls : List (List ℕ)) → SearchEnds pattern tree s ls → HasSearched s
+has_searched : (pattern : Pattern) (tree : KnownTree) (s : Status) (ls : List (List ℕ)) → SearchEnds pattern tree s ls → HasSearched s
 has_searched pattern tree _ _ (too_many more) = tt
 has_searched pattern tree _ _ (done members whole) = tt
 
@@ -80,20 +81,23 @@ search_steps BadPattern b o a h e f = absurd h
 
 -- ---- the file that bytes are
 
-file_small : (lang : Lang) (bytes : List ℕ) (tree : Node) → IsFileOf lang bytes tree → length bytes ≤ 1000000
+file_small : (lang : Lang) (bytes : List ℕ) (tree : KnownTree) → IsFileOf lang bytes tree → length bytes ≤ 1000000
 file_small lang bytes tree f = f.is_text.0
 
-pub file_read : (lang : Lang) (bytes : List ℕ) (view : FileView) → IsOpened IsTree lang bytes (opened.Read view) → IsFileOf lang bytes view.tree
-file_read lang bytes view o = record { is_text = o.0; is_tree = o.1 }
+pub file_read : (lang : Lang) (bytes : List ℕ) (view : FileView) → IsOpened IsTree lang bytes (opened.Read view) → IsFileOf lang bytes (known_tree view)
+file_read lang bytes view o = record { is_text = o.0; is_tree = o.1; nothing_known = o.2.nothing_known }
 
-pub only_read : (lang : Lang) (bytes : List ℕ) (view : FileView) → HasOnlyTree IsTree lang bytes (opened.Read view) → IsOnlyFile lang bytes view.tree
-only_read lang bytes view only tree f = only tree f.is_tree
+pub only_read : (lang : Lang) (bytes : List ℕ) (view : FileView) → HasOnlyTree IsTree lang bytes (opened.Read view) → view.known ≡ [] → IsOnlyFile lang bytes (known_tree view)
+only_read lang bytes view only nothing file f =
+    let T : Node → KnownTree = λ t. record { tree = t; known = file.known } in
+    let K : List Known → KnownTree = λ ks. record { tree = view.tree; known = ks } in
+    ap T (only file.tree f.is_tree) ∙ ap K (f.nothing_known ∙ sym nothing)
 
 -- bytes that are opened as no file of the language are none
 pub none_opened : (lang : Lang) (bytes : List ℕ) (o : Opened) → ((view : FileView) → o ≡ opened.Read view → ⊥) → length bytes ≤ 1000000 → IsOpened IsTree lang bytes o → HasNoFile lang bytes
 none_opened lang bytes opened.TooLarge nay small large tree f = absurd (omega arith)
 none_opened lang bytes opened.NotUtf8 nay small none tree f = none.1 f.is_text.1
-none_opened lang bytes (opened.NoTree view) nay small none tree f = none.1 tree f.is_tree
+none_opened lang bytes (opened.NoTree view) nay small none tree f = none.1 tree.tree f.is_tree
 none_opened lang bytes (opened.Read view) nay small is tree f = nay view refl
 
 -- ---- a match
@@ -101,7 +105,7 @@ none_opened lang bytes (opened.Read view) nay small is tree f = nay view refl
 module _ (lang : Lang) (text input : List ℕ) where
   -- the text writes one pattern, and the input has one tree
   abbrev pub Settled : Type 0
-  Settled = (p q : Pattern) (t u : Node) → IsPatternOf lang text p → IsPatternOf lang text q → IsFileOf lang input t → IsFileOf lang input u → (q ≡ p) × (u ≡ t)
+  Settled = (p q : Pattern) (t u : KnownTree) → IsPatternOf lang text p → IsPatternOf lang text q → IsFileOf lang input t → IsFileOf lang input u → (q ≡ p) × (u ≡ t)
 
   match_once : (s t : Status) (ls ms : List (List ℕ)) → (HasSearched s → Settled) → MatchEnds lang text input s ls → MatchEnds lang text input t ms → (t ≡ s) × (ms ≡ ls)
   match_once _ _ _ _ settled (bad_pattern none) (bad_pattern _) = (refl, refl)
@@ -122,7 +126,7 @@ module _ (lang : Lang) (text input : List ℕ) where
   match_once s r ls ms settled (searched p t _ _ is file ends) (searched q u _ _ is' file' ends') =
       let same = settled (has_searched p t s ls ends) p q t u is is' file file' in
       let P : Pattern → Type 0 = λ x. SearchEnds x u r ms in
-      let Q : Node → Type 0 = λ x. SearchEnds p x r ms in
+      let Q : KnownTree → Type 0 = λ x. SearchEnds p x r ms in
       search_once p t s r ls ms ends (subst Q same.1 (subst P same.0 ends'))
 
 -- what was written and the status are those of the one way to end
@@ -186,7 +190,7 @@ module _ (lang : Lang) (text : List ℕ) (pattern : Pattern) (is : IsPatternOf l
   pub ends_bad_target : IsAtEnd after → length read ≤ 1000000 → HasNoFile lang read → Unprinted lang text left BadTarget
   ends_bad_target end small none = record { input = read; told = whole_input left after read h end; ends = bad_target pattern is small none }
 
-  module _ (end : IsAtEnd after) (tree : Node) (file : IsFileOf lang read tree) where
+  module _ (end : IsAtEnd after) (tree : KnownTree) (file : IsFileOf lang read tree) where
     found : (s : Status) (lines : List (List ℕ)) → SearchEnds pattern tree s lines → Matches lang text left s lines
     found s lines ends = (read, whole_input left after read h end, searched pattern tree s lines is file ends)
 

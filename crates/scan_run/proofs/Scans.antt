@@ -9,8 +9,7 @@ use Rattle.scan_world.specs.Streams.{AppendsFront}
 use Rattle.report_form.specs.declared.report.Report.{Report}
 use Rattle.report_form.specs.declared.report.Reported.{Reported}
 use Rattle.languages.specs.declared.patterns.Languages.{Languages}
-use Rattle.languages.specs.Trees.{IsTree}
-use Rattle.scan_session.specs.declared.rule_file.RuleFile.{RuleFile}
+use Rattle.rule_files.specs.declared.rule_file.RuleFile.{RuleFile}
 use Rattle.scan_session.specs.declared.scanner.Scanner.{Scanner}
 use Rattle.scan_session.specs.Fresh.{IsFresh}
 use Rattle.scan_session.specs.Scans.{HasScanned}
@@ -23,7 +22,7 @@ use Rattle.scan_run.specs.Ways.{Printed, PrintedFront, IsOnlyEnd}
 use Rattle.scan_run.specs.Taking.{File, AreFiles, limit_end, FilesEnd}
 use Rattle.scan_run.specs.Scanned.{ScansFiles}
 use Rattle.scan_run.specs.Config.{IsConfig, IsRules, ConfigEnds, IsOneFile, HasRules, HasConfigEnd}
-use Rattle.scan_run.specs.Scan.{report_line, status_of, HasMoreFindings, ReportEnds, too_many, reported, ScanEnds, over_limit, searched, Scans, no_rules, with_rules, IsOneReport}
+use Rattle.scan_run.specs.Scan.{grammars, report_line, status_of, HasMoreFindings, ReportEnds, too_many, reported, ScanEnds, over_limit, searched, Scans, no_rules, with_rules, IsOneReport}
 use Rattle.scan_run.proofs.Streaming.{nothing_written}
 use Rattle.scan_run.proofs.Files.{config_once, files_once}
 use Rattle.scan_run.proofs.Rules.{same_rules, rules_or_end, config_ends_once}
@@ -40,8 +39,8 @@ finished false results = tt
 module _ (flag : Bool) (most : ℕ) (refused : List (List ℕ)) (files : List File) (rules : RuleFile) where
   report_once : (s t : Status) (ls ms : List (List ℕ)) → (IsFinished s → IsOneReport refused files rules) → ReportEnds flag most refused files rules s ls → ReportEnds flag most refused files rules t ms → Same s t ls ms
   report_once _ _ _ _ one (too_many more) (too_many _) = (refl, refl)
-  report_once _ _ _ _ one (too_many more) (reported report fresh few) = absurd (exclusive IsTree refused files (rules ∷ []) most report fresh few more)
-  report_once _ _ _ _ one (reported report fresh few) (too_many more) = absurd (exclusive IsTree refused files (rules ∷ []) most report fresh few more)
+  report_once _ _ _ _ one (too_many more) (reported report fresh few) = absurd (exclusive grammars refused files (rules ∷ []) most report fresh few more)
+  report_once _ _ _ _ one (reported report fresh few) (too_many more) = absurd (exclusive grammars refused files (rules ∷ []) most report fresh few more)
   report_once _ _ _ _ one (reported report fresh few) (reported other fresh' few') =
       let same : other ≡ report = one (finished flag report.results) other report fresh' fresh in
       (ap (λ (r : Report). status_of flag r.results) same, ap (λ (r : Report). report_line r ∷ []) same)
@@ -62,7 +61,7 @@ pub ends_too_many : (flag : Bool) (most : ℕ) (refused : List (List ℕ)) (file
 ends_too_many flag most refused files rules w n e more = let P : ℕ → Type 0 = λ k. ReportEnds flag most refused files rules (TooMany k) [] in record { lines = []; ends = subst P (sym e) (too_many more); printed = nothing_written w }
 
 module _ (flag : Bool) (most : ℕ) (refused : List (List ℕ)) (files : List File) (rules : RuleFile) (w v : Option (List ℕ)) where
-  module _ (report : Report) (fresh : IsFresh IsTree refused files (rules ∷ []) report) (few : length report.results ≤ most) where
+  module _ (report : Report) (fresh : IsFresh grammars refused files (rules ∷ []) report) (few : length report.results ≤ most) where
     pub ends_reported : (s : Status) → s ≡ status_of flag report.results → Appends w v (report_line report) → Printed (ReportEnds flag most refused files rules) w v s
     ends_reported s e put =
         let P : Status → Type 0 = λ x. ReportEnds flag most refused files rules x (report_line report ∷ []) in
@@ -83,11 +82,11 @@ module _ (flag : Bool) (most : ℕ) (refused : List (List ℕ)) (files : List Fi
 -- ---- by the scan of the files
 
 -- the scan has looked at the files, by the rule file that is the only one
-pub has_scanned : (refused : List (List ℕ)) (rules : RuleFile) (all : List RuleFile) (most : ℕ) (told : Option Files) (prefix : List ℕ) (old new : Scanner Languages) (h : ScansFiles told prefix old new) → all ≡ rules ∷ [] → HasScanned IsTree refused all most [] old → HasScanned IsTree refused (rules ∷ []) most h.files new
-has_scanned refused rules all most told prefix old new h e begun = let P : List RuleFile → Type 0 = λ l. HasScanned IsTree refused l most [] old in h.scans refused (rules ∷ []) most [] h.ascend (subst P e begun)
+pub has_scanned : (refused : List (List ℕ)) (rules : RuleFile) (all : List RuleFile) (most : ℕ) (told : Option Files) (prefix : List ℕ) (old new : Scanner Languages) (h : ScansFiles told prefix old new) → all ≡ rules ∷ [] → HasScanned grammars refused all most [] old → HasScanned grammars refused (rules ∷ []) most h.files new
+has_scanned refused rules all most told prefix old new h e begun = let P : List RuleFile → Type 0 = λ l. HasScanned grammars refused l most [] old in h.scans refused (rules ∷ []) most [] h.ascend (subst P e begun)
 
 -- two reports are one where each is this one
-pub one_report : (refused : List (List ℕ)) (files : List File) (rules : RuleFile) (report : Report) → ((r : Report) → IsFresh IsTree refused files (rules ∷ []) r → r ≡ report) → IsOneReport refused files rules
+pub one_report : (refused : List (List ℕ)) (files : List File) (rules : RuleFile) (report : Report) → ((r : Report) → IsFresh grammars refused files (rules ∷ []) r → r ≡ report) → IsOneReport refused files rules
 one_report refused files rules report only a b x y = only a x ∙ sym (only b y)
 
 -- how a scan ends whose report was printed is no fault

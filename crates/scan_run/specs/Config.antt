@@ -3,8 +3,8 @@ use Rattle.std.specs.Prelude.{◌≡◌, ℕ, ◌<◌, ◌≤◌, List, length, 
 use Rattle.scan_world.specs.Files.{Files}
 use Rattle.scan_world.specs.Trees.{LacksFile, HasFront}
 use Rattle.pattern_read.specs.Patterns.{IsPatternOf}
-use Rattle.scan_session.specs.declared.rule_file.RuleFile.{RuleFile}
-use Rattle.scan_session.specs.RuleFiles.{IsRuleFile, outcomes_of}
+use Rattle.rule_files.specs.declared.rule_file.RuleFile.{RuleFile}
+use Rattle.rule_files.specs.RuleFiles.{IsRuleFile, outcomes_of}
 use Rattle.scan_run.specs.declared.status.Status.{Status}
 use Rattle.scan_run.specs.declared.status.Status.TheVariants.{OverLimit, NoSuchPath}
 use Rattle.scan_run.specs.declared.status.LimitKind.TheVariants.{RuleBytes, Rules}

@@ -6,7 +6,7 @@ pub mod Ways
 pub mod Matching
 pub mod Taking
 pub mod Config
-pub mod Scanned
 pub mod Scan
+pub mod Scanned
 pub mod Steps
 pub mod Run

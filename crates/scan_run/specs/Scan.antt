@@ -6,16 +6,22 @@ use Rattle.report_form.specs.declared.report.Reported.{Reported}
 use Rattle.finding_json.specs.Reports.{report_data}
 use Rattle.scan_world.specs.Files.{Files}
 use Rattle.languages.specs.Trees.{IsTree}
-use Rattle.scan_session.specs.declared.rule_file.RuleFile.{RuleFile}
+use Rattle.languages.specs.Comments.{AreComments}
+use Rattle.rule_files.specs.declared.rule_file.RuleFile.{RuleFile}
 use Rattle.scan_session.specs.Sets.{HasMore}
 use Rattle.scan_session.specs.Reports.{reported_cmp}
 use Rattle.scan_session.specs.Running.{running}
+use Rattle.scan_session.specs.Quieted.{Grammars}
 use Rattle.scan_session.specs.Fresh.{IsResult, IsFresh}
 use Rattle.wire_words.specs.Commands.{Task}
 use Rattle.scan_run.specs.declared.status.Status.{Status}
 use Rattle.scan_run.specs.declared.status.Status.TheVariants.{TooMany, Done, Findings}
 use Rattle.scan_run.specs.Taking.{File, AreFiles, limit_end}
 use Rattle.scan_run.specs.Config.{IsConfig, IsRules, ConfigEnds}
+
+-- the trees and the comments of texts in JSON, Python and C
+abbrev pub grammars : Grammars
+grammars = record { spells = IsTree; comments = AreComments }
 
 -- the line of a report: its JSON text without blanks, and a line feed
 abbrev pub report_line : Report → List ℕ
@@ -28,12 +34,12 @@ status_of _ _ = Done
 
 -- the rules have more findings in the files than that, without those that use a refused text
 abbrev pub HasMoreFindings : List (List ℕ) → List File → RuleFile → ℕ → Type 0
-HasMoreFindings refused files rules most = HasMore reported_cmp (IsResult IsTree (running refused (rules ∷ [])) files) most
+HasMoreFindings refused files rules most = HasMore reported_cmp (IsResult grammars (running refused (rules ∷ [])) files) most
 
 -- how the search of the files ends: by its report, or by the number of findings
 pub data ReportEnds (flag : Bool) (most : ℕ) (refused : List (List ℕ)) (files : List File) (rules : RuleFile) : Status → List (List ℕ) → Type 0 where
   too_many : HasMoreFindings refused files rules most → ReportEnds flag most refused files rules (TooMany most) []
-  reported : (report : Report) → IsFresh IsTree refused files (rules ∷ []) report → length report.results ≤ most → ReportEnds flag most refused files rules (status_of flag report.results) (report_line report ∷ [])
+  reported : (report : Report) → IsFresh grammars refused files (rules ∷ []) report → length report.results ≤ most → ReportEnds flag most refused files rules (status_of flag report.results) (report_line report ∷ [])
 
 -- how a scan by these rules ends, by the files that are read
 pub data ScanEnds (task : Task) (refused : List (List ℕ)) (rules : RuleFile) (files : List File) : Status → List (List ℕ) → Type 0 where
@@ -49,4 +55,4 @@ pub data Scans (task : Task) (told : Option Files) (refused : List (List ℕ)) :
 
 -- the files, the rules and the refused texts give one report at most
 abbrev pub IsOneReport : List (List ℕ) → List File → RuleFile → Type 0
-IsOneReport refused files rules = (one other : Report) → IsFresh IsTree refused files (rules ∷ []) one → IsFresh IsTree refused files (rules ∷ []) other → one ≡ other
+IsOneReport refused files rules = (one other : Report) → IsFresh grammars refused files (rules ∷ []) one → IsFresh grammars refused files (rules ∷ []) other → one ≡ other

@@ -3,11 +3,11 @@ use Rattle.std.specs.Prelude.{◌≡◌, ℕ, List, [], ◌∷◌, None, Option}
 use Rattle.tree_match.specs.Ascending.{IsAscending}
 use Rattle.scan_world.specs.Files.{Files}
 use Rattle.languages.specs.declared.patterns.Languages.{Languages}
-use Rattle.languages.specs.Trees.{IsTree}
-use Rattle.scan_session.specs.declared.rule_file.RuleFile.{RuleFile}
+use Rattle.rule_files.specs.declared.rule_file.RuleFile.{RuleFile}
 use Rattle.scan_session.specs.declared.scanner.Scanner.{Scanner}
 use Rattle.scan_session.specs.Fresh.{file_cmp}
 use Rattle.scan_session.specs.Scans.{Scans, HasScanned}
+use Rattle.scan_run.specs.Scan.{grammars}
 use Rattle.scan_run.specs.Taking.{File, AreRead, AreFiles, limit_end}
 
 -- the files at these paths were scanned, which are within the limits
@@ -15,7 +15,7 @@ pub record ScansRead (told : Option Files) (paths : List (List ℕ)) (old new : 
   pub files : List File
   pub are_read : AreRead told paths files
   pub within : limit_end 0 0 files ≡ None
-  pub scans : Scans IsTree files old new
+  pub scans : Scans grammars files old new
 
 -- so were those under the prefix that are taken, in order of path
 pub record ScansFiles (told : Option Files) (prefix : List ℕ) (old new : Scanner Languages) : Type 0 where
@@ -23,8 +23,8 @@ pub record ScansFiles (told : Option Files) (prefix : List ℕ) (old new : Scann
   pub are : AreFiles told prefix files
   pub ascend : IsAscending file_cmp files
   pub within : limit_end 0 0 files ≡ None
-  pub scans : Scans IsTree files old new
+  pub scans : Scans grammars files old new
 
 -- it holds of what a scan by one rule file has looked at
 abbrev pub AfterScanBy : Scanner Languages → (List (List ℕ) → RuleFile → ℕ → List File → Type 0) → Type 0
-AfterScanBy scanner P = (refused : List (List ℕ)) (rules : RuleFile) (most : ℕ) (files : List File) → HasScanned IsTree refused (rules ∷ []) most files scanner → P refused rules most files
+AfterScanBy scanner P = (refused : List (List ℕ)) (rules : RuleFile) (most : ℕ) (files : List File) → HasScanned grammars refused (rules ∷ []) most files scanner → P refused rules most files

@@ -7,7 +7,7 @@ ghost use Rattle.scan_run.specs.Config.{IsRules, ConfigEnds, IsOneFile, HasRules
 
 use crate::status::{LimitKind, Status};
 use languages::Languages;
-use scan_session::{RuleFile, read_rule_file};
+use rule_files::{RuleFile, read_rule_file};
 use scan_world::{Tree, TreeFault};
 use std::alloc::Global;
 

@@ -3,6 +3,7 @@
 ghost use Rattle.std.specs.Prelude.{◌≡◌, ◌⊎◌, ◌+◌, ◌≤◌, IsSome};
 ghost use Rattle.std.specs.Io.KnownBytes.{IsAtEnd};
 ghost use Rattle.scan_world.specs.Faults.{Rose};
+ghost use Rattle.tree_match.specs.Members.{known_tree};
 ghost use Rattle.scan_run.specs.Status.{IsAnswer, IsOfSearch, IsOfMatch};
 ghost use Rattle.scan_run.specs.Ways.{Printed, PrintedFront, PrintedSome, IsOnlyEnd};
 ghost use Rattle.scan_run.specs.Matching.{SearchEnds, Matches};
@@ -28,11 +29,11 @@ fn print_members<K: Sink, L: Ledger>(
     out: &mut K,
     steps: &mut Steps<L>,
 ) -> Status
-    ensures ends { IsAnswer result → Printed (SearchEnds pattern.now file.now.tree) (K.written out.old) (K.written out.new) result }
+    ensures ends { IsAnswer result → Printed (SearchEnds pattern.now (known_tree file.now)) (K.written out.old) (K.written out.new) result }
     ensures output_kept { IsAnswer result → K.faults out.new ≡ K.faults out.old }
     ensures output_fault { result ≡ Status.OutputFault → Rose (K.faults out.old) (K.faults out.new) }
-    ensures front_written { result ≡ Status.OutputFault → PrintedFront (SearchEnds pattern.now file.now.tree) (K.written out.old) (K.written out.new) }
-    ensures whole_lines { result ≡ Status.Memory → (K.written out.new ≡ K.written out.old) ⊎ PrintedSome (SearchEnds pattern.now file.now.tree) (K.written out.old) (K.written out.new) }
+    ensures front_written { result ≡ Status.OutputFault → PrintedFront (SearchEnds pattern.now (known_tree file.now)) (K.written out.old) (K.written out.new) }
+    ensures whole_lines { result ≡ Status.Memory → (K.written out.new ≡ K.written out.old) ⊎ PrintedSome (SearchEnds pattern.now (known_tree file.now)) (K.written out.old) (K.written out.new) }
     ensures one_step { steps.new ≡ steps.old + 1 }
     ensures cause { IsOfSearch result }
 {

@@ -10,7 +10,7 @@ use Rattle.std.proofs.lemmas.List.{take_more, map-append}
 use Rattle.std.proofs.lemmas.List.Concat.{flat_map-append}
 use Rattle.std.proofs.lemmas.List.Folds.{list_any-append}
 use Rattle.std.proofs.lemmas.Map.Text.{btree_map_updates_str}
-use Rattle.tree_match.specs.Sets.{Among}
+use Rattle.node_match.specs.Sets.{Among}
 use Rattle.scan_session.specs.Refused.{gained, Gains}
 use Rattle.scan_session.specs.Running.{Stated, is_taken, is_refused, texts_of}
 use Rattle.scan_session.specs.declared.running.Entry.{Entry}

@@ -1,6 +1,6 @@
 -- Globs that match a path.
 use Rattle.std.proofs.Common.{◌≡◌, inl, inr, ◌↔◌, ℕ, List, [], ◌∷◌, refl, sym, subst}
-use Rattle.tree_match.specs.Sets.{Among}
+use Rattle.node_match.specs.Sets.{Among}
 use Rattle.scan_session.specs.Looking.{GlobMatches, SomeMatches}
 
 -- where some glob matches, one of those that are left does

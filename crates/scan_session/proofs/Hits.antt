@@ -7,19 +7,19 @@ use Rattle.std.specs.declared.cmp.Ordering.TheVariants.{Less, Equal}
 use Rattle.std.specs.Ordering.{ordering_then, nat_cmp}
 use Rattle.std.proofs.lemmas.Cmp.{nat_cmp_total, tied_itself}
 use Rattle.node_tree.specs.declared.memory.Memory.{Memory}
-use Rattle.node_tree.specs.declared.node.Node.{Node}
 use Rattle.node_tree.specs.declared.view.Lang.{Lang}
 use Rattle.node_tree.specs.Span.{span_cmp}
 use Rattle.meta_bind.specs.declared.finding.Finding.{Finding}
 use Rattle.meta_bind.specs.Bounds.{name_cmp}
 use Rattle.rule_form.specs.declared.rule.Rule.{Rule}
-use Rattle.tree_match.specs.Sets.{Among, Adds}
+use Rattle.node_match.specs.Sets.{Among, Adds}
 use Rattle.tree_match.specs.Ascending.{IsAscending}
-use Rattle.tree_match.proofs.Sets.{gathered, pushed}
+use Rattle.node_match.proofs.Sets.{gathered, pushed}
 use Rattle.tree_match.proofs.Placed.{all_among}
 use Rattle.part_judge.specs.Findings.{findings_of, IsFindingPlaced}
 use Rattle.report_form.specs.declared.notice.Notice.{Notice}
 use Rattle.report_form.specs.declared.report.Reported.{Reported}
+use Rattle.tree_match.specs.Members.{KnownTree}
 use Rattle.scan_session.specs.declared.looking.Judged.{Judged}
 use Rattle.scan_session.specs.Sets.{IsExactly}
 use Rattle.scan_session.specs.Reports.{reported, reported_cmp, bound_cmp}
@@ -119,7 +119,7 @@ module _ (rules : List Rule) where
 
 -- ---- what holds of findings that were judged
 
-module _ (path : List ℕ) (lang : Lang) (text : List ℕ) (tree : Node) (rules : List Rule) (judged : List Judged) (all : (x : Judged) → Among judged x ↔ IsJudged path lang text tree rules x) where
+module _ (path : List ℕ) (lang : Lang) (text : List ℕ) (tree : KnownTree) (rules : List Rule) (judged : List Judged) (all : (x : Judged) → Among judged x ↔ IsJudged path lang text tree rules x) where
   pub numbered : AreNumbered rules judged
   numbered x h = let j = (all x).0 h in (j.rule, j.at)
 
@@ -249,7 +249,7 @@ reports_end path text rules all results left far left-is =
 
 -- ---- what the code makes of them
 
-pub found_all : (path : List ℕ) (lang : Lang) (text : List ℕ) (tree : Node) (rules : List Rule) (judged found : List Judged) → found ≡ judged → ((x : Judged) → Among judged x ↔ IsJudged path lang text tree rules x) → (x : Judged) → Among found x ↔ IsJudged path lang text tree rules x
+pub found_all : (path : List ℕ) (lang : Lang) (text : List ℕ) (tree : KnownTree) (rules : List Rule) (judged found : List Judged) → found ≡ judged → ((x : Judged) → Among judged x ↔ IsJudged path lang text tree rules x) → (x : Judged) → Among found x ↔ IsJudged path lang text tree rules x
 found_all path lang text tree rules judged found e all x = let P : List Judged → Type 0 = λ js. Among js x ↔ IsJudged path lang text tree rules x in subst P (sym e) (all x)
 
 pub shown_all : (rules : List Rule) (found : List Judged) (unsorted rows shown : List Hit) → shown ≡ rows → ((h : Hit) → Among rows h ↔ Among unsorted h) → ((h : Hit) → Among unsorted h ↔ IsHit rules found h) → (h : Hit) → Among shown h ↔ IsHit rules found h

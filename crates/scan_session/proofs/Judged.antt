@@ -2,17 +2,16 @@
 use Rattle.std.proofs.Common.{◌≡◌, ◌⊎◌, inl, inr, ◌↔◌, ℕ, ◌+◌, ◌<◌, ◌≤◌, List, [], ◌∷◌, ◌++◌, length, refl, sym, ap, ◌∙◌, subst, Some, Ok, append_assoc, append-nil, arith}
 use Rattle.std.specs.Prelude.{Option, Result, Err, IfOk, slice_get, All}
 use Rattle.node_tree.specs.declared.memory.Memory.{Memory}
-use Rattle.node_tree.specs.declared.node.Node.{Node}
 use Rattle.node_tree.specs.declared.view.Lang.{Lang}
 use Rattle.node_tree.specs.declared.view.Pattern.{Pattern}
 use Rattle.rule_form.specs.declared.rule.Rule.{Rule}
 use Rattle.rule_form.specs.declared.rule.Part.{Part}
 use Rattle.tree_match.specs.declared.leaf.Leaf.{Leaf}
 use Rattle.tree_match.specs.declared.leaf.Leaf.TheVariants.{Full, Crowded}
-use Rattle.tree_match.specs.Sets.{Among, Adds}
-use Rattle.tree_match.specs.Members.{Member, IsMember}
+use Rattle.node_match.specs.Sets.{Among, Adds}
+use Rattle.tree_match.specs.Members.{Member, KnownTree, IsMember}
 use Rattle.tree_match.specs.Leaf.{IsLeaf}
-use Rattle.tree_match.proofs.Sets.{gathered, pushed, among_more, adds_as, adds_none}
+use Rattle.node_match.proofs.Sets.{gathered, pushed, among_more, adds_as, adds_none}
 use Rattle.tree_match.proofs.Exclusion.{whole_once, few_or_more}
 use Rattle.part_judge.specs.declared.outcome.Outcome.{Outcome}
 use Rattle.part_judge.specs.Findings.{PartFinds, findings_of, IsFindingPlaced}
@@ -29,22 +28,22 @@ leaf_one Set (Full xs) Crowded h k = absurd (few_or_more Set 10000 xs h.0 h.1 k)
 leaf_one Set Crowded (Full ys) h k = absurd (few_or_more Set 10000 ys k.0 k.1 h)
 leaf_one Set Crowded Crowded h k = refl
 
-leaves_one : (tree : Node) (ps : List Pattern) (ls ms : List Leaf) → AreLeaves tree ps ls → AreLeaves tree ps ms → ls ≡ ms
+leaves_one : (tree : KnownTree) (ps : List Pattern) (ls ms : List Leaf) → AreLeaves tree ps ls → AreLeaves tree ps ms → ls ≡ ms
 leaves_one tree [] ls ms h k = h ∙ sym k
 leaves_one tree (p ∷ ps) ls ms (l, l-is, (ls', h, e)) (m, m-is, (ms', k, f)) =
     e ∙ ap (λ (x : Leaf). x ∷ ls') (leaf_one (IsMember p tree) l m l-is m-is) ∙ ap (λ (xs : List Leaf). m ∷ xs) (leaves_one tree ps ls' ms' h k) ∙ sym f
 
 -- the members of the patterns that are left, behind these, are those of all
-abbrev pub Leads : Node → List Pattern → List Leaf → List Pattern → Type 0
+abbrev pub Leads : KnownTree → List Pattern → List Leaf → List Pattern → Type 0
 Leads tree all leaves left = (rest : List Leaf) → AreLeaves tree left rest → AreLeaves tree all (leaves ++ rest)
 
-pub leads_start : (tree : Node) (all left : List Pattern) (leaves : List Leaf) → leaves ≡ [] → left ≡ all → Leads tree all leaves left
+pub leads_start : (tree : KnownTree) (all left : List Pattern) (leaves : List Leaf) → leaves ≡ [] → left ≡ all → Leads tree all leaves left
 leads_start tree all left leaves e f rest are =
     let P : List Pattern → Type 0 = λ ps. AreLeaves tree ps rest in
     let Q : List Leaf → Type 0 = λ ls. AreLeaves tree all (ls ++ rest) in
     subst Q (sym e) (subst P f are)
 
-pub leads_on : (tree : Node) (all : List Pattern) (old new : List Leaf) (left ps : List Pattern) (p : Pattern) (leaf : Leaf)
+pub leads_on : (tree : KnownTree) (all : List Pattern) (old new : List Leaf) (left ps : List Pattern) (p : Pattern) (leaf : Leaf)
     → Leads tree all old left → left ≡ p ∷ ps → new ≡ old ++ leaf ∷ [] → IsLeaf (IsMember p tree) leaf → Leads tree all new ps
 leads_on tree all old new left ps p leaf far left-is new-is is rest are =
     let P : List Pattern → Type 0 = λ xs. AreLeaves tree xs (leaf ∷ rest) in
@@ -52,7 +51,7 @@ leads_on tree all old new left ps p leaf far left-is new-is is rest are =
     let R : List Leaf → Type 0 = λ xs. AreLeaves tree all (xs ++ rest) in
     subst R (sym new-is) (subst Q (sym (append_assoc old (leaf ∷ []) rest)) (far (leaf ∷ rest) (subst P (sym left-is) (leaf, is, (rest, are, refl)))))
 
-pub leads_end : (tree : Node) (all : List Pattern) (leaves : List Leaf) (left : List Pattern) → Leads tree all leaves left → left ≡ [] → AreLeaves tree all leaves
+pub leads_end : (tree : KnownTree) (all : List Pattern) (leaves : List Leaf) (left : List Pattern) → Leads tree all leaves left → left ≡ [] → AreLeaves tree all leaves
 leads_end tree all leaves left far left-is =
     let P : List Pattern → Type 0 = λ xs. AreLeaves tree xs [] in
     let Q : List Leaf → Type 0 = λ xs. AreLeaves tree all xs in
@@ -60,7 +59,7 @@ leads_end tree all leaves left far left-is =
 
 -- ---- one part
 
-pub part_judges : (texts : List (List ℕ)) (text : List ℕ) (tree : Node) (parts : List Part) (k n : ℕ) (p : Part) (leaves : List Leaf) → slice_get parts k ≡ Some p → n ≡ k → AreLeaves tree p.patterns leaves → (r : Result Outcome Memory)
+pub part_judges : (texts : List (List ℕ)) (text : List ℕ) (tree : KnownTree) (parts : List Part) (k n : ℕ) (p : Part) (leaves : List Leaf) → slice_get parts k ≡ Some p → n ≡ k → AreLeaves tree p.patterns leaves → (r : Result Outcome Memory)
     → IfOk r (PartFinds leaves texts text (slice_get parts n)) → IfOk r (λ found. (o : Outcome) → PartFinds leaves texts text (slice_get parts n) o → o ≡ found) → IfOk r (PartJudges texts text tree p)
 part_judges texts text tree parts k n p leaves at n-is are (Err e) finds only = tt
 part_judges texts text tree parts k n p leaves at n-is are (Ok found) finds only =
@@ -90,7 +89,7 @@ part_only leaves given texts text some parts n r e f h =
 
 -- ---- the parts of a rule
 
-module _ (texts : List (List ℕ)) (lang : Lang) (text : List ℕ) (tree : Node) (number : ℕ) where
+module _ (texts : List (List ℕ)) (lang : Lang) (text : List ℕ) (tree : KnownTree) (number : ℕ) where
   next_part : (p : Part) (all ps : List Part) (x : Judged) → all ≡ p ∷ ps → RuleJudges texts lang text tree number all x ↔ (PartAdds texts lang text tree number p x ⊎ RuleJudges texts lang text tree number ps x)
   next_part p all ps x e =
       let P : List Part → Type 0 = λ qs. RuleJudges texts lang text tree number qs x ↔ (PartAdds texts lang text tree number p x ⊎ RuleJudges texts lang text tree number ps x) in
@@ -134,10 +133,10 @@ module _ (texts : List (List ℕ)) (lang : Lang) (text : List ℕ) (tree : Node)
     λ h. elim ((far x).1 h) [ inl a ↦ a | inr l ↦ (let P : List Part → Type 0 = λ ps. Among ps l.part in absurd (subst P left-is l.has)) ],
   )
 
-pub rule_adds : (lang : Lang) (text : List ℕ) (tree : Node) (number : ℕ) (path : List ℕ) (rule : Rule) (old new : List Judged) → Allows rule path → Adds old new (RuleJudges rule.texts lang text tree number rule.parts) → Adds old new (RuleAdds path lang text tree number rule)
+pub rule_adds : (lang : Lang) (text : List ℕ) (tree : KnownTree) (number : ℕ) (path : List ℕ) (rule : Rule) (old new : List Judged) → Allows rule path → Adds old new (RuleJudges rule.texts lang text tree number rule.parts) → Adds old new (RuleAdds path lang text tree number rule)
 rule_adds lang text tree number path rule old new allows adds = adds_as old new (RuleJudges rule.texts lang text tree number rule.parts) (RuleAdds path lang text tree number rule) adds (λ x. (λ h. (allows, h), λ h. h.1))
 
-pub rule_adds_none : (lang : Lang) (text : List ℕ) (tree : Node) (number : ℕ) (path : List ℕ) (rule : Rule) (old : List Judged) → (Allows rule path → ⊥) → Adds old old (RuleAdds path lang text tree number rule)
+pub rule_adds_none : (lang : Lang) (text : List ℕ) (tree : KnownTree) (number : ℕ) (path : List ℕ) (rule : Rule) (old : List Judged) → (Allows rule path → ⊥) → Adds old old (RuleAdds path lang text tree number rule)
 rule_adds_none lang text tree number path rule old barred = adds_none old (RuleAdds path lang text tree number rule) (λ x h. barred h.0)
 
 pub all_placed_start : (text : List ℕ) (judged : List Judged) → judged ≡ [] → AreAllPlaced text judged
@@ -151,7 +150,7 @@ all_placed_more text old new y all new-is one x h =
 
 -- ---- all rules
 
-module _ (path : List ℕ) (lang : Lang) (text : List ℕ) (tree : Node) (rules : List Rule) where
+module _ (path : List ℕ) (lang : Lang) (text : List ℕ) (tree : KnownTree) (rules : List Rule) where
   -- what the rules before that number find
   abbrev pub UpTo : ℕ → List Judged → Type 0
   UpTo n judged = (x : Judged) → Among judged x ↔ (IsJudged path lang text tree rules x × (x.number < n))

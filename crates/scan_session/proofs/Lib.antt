@@ -1,8 +1,8 @@
-pub mod Contents
 pub mod Members
 pub mod Asking
 pub mod Taking
 pub mod Orders
+pub mod Quieted
 pub mod Ids
 pub mod Globs
 pub mod Views

@@ -5,7 +5,7 @@ use Rattle.std.specs.List.{flat_map}
 use Rattle.std.proofs.lemmas.List.{reverse-append}
 use Rattle.std.proofs.lemmas.Option.{slice_get_within, slice_get_read, slice_get_cases}
 use Rattle.meta_bind.proofs.Lookups.{opened}
-use Rattle.tree_match.specs.Sets.{Among, Adds}
+use Rattle.node_match.specs.Sets.{Among, Adds}
 
 module _ {X : Type 0} where
   pub among_left : (xs ys : List X) (x : X) → Among xs x → Among (xs ++ ys) x

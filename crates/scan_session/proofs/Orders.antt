@@ -5,7 +5,7 @@ use Rattle.std.specs.declared.cmp.Ordering.TheVariants.{Less, Equal, Greater}
 use Rattle.std.specs.Ordering.{ordering_then}
 use Rattle.std.specs.Cmp.{IsTotalOrder}
 use Rattle.std.proofs.lemmas.Cmp.{tied_itself}
-use Rattle.tree_match.specs.Sets.{Among}
+use Rattle.node_match.specs.Sets.{Among}
 use Rattle.tree_match.specs.Ascending.{IsAscending}
 use Rattle.scan_session.specs.Sets.{IsExactly, HasMore}
 
@@ -20,11 +20,11 @@ module _ {X : Type 0} (R : X → X → Ordering) (o : IsTotalOrder R) where
   not_both : (x y : X) → R x y ≡ Less → R y x ≡ Less → ⊥
   not_both x y e f = not_itself x x refl (o.trans x y x e f)
 
-  tail_ascends : (x : X) (xs : List X) → IsAscending R (x ∷ xs) → IsAscending R xs
+  pub tail_ascends : (x : X) (xs : List X) → IsAscending R (x ∷ xs) → IsAscending R xs
   tail_ascends x [] up = tt
   tail_ascends x (y ∷ ys) up = up.1
 
-  first_below : (x : X) (xs : List X) (y : X) → IsAscending R (x ∷ xs) → Among xs y → R x y ≡ Less
+  pub first_below : (x : X) (xs : List X) (y : X) → IsAscending R (x ∷ xs) → Among xs y → R x y ≡ Less
   first_below x [] y up h = absurd h
   first_below x (z ∷ zs) y up (inl e) = let P : X → Type 0 = λ w. R x w ≡ Less in subst P e up.0
   first_below x (z ∷ zs) y up (inr h) = o.trans x z y up.0 (first_below z zs y up.1 h)

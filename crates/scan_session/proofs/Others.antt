@@ -3,18 +3,18 @@ use Rattle.std.proofs.Common.{◌≡◌, ◌⊎◌, inl, inr, ℕ, suc, Bool, tr
 use Rattle.std.specs.Prelude.{if◌then◌else◌}
 use Rattle.std.proofs.lemmas.List.{map-append}
 use Rattle.rule_form.specs.declared.rule.Rule.{Rule}
-use Rattle.file_open.specs.Reading.{Spells}
 use Rattle.rule_entries.specs.declared.outcome.RuleFault.{RuleFault}
 use Rattle.rule_entries.specs.declared.outcome.RuleOutcome.{RuleOutcome}
 use Rattle.rule_entries.specs.declared.outcome.RuleOutcome.TheVariants.{Good, Bad}
-use Rattle.tree_match.specs.Sets.{Among}
+use Rattle.node_match.specs.Sets.{Among}
 use Rattle.report_form.specs.declared.report.Report.{Report}
 use Rattle.report_form.specs.declared.report.Reported.{Reported}
-use Rattle.scan_session.specs.declared.rule_file.RuleFile.{RuleFile}
-use Rattle.scan_session.specs.RuleFiles.{outcomes_of}
+use Rattle.rule_files.specs.declared.rule_file.RuleFile.{RuleFile}
+use Rattle.rule_files.specs.RuleFiles.{outcomes_of}
 use Rattle.scan_session.specs.Sets.{IsExactly}
 use Rattle.scan_session.specs.Reports.{reported_cmp}
 use Rattle.scan_session.specs.Running.{Stated, stated_at, stated_from, stated, is_taken, is_out, firsts, built, running}
+use Rattle.scan_session.specs.Quieted.{Grammars}
 use Rattle.scan_session.specs.Fresh.{File, IsResultIn, IsResult, IsFresh}
 use Rattle.scan_session.specs.HitOrder.{reported_total}
 use Rattle.scan_session.specs.Others.{file_of, KeepsOtherFiles, KeepsOtherRules}
@@ -22,8 +22,8 @@ use Rattle.scan_session.proofs.Orders.{exactly_once}
 
 -- ---- one file more
 
-path_is : (spells : Spells) (rules : List Rule) (file : File) (r : Reported) → IsResultIn spells rules file r → r.path ≡ file.0
-path_is spells rules file r (o, is, (lang, tree, shows, found)) = ap (λ (x : Reported). x.path) found.is
+path_is : (grammars : Grammars) (rules : List Rule) (file : File) (r : Reported) → IsResultIn grammars rules file r → r.path ≡ file.0
+path_is grammars rules file r (o, is, (lang, tree, shows, shown)) = ap (λ (x : Reported). x.path) shown.is_found.is
 
 one_of : (before after : List File) (file other : File) → Among (before ++ file ∷ after) other → (file ≡ other) ⊎ Among (before ++ after) other
 one_of [] after file other h = h
@@ -36,18 +36,18 @@ still_there (b ∷ bs) after file other (inl e) = inl e
 still_there (b ∷ bs) after file other (inr h) = inr (still_there bs after file other h)
 
 -- whatever a file holds, the findings of other paths are those of a scan without it
-pub other_files : (spells : Spells) (refused : List (List ℕ)) (files : List File) (rule_files : List RuleFile) (more : Report) → IsFresh spells refused files rule_files more → KeepsOtherFiles spells refused files rule_files more
-other_files spells refused files rule_files more a before after file less e b r apart = (
+pub other_files : (grammars : Grammars) (refused : List (List ℕ)) (files : List File) (rule_files : List RuleFile) (more : Report) → IsFresh grammars refused files rule_files more → KeepsOtherFiles grammars refused files rule_files more
+other_files grammars refused files rule_files more a before after file less e b r apart = (
   λ h. let f = (whole.exact r).0 h in
       elim (one_of before after file f.0 f.1) [
-        | inl e ↦ absurd (apart (path_is spells (running refused rule_files) f.0 r f.2 ∙ ap (λ (x : File). x.0) (sym e)))
+        | inl e ↦ absurd (apart (path_is grammars (running refused rule_files) f.0 r f.2 ∙ ap (λ (x : File). x.0) (sym e)))
         | inr k ↦ (b.results.exact r).1 (f.0, k, f.2)
       ],
   λ h. let f = (b.results.exact r).0 h in (whole.exact r).1 (f.0, still_there before after file f.0 f.1, f.2),
 )
   where
-    whole : IsExactly reported_cmp (IsResult spells (running refused rule_files) (before ++ file ∷ after)) more.results
-    whole = let P : List File → Type 0 = λ fs. IsExactly reported_cmp (IsResult spells (running refused rule_files) fs) more.results in subst P e a.results
+    whole : IsExactly reported_cmp (IsResult grammars (running refused rule_files) (before ++ file ∷ after)) more.results
+    whole = let P : List File → Type 0 = λ fs. IsExactly reported_cmp (IsResult grammars (running refused rule_files) fs) more.results in subst P e a.results
 
 -- ---- one entry more that is no rule
 
@@ -112,8 +112,8 @@ same_entries : (name : List ℕ) (os ps : List RuleOutcome) (fault : RuleFault) 
 same_entries name os ps fault = rules_from name 0 (os ++ Bad fault ∷ ps) ∙ past_bad os ps fault ∙ sym (rules_from name 0 (os ++ ps))
 
 -- the findings are those of the rule files without the entry
-pub other_rules : (spells : Spells) (refused : List (List ℕ)) (files : List File) (rule_files : List RuleFile) (more : Report) → IsFresh spells refused files rule_files more → KeepsOtherRules spells refused files rule_files more
-other_rules spells refused files rule_files more a before after name os ps fault less e b =
+pub other_rules : (grammars : Grammars) (refused : List (List ℕ)) (files : List File) (rule_files : List RuleFile) (more : Report) → IsFresh grammars refused files rule_files more → KeepsOtherRules grammars refused files rule_files more
+other_rules grammars refused files rule_files more a before after name os ps fault less e b =
     let same = ap (λ (rs : List RuleFile). running refused rs) e ∙ same_running refused before after (file_of name (os ++ Bad fault ∷ ps)) (file_of name (os ++ ps)) (same_entries name os ps fault) in
-    let P : List Rule → Type 0 = λ l. IsExactly reported_cmp (IsResult spells l files) more.results in
-    exactly_once reported_cmp reported_total (IsResult spells (running refused (before ++ file_of name (os ++ ps) ∷ after)) files) more.results less.results (subst P same a.results) b.results
+    let P : List Rule → Type 0 = λ l. IsExactly reported_cmp (IsResult grammars l files) more.results in
+    exactly_once reported_cmp reported_total (IsResult grammars (running refused (before ++ file_of name (os ++ ps) ∷ after)) files) more.results less.results (subst P same a.results) b.results

@@ -11,8 +11,8 @@ use Rattle.std.proofs.lemmas.Map.Text.{is_eq-slice_cmp}
 use Rattle.rule_form.specs.declared.rule.Rule.{Rule}
 use Rattle.rule_entries.specs.declared.outcome.RuleOutcome.{RuleOutcome}
 use Rattle.report_form.specs.declared.notice.Notice.{Notice}
-use Rattle.scan_session.specs.declared.rule_file.RuleFile.{RuleFile}
-use Rattle.scan_session.specs.RuleFiles.{outcomes_of}
+use Rattle.rule_files.specs.declared.rule_file.RuleFile.{RuleFile}
+use Rattle.rule_files.specs.RuleFiles.{outcomes_of}
 use Rattle.scan_session.specs.Running.{Stated, stated_at, stated_from, stated, texts_of, is_taken, is_out, built, firsts, stated_notices, first_notices, repeat_notice, file_notices, rule_notices}
 use Rattle.scan_session.specs.Building.{Built, HoldsAll}
 use Rattle.scan_session.specs.Taking.{HasJust, ids_after, run_of, rules_at, notices_at}

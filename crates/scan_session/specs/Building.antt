@@ -4,7 +4,7 @@ use Rattle.std.specs.Borrow.{Bor}
 use Rattle.std.specs.BTreeMap.{BTreeMap, get_by}
 use Rattle.std.specs.Cmp.Lexicographic.{slice_cmp}
 use Rattle.std.specs.Ordering.{nat_cmp}
-use Rattle.tree_match.specs.Sets.{Among}
+use Rattle.node_match.specs.Sets.{Among}
 use Rattle.scan_session.specs.Running.{is_taken, is_refused}
 
 -- texts, each with its regular expression, or with none where it was refused

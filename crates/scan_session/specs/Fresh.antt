@@ -1,15 +1,15 @@
--- What a scan of files by rule files reports, where texts have the trees that a reader spells.
+-- What a scan of files by rule files reports, where texts have the trees and the comments that a reader gives.
 use Rattle.std.specs.Prelude.{◌≡◌, ◌⊎◌, ℕ, List, [], ◌∷◌}
 use Rattle.std.specs.Option.{unwrap_or}
 use Rattle.std.specs.declared.cmp.Ordering.{Ordering}
-use Rattle.node_tree.specs.declared.node.Node.{Node}
 use Rattle.node_tree.specs.declared.view.Lang.{Lang}
 use Rattle.node_tree.specs.declared.view.Lang.TheVariants.{Regex}
 use Rattle.path_glob.specs.Path.{language}
 use Rattle.meta_bind.specs.declared.finding.Finding.{Finding}
 use Rattle.meta_bind.specs.Bounds.{name_cmp}
 use Rattle.rule_form.specs.declared.rule.Rule.{Rule}
-use Rattle.tree_match.specs.Sets.{Among}
+use Rattle.node_match.specs.Sets.{Among}
+use Rattle.tree_match.specs.Members.{KnownTree, known_tree}
 use Rattle.file_open.specs.declared.opened.Opened.{Opened}
 use Rattle.file_open.specs.declared.opened.Opened.TheVariants as opened
 use Rattle.part_judge.specs.declared.outcome.Outcome.{Outcome}
@@ -20,11 +20,12 @@ use Rattle.report_form.specs.declared.notice.Notice.{Notice}
 use Rattle.report_form.specs.declared.notice.NoticeKind.TheVariants as kinds
 use Rattle.report_form.specs.declared.report.Reported.{Reported}
 use Rattle.report_form.specs.declared.report.Report.{Report}
-use Rattle.scan_session.specs.declared.rule_file.RuleFile.{RuleFile}
+use Rattle.rule_files.specs.declared.rule_file.RuleFile.{RuleFile}
 use Rattle.scan_session.specs.Sets.{IsExactly}
 use Rattle.scan_session.specs.Notes.{notice, notice_cmp}
 use Rattle.scan_session.specs.Running.{running, rule_notices}
 use Rattle.scan_session.specs.Looking.{RuleFinds}
+use Rattle.scan_session.specs.Quieted.{Comments, Grammars, IsQuietedIn}
 use Rattle.scan_session.specs.Reports.{reported, reported_cmp, outcome_notices}
 
 -- a path, and the bytes there
@@ -39,10 +40,10 @@ file_cmp f g = name_cmp f.0 g.0
 abbrev pub lang_at : List ℕ → Lang
 lang_at path = unwrap_or (language path) Regex
 
--- the file can be looked at, in that language and with that tree
-abbrev pub Shows : Opened → Lang → Node → Type 0
-Shows (opened.Read view) lang tree = (view.lang ≡ lang) × (view.tree ≡ tree)
-Shows (opened.NoTree view) lang tree = (view.lang ≡ lang) × (view.tree ≡ tree)
+-- the file can be looked at, in that language, with that tree and with the names in it that are known to hold literals
+abbrev pub Shows : Opened → Lang → KnownTree → Type 0
+Shows (opened.Read view) lang tree = (view.lang ≡ lang) × (known_tree view ≡ tree)
+Shows (opened.NoTree view) lang tree = (view.lang ≡ lang) × (known_tree view ≡ tree)
 Shows _ lang tree = ⊥
 
 -- why the file at a path cannot be looked at, or has no tree
@@ -53,7 +54,7 @@ opened_notices path (opened.NoTree view) = notice path [] kinds.NoTree [] ∷ []
 opened_notices path (opened.Read view) = []
 
 -- a finding of one of the rules, in the file at a path, which is a text of that language with that tree
-pub record IsFoundIn (rules : List Rule) (path : List ℕ) (lang : Lang) (text : List ℕ) (tree : Node) (r : Reported) : Type 0 where
+pub record IsFoundIn (rules : List Rule) (path : List ℕ) (lang : Lang) (text : List ℕ) (tree : KnownTree) (r : Reported) : Type 0 where
   pub rule : Rule
   pub runs : Among rules rule
   pub outcome : Outcome
@@ -62,8 +63,13 @@ pub record IsFoundIn (rules : List Rule) (path : List ℕ) (lang : Lang) (text :
   pub found : Among (findings_of outcome) finding
   pub is : r ≡ reported path text rule finding
 
+-- such a finding that no comment of the file quiets
+pub record IsShownIn (comments : Comments) (rules : List Rule) (path : List ℕ) (lang : Lang) (text : List ℕ) (tree : KnownTree) (r : Reported) : Type 0 where
+  pub is_found : IsFoundIn rules path lang text tree r
+  pub not_quieted : IsQuietedIn comments lang text r → ⊥
+
 -- a notice of what one of the rules finds there
-pub record IsNotedIn (rules : List Rule) (path : List ℕ) (lang : Lang) (text : List ℕ) (tree : Node) (n : Notice) : Type 0 where
+pub record IsNotedIn (rules : List Rule) (path : List ℕ) (lang : Lang) (text : List ℕ) (tree : KnownTree) (n : Notice) : Type 0 where
   pub rule : Rule
   pub runs : Among rules rule
   pub outcome : Outcome
@@ -71,29 +77,29 @@ pub record IsNotedIn (rules : List Rule) (path : List ℕ) (lang : Lang) (text :
   pub told : Among (outcome_notices path rule.id outcome) n
 
 -- what holds of the language and the tree of a file that is opened so and can be looked at
-abbrev pub InView : Opened → (Lang → Node → Type 0) → Type 0
-InView o P = (lang : Lang) × (tree : Node) × Shows o lang tree × P lang tree
+abbrev pub InView : Opened → (Lang → KnownTree → Type 0) → Type 0
+InView o P = (lang : Lang) × (tree : KnownTree) × Shows o lang tree × P lang tree
 
--- a finding of one of the rules in a file
-abbrev pub IsResultIn : Spells → List Rule → File → Reported → Type 0
-IsResultIn spells rules file r =
-    (o : Opened) × IsOpened spells (lang_at file.0) file.1 o × InView o (λ lang tree. IsFoundIn rules file.0 lang file.1 tree r)
+-- a finding of one of the rules in a file that no comment there quiets
+abbrev pub IsResultIn : Grammars → List Rule → File → Reported → Type 0
+IsResultIn grammars rules file r =
+    (o : Opened) × IsOpened grammars.spells (lang_at file.0) file.1 o × InView o (λ lang tree. IsShownIn grammars.comments rules file.0 lang file.1 tree r)
 
 -- a notice of a file: how it is opened, or what one of the rules finds there
 abbrev pub IsNoticeIn : Spells → List Rule → File → Notice → Type 0
 IsNoticeIn spells rules file n =
     (o : Opened) × IsOpened spells (lang_at file.0) file.1 o × (Among (opened_notices file.0 o) n ⊎ InView o (λ lang tree. IsNotedIn rules file.0 lang file.1 tree n))
 
--- a finding in one of the files
-abbrev pub IsResult : Spells → List Rule → List File → Reported → Type 0
-IsResult spells rules files r = (file : File) × Among files file × IsResultIn spells rules file r
+-- one in one of the files
+abbrev pub IsResult : Grammars → List Rule → List File → Reported → Type 0
+IsResult grammars rules files r = (file : File) × Among files file × IsResultIn grammars rules file r
 
 -- a notice of one of the files
 abbrev pub IsFileNotice : Spells → List Rule → List File → Notice → Type 0
 IsFileNotice spells rules files n = (file : File) × Among files file × IsNoticeIn spells rules file n
 
--- The findings of the rules that run where these texts are refused, and the notices of rule files and files, each in order and
--- each once.
-pub record IsFresh (spells : Spells) (refused : List (List ℕ)) (files : List File) (rule_files : List RuleFile) (report : Report) : Type 0 where
-  pub results : IsExactly reported_cmp (IsResult spells (running refused rule_files) files) report.results
-  pub notices : IsExactly notice_cmp (λ n. Among (rule_notices refused rule_files) n ⊎ IsFileNotice spells (running refused rule_files) files n) report.notices
+-- The findings of the rules that run where these texts are refused, without those that comments quiet, and the notices of rule
+-- files and files, each in order and each once.
+pub record IsFresh (grammars : Grammars) (refused : List (List ℕ)) (files : List File) (rule_files : List RuleFile) (report : Report) : Type 0 where
+  pub results : IsExactly reported_cmp (IsResult grammars (running refused rule_files) files) report.results
+  pub notices : IsExactly notice_cmp (λ n. Among (rule_notices refused rule_files) n ⊎ IsFileNotice grammars.spells (running refused rule_files) files n) report.notices

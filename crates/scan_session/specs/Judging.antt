@@ -1,10 +1,10 @@
 -- What the code knows of what rules find in a file.
 use Rattle.std.specs.Prelude.{◌≡◌, ℕ, List, [], ◌∷◌, Option, None, Some, slice_get, All}
-use Rattle.node_tree.specs.declared.node.Node.{Node}
 use Rattle.node_tree.specs.declared.view.Lang.{Lang}
 use Rattle.rule_form.specs.declared.rule.Rule.{Rule}
 use Rattle.rule_form.specs.declared.rule.Part.{Part}
-use Rattle.tree_match.specs.Sets.{Among}
+use Rattle.node_match.specs.Sets.{Among}
+use Rattle.tree_match.specs.Members.{KnownTree}
 use Rattle.meta_bind.specs.declared.finding.Finding.{Finding}
 use Rattle.part_judge.specs.declared.outcome.Outcome.{Outcome}
 use Rattle.part_judge.specs.Findings.{findings_of, IsFindingPlaced}
@@ -16,16 +16,16 @@ use Rattle.scan_session.specs.Reports.{reported, outcome_notices}
 use Rattle.scan_session.specs.Hits.{Hit}
 
 -- the part finds this and nothing else
-pub record PartJudges (texts : List (List ℕ)) (text : List ℕ) (tree : Node) (part : Part) (outcome : Outcome) : Type 0 where
+pub record PartJudges (texts : List (List ℕ)) (text : List ℕ) (tree : KnownTree) (part : Part) (outcome : Outcome) : Type 0 where
   pub finds : PartFindsIn texts text tree part outcome
   pub only : (o : Outcome) → PartFindsIn texts text tree part o → o ≡ outcome
 
 -- what a part of the rule with that number and these regular expressions finds, if it looks at the file
-abbrev pub PartAdds : List (List ℕ) → Lang → List ℕ → Node → ℕ → Part → Judged → Type 0
+abbrev pub PartAdds : List (List ℕ) → Lang → List ℕ → KnownTree → ℕ → Part → Judged → Type 0
 PartAdds texts lang text tree number part x = LooksAt part lang × (x.number ≡ number) × PartFindsIn texts text tree part x.found
 
 -- what one of the parts of that rule finds, which looks at the file
-pub record RuleJudges (texts : List (List ℕ)) (lang : Lang) (text : List ℕ) (tree : Node) (number : ℕ) (parts : List Part) (x : Judged) : Type 0 where
+pub record RuleJudges (texts : List (List ℕ)) (lang : Lang) (text : List ℕ) (tree : KnownTree) (number : ℕ) (parts : List Part) (x : Judged) : Type 0 where
   pub number_is : x.number ≡ number
   pub part : Part
   pub has : Among parts part
@@ -33,11 +33,11 @@ pub record RuleJudges (texts : List (List ℕ)) (lang : Lang) (text : List ℕ) 
   pub finds : PartFindsIn texts text tree part x.found
 
 -- what the rule with that number finds, if its globs allow the path
-abbrev pub RuleAdds : List ℕ → Lang → List ℕ → Node → ℕ → Rule → Judged → Type 0
+abbrev pub RuleAdds : List ℕ → Lang → List ℕ → KnownTree → ℕ → Rule → Judged → Type 0
 RuleAdds path lang text tree number rule x = Allows rule path × RuleJudges rule.texts lang text tree number rule.parts x
 
 -- what one of the rules finds
-pub record IsJudged (path : List ℕ) (lang : Lang) (text : List ℕ) (tree : Node) (rules : List Rule) (x : Judged) : Type 0 where
+pub record IsJudged (path : List ℕ) (lang : Lang) (text : List ℕ) (tree : KnownTree) (rules : List Rule) (x : Judged) : Type 0 where
   pub rule : Rule
   pub at : slice_get rules x.number ≡ Some rule
   pub finds : RuleFinds path lang text tree rule x.found

@@ -1,5 +1,4 @@
 pub mod Sets
-pub mod RuleFiles
 pub mod Notes
 pub mod NoteOrder
 pub mod Refused
@@ -11,6 +10,7 @@ pub mod Reports
 pub mod Hits
 pub mod HitOrder
 pub mod Judging
+pub mod Quieted
 pub mod Fresh
 pub mod Others
 pub mod Scans

@@ -1,6 +1,5 @@
 -- Where rules look, and what they find there.
 use Rattle.std.specs.Prelude.{◌≡◌, ◌⊎◌, ℕ, List, [], ◌∷◌, Some, Any, Contains}
-use Rattle.node_tree.specs.declared.node.Node.{Node}
 use Rattle.node_tree.specs.declared.view.Lang.{Lang}
 use Rattle.node_tree.specs.declared.view.Lang.TheVariants.{Regex}
 use Rattle.node_tree.specs.declared.view.Pattern.{Pattern}
@@ -9,8 +8,8 @@ use Rattle.path_glob.specs.Glob.{FitsSegment, FitsFront}
 use Rattle.rule_form.specs.declared.rule.Rule.{Rule}
 use Rattle.rule_form.specs.declared.rule.Part.{Part}
 use Rattle.tree_match.specs.declared.leaf.Leaf.{Leaf}
-use Rattle.tree_match.specs.Sets.{Among}
-use Rattle.tree_match.specs.Members.{IsMember}
+use Rattle.node_match.specs.Sets.{Among}
+use Rattle.tree_match.specs.Members.{KnownTree, IsMember}
 use Rattle.tree_match.specs.Leaf.{IsLeaf}
 use Rattle.part_judge.specs.declared.outcome.Outcome.{Outcome}
 use Rattle.part_judge.specs.Findings.{PartFinds}
@@ -28,8 +27,8 @@ pub record Allows (rule : Rule) (path : List ℕ) : Type 0 where
   pub included : (rule.include ≡ []) ⊎ SomeMatches rule.include path
   pub not_excluded : SomeMatches rule.exclude path → ⊥
 
--- for each pattern its members in the tree
-abbrev pub AreLeaves : Node → List Pattern → List Leaf → Type 0
+-- for each pattern its members in the file with that tree
+abbrev pub AreLeaves : KnownTree → List Pattern → List Leaf → Type 0
 AreLeaves tree [] leaves = leaves ≡ []
 AreLeaves tree (p ∷ ps) leaves = (leaf : Leaf) × IsLeaf (IsMember p tree) leaf × ((rest : List Leaf) × AreLeaves tree ps rest × (leaves ≡ leaf ∷ rest))
 
@@ -38,11 +37,11 @@ abbrev pub LooksAt : Part → Lang → Type 0
 LooksAt part lang = (part.lang ≡ lang) ⊎ (part.lang ≡ Regex)
 
 -- what a part of a rule with these regular expressions finds in a text with that tree
-abbrev pub PartFindsIn : List (List ℕ) → List ℕ → Node → Part → Outcome → Type 0
+abbrev pub PartFindsIn : List (List ℕ) → List ℕ → KnownTree → Part → Outcome → Type 0
 PartFindsIn texts text tree part outcome = (leaves : List Leaf) × AreLeaves tree part.patterns leaves × PartFinds leaves texts text (Some part) outcome
 
 -- what some part of a rule finds in the file at a path, a text of that language with that tree
-pub record RuleFinds (path : List ℕ) (lang : Lang) (text : List ℕ) (tree : Node) (rule : Rule) (outcome : Outcome) : Type 0 where
+pub record RuleFinds (path : List ℕ) (lang : Lang) (text : List ℕ) (tree : KnownTree) (rule : Rule) (outcome : Outcome) : Type 0 where
   pub allows : Allows rule path
   pub part : Part
   pub has : Among rule.parts part

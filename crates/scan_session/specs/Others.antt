@@ -1,20 +1,20 @@
 -- What files, and entries that are no rules, leave alone where some texts are refused.
 use Rattle.std.specs.Prelude.{◌≡◌, ◌↔◌, ℕ, List, ◌∷◌, ◌++◌}
-use Rattle.tree_match.specs.Sets.{Among}
-use Rattle.file_open.specs.Reading.{Spells}
+use Rattle.node_match.specs.Sets.{Among}
 use Rattle.rule_entries.specs.declared.outcome.RuleFault.{RuleFault}
 use Rattle.rule_entries.specs.declared.outcome.RuleOutcome.{RuleOutcome}
 use Rattle.rule_entries.specs.declared.outcome.RuleOutcome.TheVariants.{Bad}
 use Rattle.report_form.specs.declared.report.Report.{Report}
 use Rattle.report_form.specs.declared.report.Reported.{Reported}
-use Rattle.scan_session.specs.declared.rule_file.RuleContent.TheVariants.{Rules}
-use Rattle.scan_session.specs.declared.rule_file.RuleFile.{RuleFile}
+use Rattle.rule_files.specs.declared.rule_file.RuleContent.TheVariants.{Rules}
+use Rattle.rule_files.specs.declared.rule_file.RuleFile.{RuleFile}
+use Rattle.scan_session.specs.Quieted.{Grammars}
 use Rattle.scan_session.specs.Fresh.{File, IsFresh}
 
 -- Whatever a file holds, the findings in the others are those of a scan without it.
-abbrev pub KeepsOtherFiles : Spells → List (List ℕ) → List File → List RuleFile → Report → Type 0
-KeepsOtherFiles spells refused files rule_files report =
-    (before after : List File) (file : File) (less : Report) → files ≡ before ++ file ∷ after → IsFresh spells refused (before ++ after) rule_files less → (r : Reported) → (r.path ≡ file.0 → ⊥)
+abbrev pub KeepsOtherFiles : Grammars → List (List ℕ) → List File → List RuleFile → Report → Type 0
+KeepsOtherFiles grammars refused files rule_files report =
+    (before after : List File) (file : File) (less : Report) → files ≡ before ++ file ∷ after → IsFresh grammars refused (before ++ after) rule_files less → (r : Reported) → (r.path ≡ file.0 → ⊥)
     → Among report.results r ↔ Among less.results r
 
 -- a rule file with these entries
@@ -22,7 +22,7 @@ abbrev pub file_of : List ℕ → List RuleOutcome → RuleFile
 file_of name outcomes = record { name = name; content = Rules outcomes }
 
 -- Where an entry is no rule, the findings are those of a scan without it.
-abbrev pub KeepsOtherRules : Spells → List (List ℕ) → List File → List RuleFile → Report → Type 0
-KeepsOtherRules spells refused files rule_files report =
+abbrev pub KeepsOtherRules : Grammars → List (List ℕ) → List File → List RuleFile → Report → Type 0
+KeepsOtherRules grammars refused files rule_files report =
     (before after : List RuleFile) (name : List ℕ) (os ps : List RuleOutcome) (fault : RuleFault) (less : Report) → rule_files ≡ before ++ file_of name (os ++ Bad fault ∷ ps) ∷ after
-    → IsFresh spells refused files (before ++ file_of name (os ++ ps) ∷ after) less → report.results ≡ less.results
+    → IsFresh grammars refused files (before ++ file_of name (os ++ ps) ∷ after) less → report.results ≡ less.results

@@ -7,15 +7,15 @@ use Rattle.rule_form.specs.declared.rule.Rule.{Rule}
 use Rattle.rule_form.specs.declared.rule.Part.{Part}
 use Rattle.rule_form.specs.declared.rule.Body.{Body}
 use Rattle.rule_form.specs.declared.rule.Body.TheVariants as bodies
-use Rattle.tree_match.specs.Sets.{Among}
+use Rattle.node_match.specs.Sets.{Among}
 use Rattle.rule_entries.specs.declared.outcome.RuleOutcome.{RuleOutcome}
 use Rattle.rule_entries.specs.declared.outcome.RuleOutcome.TheVariants.{Good, Bad}
 use Rattle.report_form.specs.declared.notice.Notice.{Notice}
 use Rattle.report_form.specs.declared.notice.NoticeKind.TheVariants as kinds
-use Rattle.scan_session.specs.declared.rule_file.RuleContent.{RuleContent}
-use Rattle.scan_session.specs.declared.rule_file.RuleContent.TheVariants as contents
-use Rattle.scan_session.specs.declared.rule_file.RuleFile.{RuleFile}
-use Rattle.scan_session.specs.RuleFiles.{outcomes_of}
+use Rattle.rule_files.specs.declared.rule_file.RuleContent.{RuleContent}
+use Rattle.rule_files.specs.declared.rule_file.RuleContent.TheVariants as contents
+use Rattle.rule_files.specs.declared.rule_file.RuleFile.{RuleFile}
+use Rattle.rule_files.specs.RuleFiles.{outcomes_of}
 use Rattle.scan_session.specs.Notes.{notice, kind_of, feature_word}
 
 -- a rule, the name of its file and the number of its entry there, from 0

@@ -1,7 +1,7 @@
 -- Lists of whole sets.
 use Rattle.std.specs.Prelude.{◌↔◌, ◌<◌, ℕ, List, length}
 use Rattle.std.specs.declared.cmp.Ordering.{Ordering}
-use Rattle.tree_match.specs.Sets.{Among}
+use Rattle.node_match.specs.Sets.{Among}
 use Rattle.tree_match.specs.Ascending.{IsAscending}
 
 -- the items of the set, all of them, in order and each once

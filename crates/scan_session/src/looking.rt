@@ -1,7 +1,8 @@
 //! Where rules look, and what they find there.
 
 ghost use Rattle.std.specs.Prelude.{◌≡◌, ◌<◌, ◌↔◌, length, slice_get, All, IsTrue, IfOk, OnOk, Some};
-ghost use Rattle.tree_match.specs.Sets.{Among, Adds};
+ghost use Rattle.node_match.specs.Sets.{Among, Adds};
+ghost use Rattle.tree_match.specs.Members.{known_tree};
 ghost use Rattle.tree_match.specs.Placed.{IsLeafPlaced};
 ghost use Rattle.part_judge.specs.Findings.{findings_of, IsFindingPlaced};
 ghost use Rattle.rule_form.specs.declared.rule.Part.{Part as a_part};
@@ -10,13 +11,13 @@ ghost use Rattle.scan_session.specs.declared.looking.Judged.{Judged as a_judged}
 ghost use Rattle.scan_session.specs.Judging.{PartJudges, PartAdds, RuleJudges, RuleAdds, IsJudged, AreAllPlaced};
 
 use crate::runner::Runner;
-use node_tree::{FileView, Lang, List, Memory, Pattern, Steps, Text};
+use node_tree::{Lang, List, Memory, Pattern, Steps, Text};
 use part_judge::{Found, judge};
 use path_glob::matches;
 use rule_form::{Part, Rule};
 use std::alloc::Global;
 use std::sync::ledger::Ledger;
-use tree_match::{Leaf, match_leaf};
+use tree_match::{Leaf, ReadyFile, match_ready};
 
 /// What one of the rules finds in a file: its number among the rules that run, from 0, and what it finds.
 #[derive(Drop)]
@@ -64,16 +65,16 @@ fn looks_at(part: &Part, lang: Lang) -> bool
 // The members of each pattern.
 fn leaves_of<L: Ledger>(
     alloc: Global,
-    view: &FileView,
+    view: &ReadyFile<'_>,
     patterns: &[Pattern],
     steps: &mut Steps<L>,
 ) -> Result<List<Leaf>, Memory>
-    ensures leaves { IfOk result (AreLeaves view.now.tree patterns.now) }
+    ensures leaves { IfOk result (AreLeaves (known_tree view.now) patterns.now) }
     ensures placed { IfOk result (λ leaves. All (λ leaf. IsLeafPlaced view.now.bytes leaf) leaves) }
 {
     let mut leaves = List::new(alloc);
     for pattern in patterns {
-        leaves.push(match_leaf(alloc, view, pattern, steps)?)?;
+        leaves.push(match_ready(alloc, view, pattern, steps)?)?;
     }
     Ok(leaves)
 }
@@ -81,13 +82,13 @@ fn leaves_of<L: Ledger>(
 // What the part with that number finds.
 fn judge_part<L: Ledger>(
     alloc: Global,
-    view: &FileView,
+    view: &ReadyFile<'_>,
     rule: &Runner<'_>,
     part: usize,
     steps: &mut Steps<L>,
 ) -> Result<Found, Memory>
     requires { part < length rule.now.parts }
-    ensures finds { (p : a_part) → slice_get rule.now.parts part ≡ Some p → IfOk result (PartJudges rule.now.texts view.now.bytes view.now.tree p) }
+    ensures finds { (p : a_part) → slice_get rule.now.parts part ≡ Some p → IfOk result (PartJudges rule.now.texts view.now.bytes (known_tree view.now) p) }
     ensures placed { IfOk result (λ found. All (λ finding. IsFindingPlaced view.now.bytes finding) (findings_of found)) }
 {
     let Ok(number) = u32::try_from(part) else {
@@ -101,13 +102,13 @@ fn judge_part<L: Ledger>(
         rule.parts.as_slice()[part].patterns.as_slice(),
         steps,
     )?;
-    judge(alloc, view, rule, number, &leaves, &mut rx)
+    judge(alloc, view.view(), rule, number, &leaves, &mut rx)
 }
 
 // Adds what the part with that number finds, if it looks at the file.
 fn add_part<L: Ledger>(
     alloc: Global,
-    view: &FileView,
+    view: &ReadyFile<'_>,
     number: usize,
     rule: &Runner<'_>,
     part: usize,
@@ -115,10 +116,10 @@ fn add_part<L: Ledger>(
     judged: &mut Vec<Judged>,
 ) -> Result<(), Memory>
     requires { part < length rule.now.parts }
-    ensures judged { (p : a_part) → slice_get rule.now.parts part ≡ Some p → OnOk result (Adds judged.old.items judged.new.items (PartAdds rule.now.texts view.now.lang view.now.bytes view.now.tree number p)) }
+    ensures judged { (p : a_part) → slice_get rule.now.parts part ≡ Some p → OnOk result (Adds judged.old.items judged.new.items (PartAdds rule.now.texts view.now.lang view.now.bytes (known_tree view.now) number p)) }
     ensures placed { AreAllPlaced view.now.bytes judged.old.items → OnOk result (AreAllPlaced view.now.bytes judged.new.items) }
 {
-    if !looks_at(&rule.rule().parts.as_slice()[part], view.lang) {
+    if !looks_at(&rule.rule().parts.as_slice()[part], view.view().lang) {
         return Ok(());
     }
     let found = judge_part(alloc, view, rule, part, steps)?;
@@ -129,13 +130,13 @@ fn add_part<L: Ledger>(
 // Adds what each part of the rule finds that looks at the file.
 fn add_parts<L: Ledger>(
     alloc: Global,
-    view: &FileView,
+    view: &ReadyFile<'_>,
     number: usize,
     rule: &Runner<'_>,
     steps: &mut Steps<L>,
     judged: &mut Vec<Judged>,
 ) -> Result<(), Memory>
-    ensures judged { OnOk result (Adds judged.old.items judged.new.items (RuleJudges rule.now.texts view.now.lang view.now.bytes view.now.tree number rule.now.parts)) }
+    ensures judged { OnOk result (Adds judged.old.items judged.new.items (RuleJudges rule.now.texts view.now.lang view.now.bytes (known_tree view.now) number rule.now.parts)) }
     ensures placed { AreAllPlaced view.now.bytes judged.old.items → OnOk result (AreAllPlaced view.now.bytes judged.new.items) }
 {
     for part in 0..rule.rule().parts.len() {
@@ -148,13 +149,13 @@ fn add_parts<L: Ledger>(
 fn add_rule<L: Ledger>(
     alloc: Global,
     path: &str,
-    view: &FileView,
+    view: &ReadyFile<'_>,
     number: usize,
     rule: &Runner<'_>,
     steps: &mut Steps<L>,
     judged: &mut Vec<Judged>,
 ) -> Result<(), Memory>
-    ensures judged { OnOk result (Adds judged.old.items judged.new.items (RuleAdds path.now view.now.lang view.now.bytes view.now.tree number rule.now)) }
+    ensures judged { OnOk result (Adds judged.old.items judged.new.items (RuleAdds path.now view.now.lang view.now.bytes (known_tree view.now) number rule.now)) }
     ensures placed { AreAllPlaced view.now.bytes judged.old.items → OnOk result (AreAllPlaced view.now.bytes judged.new.items) }
 {
     if !allows(rule.rule(), path) {
@@ -167,11 +168,11 @@ fn add_rule<L: Ledger>(
 pub fn judge_all<L: Ledger>(
     alloc: Global,
     path: &str,
-    view: &FileView,
+    view: &ReadyFile<'_>,
     running: &[Runner<'_>],
     steps: &mut Steps<L>,
 ) -> Result<Vec<Judged>, Memory>
-    ensures judged { IfOk result (λ judged. (x : a_judged) → Among judged.items x ↔ IsJudged path.now view.now.lang view.now.bytes view.now.tree running.now x) }
+    ensures judged { IfOk result (λ judged. (x : a_judged) → Among judged.items x ↔ IsJudged path.now view.now.lang view.now.bytes (known_tree view.now) running.now x) }
     ensures placed { IfOk result (λ judged. AreAllPlaced view.now.bytes judged.items) }
 {
     let mut judged = Vec::new(alloc);

@@ -1,7 +1,7 @@
 //! Notices, and their order.
 
 ghost use Rattle.std.specs.Prelude.{◌≡◌, ◌↔◌, [], ◌∷◌, ◌++◌, List as list, IfOk, OnOk};
-ghost use Rattle.tree_match.specs.Sets.{Among};
+ghost use Rattle.node_match.specs.Sets.{Among};
 ghost use Rattle.tree_match.specs.Ascending.{IsAscending};
 ghost use Rattle.report_form.specs.declared.notice.Notice.{Notice as a_notice};
 ghost use Rattle.scan_session.specs.Notes.{notice as a_note, notice_cmp};

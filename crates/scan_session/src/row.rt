@@ -1,7 +1,7 @@
 //! Findings of one file in order.
 
 ghost use Rattle.std.specs.Prelude.{◌≡◌, ◌↔◌, IfOk, OnOk};
-ghost use Rattle.tree_match.specs.Sets.{Among, Adds};
+ghost use Rattle.node_match.specs.Sets.{Among, Adds};
 ghost use Rattle.std.specs.Option.{option_cmp};
 ghost use Rattle.node_tree.specs.Span.{span_cmp};
 ghost use Rattle.scan_session.specs.Hits.{Hit};

@@ -3,7 +3,7 @@
 ghost use Rattle.std.specs.Prelude.{◌≡◌, ◌++◌, ◌∷◌, ℕ, List as list, [], map, IfOk, OnOk};
 ghost use Rattle.std.specs.List.{flat_map, list_any};
 ghost use Rattle.rule_form.specs.declared.rule.Part.{Part as a_part};
-ghost use Rattle.scan_session.specs.RuleFiles.{outcomes_of};
+ghost use Rattle.rule_files.specs.RuleFiles.{outcomes_of};
 ghost use Rattle.scan_session.specs.Refused.{gained};
 ghost use Rattle.scan_session.specs.Building.{Holds, HoldsAll, GainsOf};
 ghost use Rattle.scan_session.specs.Notes as notes;
@@ -12,11 +12,11 @@ ghost use Rattle.scan_session.specs.Taking as taking;
 
 use crate::building::{Built, build_all, expression_of, expressions_of};
 use crate::note::{Noted, add_notice};
-use crate::rule_file::{RuleContent, RuleFile};
 use crate::runner::Runner;
 use node_tree::{List, Memory, Text};
 use report_form::NoticeKind;
 use rule_entries::{RuleFaultKind, RuleOutcome};
+use rule_files::{RuleContent, RuleFile};
 use rule_form::{Body, Part, Rule};
 use rx_text::Patterns;
 use std::alloc::Global;

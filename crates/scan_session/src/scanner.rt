@@ -7,19 +7,21 @@ ghost use Rattle.scan_session.specs.Sets.{HasMore};
 ghost use Rattle.scan_session.specs.Reports.{reported_cmp};
 ghost use Rattle.scan_session.specs.Refused.{gained, Gains};
 ghost use Rattle.scan_session.specs.Running.{running as rules_of, AreTextsOf};
+ghost use Rattle.scan_session.specs.Quieted.{grammars_of};
 ghost use Rattle.scan_session.specs.Fresh.{IsFresh, IsResult};
 ghost use Rattle.scan_session.specs.Others.{KeepsOtherFiles, KeepsOtherRules};
 ghost use Rattle.scan_session.specs.Scans.{HasScanned, Scans, AfterScan};
 
 use crate::fault::ScanFault;
 use crate::note::{Noted, in_order};
-use crate::rule_file::RuleFile;
 use crate::runner::Runner;
 use crate::running::take_files;
 use crate::scanning::scan_file;
 use code_reader::TreeReader;
+use comment_reader::CommentReader;
 use node_tree::{Bytes, List, Memory, Steps};
 use report_form::{Report, Reported};
+use rule_files::RuleFile;
 use rx_text::Patterns;
 use std::alloc::Global;
 use std::sync::ledger::Ledger;
@@ -35,7 +37,7 @@ fn append(results: &mut List<Reported>, mut more: List<Reported>) -> Result<(), 
     Ok(())
 }
 
-/// A scan of files that come one after the other, by a reader of trees. It keeps what is to be said of them and not the files.
+/// A scan of files that come one after the other, by a reader of trees and comments. It keeps what is to be said of them and not the files.
 #[derive(Drop)]
 pub struct Scanner<'r, R> {
     reader: &'r R,
@@ -45,7 +47,7 @@ pub struct Scanner<'r, R> {
     notices: Vec<Noted>,
 }
 
-impl<'r, R: TreeReader> Scanner<'r, R> {
+impl<'r, R: TreeReader + CommentReader> Scanner<'r, R> {
     /// A scan by the rules of the rule files, which reports at most so many findings and has no file so far. Files are opened by
     /// the reader. A rule whose id an earlier one has does not run; nor does one with a text that is refused; nor, so far, one
     /// that follows data.
@@ -62,7 +64,7 @@ impl<'r, R: TreeReader> Scanner<'r, R> {
         ensures grows { Gains (P.refusals patterns.old) (P.refusals patterns.new) }
         ensures asked { AreTextsOf rules.now (gained (P.refusals patterns.old) (P.refusals patterns.new)) }
         ensures same_reader { IfOk result (λ scanner. scanner.reader.now ≡ reader.now) }
-        ensures begun { IfOk result (HasScanned (R.spells reader.now) (gained (P.refusals patterns.old) (P.refusals patterns.new)) rules.now most []) }
+        ensures begun { IfOk result (HasScanned (grammars_of (R.spells reader.now) (R.comments reader.now)) (gained (P.refusals patterns.old) (P.refusals patterns.new)) rules.now most []) }
     {
         let mut notices = Vec::new(alloc);
         let running = take_files(alloc, rules, patterns, &mut notices)?;
@@ -91,7 +93,7 @@ impl<'r, R: TreeReader> Scanner<'r, R> {
         bytes: Bytes,
         steps: &mut Steps<L>,
     ) -> Result<(), Memory>
-        ensures scanned { OnOk result (Scans (R.spells self.old.reader.now) ((path.now, bytes) ∷ []) self.old self.new) }
+        ensures scanned { OnOk result (Scans (grammars_of (R.spells self.old.reader.now) (R.comments self.old.reader.now)) ((path.now, bytes) ∷ []) self.old self.new) }
         ensures same_reader { self.new.reader.now ≡ self.old.reader.now }
     {
         if self.is_over() {
@@ -110,18 +112,18 @@ impl<'r, R: TreeReader> Scanner<'r, R> {
         append(&mut self.results, found)
     }
 
-    /// What the rules find in the files, and what there is to be said of both: all findings in order of path, range, rule,
-    /// binding and source, and all notices in order of path, rule, kind and detail, each once.
+    /// What the rules find in the files, and what there is to be said of both: all findings that no comment quiets, in order of
+    /// path, range, rule, binding and source, and all notices in order of path, rule, kind and detail, each once.
     ///
     /// TooMany comes exactly where there are more findings than are reported. A file, whatever it holds, and an entry that is
     /// no rule change no finding of another.
     pub fn report(self, alloc: Global) -> Result<Report, ScanFault>
-        ensures fresh { AfterScan (R.spells self.entry.reader.now) self.entry (λ spells refused rules most files. IfOk result (IsFresh spells refused files rules)) }
-        ensures few { AfterScan (R.spells self.entry.reader.now) self.entry (λ spells refused rules most files. IfOk result (λ report. length report.results ≤ most)) }
-        ensures too_many { AfterScan (R.spells self.entry.reader.now) self.entry (λ spells refused rules most files. (n : ℕ) → result ≡ Err (TooMany n) → (n ≡ most) × HasMore reported_cmp (IsResult spells (rules_of refused rules) files) most) }
-        ensures only { AfterScan (R.spells self.entry.reader.now) self.entry (λ spells refused rules most files. IfOk result (λ report. (r : a_report) → IsFresh spells refused files rules r → r ≡ report)) }
-        ensures other_files { AfterScan (R.spells self.entry.reader.now) self.entry (λ spells refused rules most files. IfOk result (KeepsOtherFiles spells refused files rules)) }
-        ensures other_rules { AfterScan (R.spells self.entry.reader.now) self.entry (λ spells refused rules most files. IfOk result (KeepsOtherRules spells refused files rules)) }
+        ensures fresh { AfterScan (grammars_of (R.spells self.entry.reader.now) (R.comments self.entry.reader.now)) self.entry (λ grammars refused rules most files. IfOk result (IsFresh grammars refused files rules)) }
+        ensures few { AfterScan (grammars_of (R.spells self.entry.reader.now) (R.comments self.entry.reader.now)) self.entry (λ grammars refused rules most files. IfOk result (λ report. length report.results ≤ most)) }
+        ensures too_many { AfterScan (grammars_of (R.spells self.entry.reader.now) (R.comments self.entry.reader.now)) self.entry (λ grammars refused rules most files. (n : ℕ) → result ≡ Err (TooMany n) → (n ≡ most) × HasMore reported_cmp (IsResult grammars (rules_of refused rules) files) most) }
+        ensures only { AfterScan (grammars_of (R.spells self.entry.reader.now) (R.comments self.entry.reader.now)) self.entry (λ grammars refused rules most files. IfOk result (λ report. (r : a_report) → IsFresh grammars refused files rules r → r ≡ report)) }
+        ensures other_files { AfterScan (grammars_of (R.spells self.entry.reader.now) (R.comments self.entry.reader.now)) self.entry (λ grammars refused rules most files. IfOk result (KeepsOtherFiles grammars refused files rules)) }
+        ensures other_rules { AfterScan (grammars_of (R.spells self.entry.reader.now) (R.comments self.entry.reader.now)) self.entry (λ grammars refused rules most files. IfOk result (KeepsOtherRules grammars refused files rules)) }
     {
         if self.is_over() {
             return Err(ScanFault::TooMany(self.most));

@@ -1,18 +1,22 @@
 //! What rules find in a file.
 
 ghost use Rattle.std.specs.Prelude.{IfOk, OnOk};
-ghost use Rattle.tree_match.specs.Sets.{Adds};
+ghost use Rattle.node_match.specs.Sets.{Adds};
+ghost use Rattle.tree_match.specs.Members.{known_tree};
 ghost use Rattle.scan_session.specs.Sets.{IsExactly};
 ghost use Rattle.scan_session.specs.Judging.{AreApart};
 ghost use Rattle.scan_session.specs.Reports.{reported_cmp};
-ghost use Rattle.scan_session.specs.Fresh.{IsResultIn, IsFoundIn, IsNotedIn, IsNoticeIn};
+ghost use Rattle.scan_session.specs.Quieted.{grammars_of};
+ghost use Rattle.scan_session.specs.Fresh.{IsResultIn, IsFoundIn, IsShownIn, IsNotedIn, IsNoticeIn};
 
 use crate::looking::judge_all;
 use crate::note::{Noted, add_notice};
+use crate::quiet::without_quieted;
 use crate::reporting::{note_judged, report_rows};
 use crate::row::rows_of;
 use crate::runner::Runner;
 use code_reader::TreeReader;
+use comment_reader::CommentReader;
 use file_open::{Opened, open_file};
 use node_tree::{Bytes, FileView, Lang, List, Memory, Steps};
 use path_glob::lang_of;
@@ -20,6 +24,7 @@ use report_form::{NoticeKind, Reported};
 use sorted_sets::settled;
 use std::alloc::Global;
 use std::sync::ledger::Ledger;
+use tree_match::ReadyFile;
 
 // What the rules find in the file at that path. The notices are added.
 fn scan_view<L: Ledger>(
@@ -30,10 +35,11 @@ fn scan_view<L: Ledger>(
     steps: &mut Steps<L>,
     notices: &mut Vec<Noted>,
 ) -> Result<List<Reported>, Memory>
-    ensures results { AreApart running.now → IfOk result (IsExactly reported_cmp (IsFoundIn running.now path.now view.now.lang view.now.bytes view.now.tree)) }
-    ensures notices { OnOk result (Adds notices.old.items notices.new.items (IsNotedIn running.now path.now view.now.lang view.now.bytes view.now.tree)) }
+    ensures results { AreApart running.now → IfOk result (IsExactly reported_cmp (IsFoundIn running.now path.now view.now.lang view.now.bytes (known_tree view.now))) }
+    ensures notices { OnOk result (Adds notices.old.items notices.new.items (IsNotedIn running.now path.now view.now.lang view.now.bytes (known_tree view.now))) }
 {
-    let judged = judge_all(alloc, path, view, running, steps)?;
+    let ready = ReadyFile::of(alloc, view)?;
+    let judged = judge_all(alloc, path, &ready, running, steps)?;
     let found = judged.as_slice();
     note_judged(alloc, path, running, found, notices)?;
     let unsorted = rows_of(alloc, running, found)?;
@@ -41,9 +47,26 @@ fn scan_view<L: Ledger>(
     report_rows(alloc, path, view, running, rows.as_slice())
 }
 
-/// What the rules find in a file, which is opened by the reader in the language that its path's ending names, or else in
-/// `Regex`. The notices are added.
-pub fn scan_file<R: TreeReader, L: Ledger>(
+// What the rules find in the file at that path and no comment there quiets. The notices are added.
+fn show_view<R: CommentReader, L: Ledger>(
+    alloc: Global,
+    reader: &R,
+    path: &str,
+    view: &FileView,
+    running: &[Runner<'_>],
+    steps: &mut Steps<L>,
+    notices: &mut Vec<Noted>,
+) -> Result<List<Reported>, Memory>
+    ensures results { AreApart running.now → IfOk result (IsExactly reported_cmp (IsShownIn (R.comments reader.now) running.now path.now view.now.lang view.now.bytes (known_tree view.now))) }
+    ensures notices { OnOk result (Adds notices.old.items notices.new.items (IsNotedIn running.now path.now view.now.lang view.now.bytes (known_tree view.now))) }
+{
+    let found = scan_view(alloc, path, view, running, steps, notices)?;
+    without_quieted(alloc, reader, view, found)
+}
+
+/// What the rules find in a file and no comment there quiets. The file is opened by the reader in the language that its path's
+/// ending names, or else in `Regex`. The notices are added.
+pub fn scan_file<R: TreeReader + CommentReader, L: Ledger>(
     alloc: Global,
     reader: &R,
     path: &str,
@@ -52,7 +75,7 @@ pub fn scan_file<R: TreeReader, L: Ledger>(
     steps: &mut Steps<L>,
     notices: &mut Vec<Noted>,
 ) -> Result<List<Reported>, Memory>
-    ensures results { AreApart running.now → IfOk result (IsExactly reported_cmp (IsResultIn (R.spells reader.now) running.now (path.now, bytes))) }
+    ensures results { AreApart running.now → IfOk result (IsExactly reported_cmp (IsResultIn (grammars_of (R.spells reader.now) (R.comments reader.now)) running.now (path.now, bytes))) }
     ensures notices { OnOk result (Adds notices.old.items notices.new.items (IsNoticeIn (R.spells reader.now) running.now (path.now, bytes))) }
 {
     let lang = lang_of(path).unwrap_or(Lang::Regex);
@@ -68,8 +91,8 @@ pub fn scan_file<R: TreeReader, L: Ledger>(
         }
         Opened::NoTree(view) => {
             add_notice(alloc, notices, path, "", NoticeKind::NoTree, "")?;
-            scan_view(alloc, path, &view, running, steps, notices)
+            show_view(alloc, reader, path, &view, running, steps, notices)
         }
-        Opened::Read(view) => scan_view(alloc, path, &view, running, steps, notices),
+        Opened::Read(view) => show_view(alloc, reader, path, &view, running, steps, notices),
     }
 }

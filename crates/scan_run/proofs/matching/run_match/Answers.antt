@@ -3,6 +3,7 @@ use Rattle.pattern_read.proofs.Laws.{refused}
 use Rattle.file_open.specs.declared.opened.Opened.{Opened}
 use Rattle.file_open.specs.declared.opened.Opened.TheVariants as opened
 use Rattle.file_open.specs.Opening.{IsOpened, HasOnlyTree}
+use Rattle.tree_match.specs.Members.{known_tree}
 use Rattle.languages.specs.Trees.{IsTree}
 use Rattle.scan_run.specs.declared.status.Status.TheVariants.{BadPattern, OverLimit, BadTarget}
 use Rattle.scan_run.specs.declared.status.LimitKind.TheVariants.{Target}
@@ -50,7 +51,7 @@ returns-clause-ends g c a =
     let bytes = c.in-Ok-read_input.bytes.items in
     let end = c.in-Ok-read_input.ensures.end (omega (arith, c.in-Ok-read_input.ensures.limit, c.if-len-eq-MOST.false, c.len.ensures)) in
     let is = subst (λ (l : List ℕ). IsOpened IsTree c.args.lang l (opened.Read c.in-Read.file)) c.from_vec.ensures (subst (λ (x : Opened). IsOpened IsTree c.args.lang c.from_vec.result x) c.in-Read.is c.in-Ok-open_file.ensures.opened) in
-    ends_by_search c.args.lang c.args.text.now c.in-Ok.pattern c.in-Ok.ensures.pattern _ _ bytes c.in-Ok-read_input.ensures.bytes end c.in-Read.file.tree (file_read c.args.lang bytes c.in-Read.file is) _ _ _ (c.print_members.ensures.ends a)
+    ends_by_search c.args.lang c.args.text.now c.in-Ok.pattern c.in-Ok.ensures.pattern _ _ bytes c.in-Ok-read_input.ensures.bytes end (known_tree c.in-Read.file) (file_read c.args.lang bytes c.in-Read.file is) _ _ _ (c.print_members.ensures.ends a)
 
 pub returns-clause-only : goal.returns-clause-only
 returns-clause-only g c a some =
@@ -58,8 +59,8 @@ returns-clause-only g c a some =
     let end = c.in-Ok-read_input.ensures.end (omega (arith, c.in-Ok-read_input.ensures.limit, c.if-len-eq-MOST.false, c.len.ensures)) in
     let is = subst (λ (l : List ℕ). IsOpened IsTree c.args.lang l (opened.Read c.in-Read.file)) c.from_vec.ensures (subst (λ (x : Opened). IsOpened IsTree c.args.lang c.from_vec.result x) c.in-Read.is c.in-Ok-open_file.ensures.opened) in
     let one = subst (λ (l : List ℕ). HasOnlyTree IsTree c.args.lang l (opened.Read c.in-Read.file)) c.from_vec.ensures (subst (λ (x : Opened). HasOnlyTree IsTree c.args.lang c.from_vec.result x) c.in-Read.is c.in-Ok-open_file.ensures.only) in
-    only_search c.args.lang c.args.text.now c.in-Ok.pattern c.in-Ok.ensures.pattern _ _ bytes c.in-Ok-read_input.ensures.bytes end c.in-Read.file.tree (file_read c.args.lang bytes c.in-Read.file is) _ _ _
-    c.in-Ok.ensures.only (only_read c.args.lang bytes c.in-Read.file one) (c.print_members.ensures.ends a) some
+    only_search c.args.lang c.args.text.now c.in-Ok.pattern c.in-Ok.ensures.pattern _ _ bytes c.in-Ok-read_input.ensures.bytes end (known_tree c.in-Read.file) (file_read c.args.lang bytes c.in-Read.file is) _ _ _
+    c.in-Ok.ensures.only (only_read c.args.lang bytes c.in-Read.file one is.2.nothing_known) (c.print_members.ensures.ends a) some
 
 pub returns-clause-read_to_its_end : goal.returns-clause-read_to_its_end
 returns-clause-read_to_its_end g c e = c.in-Ok-read_input.ensures.end (omega (arith, c.in-Ok-read_input.ensures.limit, c.if-len-eq-MOST.false, c.len.ensures))
@@ -69,14 +70,14 @@ returns-clause-front_written g c e =
     let bytes = c.in-Ok-read_input.bytes.items in
     let end = c.in-Ok-read_input.ensures.end (omega (arith, c.in-Ok-read_input.ensures.limit, c.if-len-eq-MOST.false, c.len.ensures)) in
     let is = subst (λ (l : List ℕ). IsOpened IsTree c.args.lang l (opened.Read c.in-Read.file)) c.from_vec.ensures (subst (λ (x : Opened). IsOpened IsTree c.args.lang c.from_vec.result x) c.in-Read.is c.in-Ok-open_file.ensures.opened) in
-    front_of_search c.args.lang c.args.text.now c.in-Ok.pattern c.in-Ok.ensures.pattern _ _ bytes c.in-Ok-read_input.ensures.bytes end c.in-Read.file.tree (file_read c.args.lang bytes c.in-Read.file is) _ _ (c.print_members.ensures.front_written e)
+    front_of_search c.args.lang c.args.text.now c.in-Ok.pattern c.in-Ok.ensures.pattern _ _ bytes c.in-Ok-read_input.ensures.bytes end (known_tree c.in-Read.file) (file_read c.args.lang bytes c.in-Read.file is) _ _ (c.print_members.ensures.front_written e)
 
 pub returns-clause-whole_lines : goal.returns-clause-whole_lines
 returns-clause-whole_lines g c e =
     let bytes = c.in-Ok-read_input.bytes.items in
     let end = c.in-Ok-read_input.ensures.end (omega (arith, c.in-Ok-read_input.ensures.limit, c.if-len-eq-MOST.false, c.len.ensures)) in
     let is = subst (λ (l : List ℕ). IsOpened IsTree c.args.lang l (opened.Read c.in-Read.file)) c.from_vec.ensures (subst (λ (x : Opened). IsOpened IsTree c.args.lang c.from_vec.result x) c.in-Read.is c.in-Ok-open_file.ensures.opened) in
-    some_of_search c.args.lang c.args.text.now c.in-Ok.pattern c.in-Ok.ensures.pattern _ _ bytes c.in-Ok-read_input.ensures.bytes end c.in-Read.file.tree (file_read c.args.lang bytes c.in-Read.file is) _ _ (c.print_members.ensures.whole_lines e)
+    some_of_search c.args.lang c.args.text.now c.in-Ok.pattern c.in-Ok.ensures.pattern _ _ bytes c.in-Ok-read_input.ensures.bytes end (known_tree c.in-Read.file) (file_read c.args.lang bytes c.in-Read.file is) _ _ (c.print_members.ensures.whole_lines e)
 
 pub returns-clause-cause : goal.returns-clause-cause
 returns-clause-cause g c = of_search c.print_members.result c.print_members.ensures.cause

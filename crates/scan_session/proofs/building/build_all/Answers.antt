@@ -1,6 +1,6 @@
 use Rattle.std.proofs.Common.{List, ap, map, take}
 use Rattle.std.proofs.lemmas.List.{take_all}
-use Rattle.tree_match.proofs.Ascents.{among_at}
+use Rattle.node_match.proofs.Sets.{among_at}
 use Rattle.scan_session.specs.declared.running.Entry.{Entry}
 use Rattle.scan_session.specs.Running.{texts_of}
 use Rattle.scan_session.specs.Taking.{said}

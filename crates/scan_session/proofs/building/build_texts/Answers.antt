@@ -1,5 +1,5 @@
 use Rattle.std.proofs.Common.{◌++◌, ◌∷◌, [], take}
-use Rattle.tree_match.proofs.Ascents.{among_at}
+use Rattle.node_match.proofs.Sets.{among_at}
 use Rattle.scan_session.proofs.Asking.{gains_more, one_within, asked_as, texts_on}
 use Rattle.scan_session.proofs.building.build_texts.Goals as goal
 

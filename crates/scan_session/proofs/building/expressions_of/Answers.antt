@@ -1,7 +1,7 @@
 use Rattle.std.proofs.Common.{◌+◌, ◌++◌, ◌∷◌, [], ℕ, List, sym, ap, ◌∙◌, subst, take, drop}
 use Rattle.std.proofs.lemmas.List.{take_more}
 use Rattle.meta_bind.proofs.Lookups.{opened}
-use Rattle.tree_match.proofs.Ascents.{among_at}
+use Rattle.node_match.proofs.Sets.{among_at}
 use Rattle.scan_session.specs.Running.{is_refused}
 use Rattle.scan_session.specs.Building.{Holds}
 use Rattle.scan_session.proofs.Asking.{is_built, is_unbuilt_text, none_of}

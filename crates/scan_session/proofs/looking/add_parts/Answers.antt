@@ -1,6 +1,7 @@
 use Rattle.std.proofs.Common.{◌+◌, ◌<◌, length, refl, ap, ◌∙◌, drop, arith}
 use Rattle.std.proofs.lemmas.List.{drop_all}
 use Rattle.rule_form.specs.declared.rule.Rule.{Rule}
+use Rattle.tree_match.specs.Members.{known_tree}
 use Rattle.scan_session.proofs.Members.{there_is}
 use Rattle.scan_session.proofs.Judged.{gathers_start, gathers_on, gathers_end}
 use Rattle.scan_session.proofs.looking.add_parts.Goals as goal
@@ -9,7 +10,7 @@ pub loop-part-init : goal.loop-part-init
 loop-part-init g c =
     let v = c.args.view.now in
     let ps = c.args.rule.now.parts in
-    (gathers_start c.args.rule.now.texts v.lang v.bytes v.tree c.args.number c.args.judged.now.items ps (drop 0 ps) refl, λ h. h)
+    (gathers_start c.args.rule.now.texts v.lang v.bytes (known_tree v) c.args.number c.args.judged.now.items ps (drop 0 ps) refl, λ h. h)
 
 pub add_part-requires : goal.add_part-requires
 add_part-requires g c = let lt = c.loop-part-test.true in let e = c.len-part-end.ensures ∙ ap (λ (r : Rule). length r.parts) c.rule.ensures in omega (arith, lt, e)
@@ -22,7 +23,7 @@ loop-part-preserved g c =
     let lt : i < length ps = let a = c.loop-part-test.true in let e = c.len-part-end.ensures ∙ ap (λ (r : Rule). length r.parts) c.rule.ensures in omega (arith, a, e) in
     let one = there_is ps i lt in
     let far = c.loop-part.invariant in (
-      gathers_on c.args.rule.now.texts v.lang v.bytes v.tree c.args.number _ c.loop-part.judged.items c.add_part.new.judged.items ps (drop i ps) (drop (i + 1) ps) one.0 far.0 one.2 (c.in_ok-add_part.ensures.judged one.0 one.1),
+      gathers_on c.args.rule.now.texts v.lang v.bytes (known_tree v) c.args.number _ c.loop-part.judged.items c.add_part.new.judged.items ps (drop i ps) (drop (i + 1) ps) one.0 far.0 one.2 (c.in_ok-add_part.ensures.judged one.0 one.1),
       λ h. c.in_ok-add_part.ensures.placed (far.1 h),
     )
 
@@ -33,7 +34,7 @@ returns-clause-judged g c =
     let i = c.loop-part.part in
     let a = c.loop-part-test.false in
     let e = c.len-part-end.ensures ∙ ap (λ (r : Rule). length r.parts) c.rule.ensures in
-    gathers_end c.args.rule.now.texts v.lang v.bytes v.tree c.args.number _ c.loop-part.judged.items ps (drop i ps) c.loop-part.invariant.0 (drop_all i ps (omega (arith, a, e)))
+    gathers_end c.args.rule.now.texts v.lang v.bytes (known_tree v) c.args.number _ c.loop-part.judged.items ps (drop i ps) c.loop-part.invariant.0 (drop_all i ps (omega (arith, a, e)))
 
 pub returns-clause-placed : goal.returns-clause-placed
 returns-clause-placed g c = c.loop-part.invariant.1

@@ -1,8 +1,9 @@
 use Rattle.std.proofs.Common.{drop}
+use Rattle.tree_match.specs.Members.{known_tree}
 use Rattle.scan_session.specs.Judging.{AreAllPlaced}
 use Rattle.scan_session.proofs.Judged.{Gathers}
 use Rattle.scan_session.proofs.looking.add_parts.Given as goal
 
 abbrev pub invariant-loop-part : goal.invariant-loop-part
 invariant-loop-part g l =
-    Gathers l.rule.texts l.view.lang l.view.bytes l.view.tree l.number l.fn.judged.items l.judged.items l.rule.parts (drop l.part l.rule.parts) × (AreAllPlaced l.view.bytes l.fn.judged.items → AreAllPlaced l.view.bytes l.judged.items)
+    Gathers l.rule.texts l.view.lang l.view.bytes (known_tree l.view) l.number l.fn.judged.items l.judged.items l.rule.parts (drop l.part l.rule.parts) × (AreAllPlaced l.view.bytes l.fn.judged.items → AreAllPlaced l.view.bytes l.judged.items)

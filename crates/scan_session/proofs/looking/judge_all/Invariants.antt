@@ -1,6 +1,7 @@
+use Rattle.tree_match.specs.Members.{known_tree}
 use Rattle.scan_session.specs.Judging.{AreAllPlaced}
 use Rattle.scan_session.proofs.Judged.{UpTo}
 use Rattle.scan_session.proofs.looking.judge_all.Given as goal
 
 abbrev pub invariant-loop-number : goal.invariant-loop-number
-invariant-loop-number g l = UpTo l.path l.view.lang l.view.bytes l.view.tree l.running l.number l.judged.items × AreAllPlaced l.view.bytes l.judged.items
+invariant-loop-number g l = UpTo l.path l.view.lang l.view.bytes (known_tree l.view) l.running l.number l.judged.items × AreAllPlaced l.view.bytes l.judged.items

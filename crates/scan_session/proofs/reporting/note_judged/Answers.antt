@@ -3,7 +3,7 @@ use Rattle.std.specs.Prelude.{Option}
 use Rattle.std.proofs.lemmas.List.{drop_all}
 use Rattle.meta_bind.proofs.Lookups.{opened}
 use Rattle.rule_form.specs.declared.rule.Rule.{Rule}
-use Rattle.tree_match.proofs.Ascents.{among_at}
+use Rattle.node_match.proofs.Sets.{among_at}
 use Rattle.scan_session.specs.Reports.{outcome_notices}
 use Rattle.scan_session.specs.Judging.{judged_notices, notices_by}
 use Rattle.scan_session.proofs.Members.{flat_step, flat_end}

@@ -1,7 +1,7 @@
 use Rattle.std.proofs.Common.{◌+◌, refl, drop}
 use Rattle.std.proofs.lemmas.List.{drop_all}
 use Rattle.meta_bind.proofs.Lookups.{opened}
-use Rattle.tree_match.proofs.Ascents.{among_at}
+use Rattle.node_match.proofs.Sets.{among_at}
 use Rattle.scan_session.proofs.Hits.{all_start, all_on, all_end}
 use Rattle.scan_session.proofs.row.rows_of.Goals as goal
 

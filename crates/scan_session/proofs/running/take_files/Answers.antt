@@ -1,6 +1,6 @@
 use Rattle.std.proofs.Common.{◌++◌, List, ap, ◌∙◌, subst, map}
 use Rattle.std.specs.List.{flat_map}
-use Rattle.scan_session.specs.declared.rule_file.RuleFile.{RuleFile}
+use Rattle.rule_files.specs.declared.rule_file.RuleFile.{RuleFile}
 use Rattle.scan_session.specs.Refused.{gained}
 use Rattle.scan_session.specs.Running.{Stated, stated, texts_of, file_notices}
 use Rattle.scan_session.specs.Taking.{said}

@@ -2,6 +2,7 @@ use Rattle.std.proofs.Common.{◌++◌, List, inl, refl, ap, ◌∙◌}
 use Rattle.report_form.specs.declared.notice.Notice.{Notice}
 use Rattle.scan_session.specs.Refused.{gained}
 use Rattle.scan_session.specs.Running.{stated, texts_of, running, rule_notices}
+use Rattle.scan_session.specs.Quieted.{grammars_of}
 use Rattle.scan_session.proofs.Asking.{gains, gained_of}
 use Rattle.scan_session.proofs.Scans.{none_yet}
 use Rattle.scan_session.proofs.scanner.Scanner.of.Goals as goal
@@ -24,4 +25,4 @@ returns-clause-begun g c =
     let rules = running refused c.args.rules.now in
     let before = rule_notices refused c.args.rules.now in
     let noted = c.in_ok-running.ensures.notices ∙ ap (λ (ns : List Notice). ns ++ before) c.new-notices.ensures.items in
-    record { limit = refl; rules = c.in_ok-running.ensures.rules; found = inl (none_yet (g.R.TreeReader.spells c.args.reader.now) rules before c.args.most c.new.result c.take_files.new.notices.items c.new.ensures noted) }
+    record { limit = refl; rules = c.in_ok-running.ensures.rules; found = inl (none_yet (grammars_of (g.R.TreeReader.spells c.args.reader.now) (g.R.CommentReader.comments c.args.reader.now)) rules before c.args.most c.new.result c.take_files.new.notices.items c.new.ensures noted) }

@@ -11,10 +11,10 @@ use Rattle.yaml_read.specs.Value.{IsValueOf}
 use Rattle.rule_entries.specs.declared.outcome.RuleOutcome.{RuleOutcome}
 use Rattle.rule_entries.specs.Finds.{Writes}
 use Rattle.rule_entries.specs.Rules.{IsRulesOf, entries_in}
-use Rattle.scan_session.specs.declared.rule_file.RuleContent.{RuleContent}
-use Rattle.scan_session.specs.declared.rule_file.RuleContent.TheVariants.{Rules, NotUtf8, OutsideProfile, NoValue, NoRules}
-use Rattle.scan_session.specs.declared.rule_file.RuleFile.{RuleFile}
-use Rattle.scan_session.specs.RuleFiles.{HasNoValue, IsContentOf, IsContent, IsRuleFile}
+use Rattle.rule_files.specs.declared.rule_file.RuleContent.{RuleContent}
+use Rattle.rule_files.specs.declared.rule_file.RuleContent.TheVariants.{Rules, NotUtf8, OutsideProfile, NoValue, NoRules}
+use Rattle.rule_files.specs.declared.rule_file.RuleFile.{RuleFile}
+use Rattle.rule_files.specs.RuleFiles.{HasNoValue, IsContentOf, IsContent, IsRuleFile}
 
 -- ---- from the value
 

@@ -3,8 +3,8 @@ use Rattle.std.specs.Prelude.{Err}
 use Rattle.yaml_lines.specs.Lines.{Gives, lines_of}
 use Rattle.yaml_lines.specs.declared.fault.YFault.{YFault}
 use Rattle.yaml_read.specs.declared.value.YValue.{YValue}
-use Rattle.scan_session.proofs.Contents.{value_only, no_value, no_value_only}
-use Rattle.scan_session.proofs.rule_file.content_of.Goals as goal
+use Rattle.rule_files.proofs.Contents.{value_only, no_value, no_value_only}
+use Rattle.rule_files.proofs.rule_file.content_of.Goals as goal
 
 pub returns-in-Ok-clause-only : goal.returns-in-Ok-clause-only
 returns-in-Ok-clause-only g c =

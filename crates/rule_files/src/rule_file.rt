@@ -1,9 +1,9 @@
 //! Rule files as they are read.
 
 ghost use Rattle.std.specs.Prelude.{◌≡◌, ◌≤◌, length, IfOk};
-ghost use Rattle.scan_session.specs.declared.rule_file.RuleContent.{RuleContent as a_content};
-ghost use Rattle.scan_session.specs.declared.rule_file.RuleFile.{RuleFile as a_file};
-ghost use Rattle.scan_session.specs.RuleFiles.{IsContent, IsContentOf, IsRuleFile, outcomes_of};
+ghost use Rattle.rule_files.specs.declared.rule_file.RuleContent.{RuleContent as a_content};
+ghost use Rattle.rule_files.specs.declared.rule_file.RuleFile.{RuleFile as a_file};
+ghost use Rattle.rule_files.specs.RuleFiles.{IsContent, IsContentOf, IsRuleFile, outcomes_of};
 
 use code_reader::PatternReader;
 use node_tree::{List, Memory, Text};
