@@ -1,5 +1,6 @@
 //! Texts of rule files, and which rules they write, or why an entry writes none.
 
+use node_tree::Twin;
 use rule_form::{Body, Child, Formula, Rule};
 use rule_read::{RuleFaultKind, RuleOutcome, read_rules};
 use shown::{parted, same};
@@ -115,6 +116,17 @@ fn write_rule(out: &mut String, rule: &Rule) -> Result<(), AllocError> {
     Ok(())
 }
 
+// Writes the copy of a rule, where it is the same rule.
+fn write_copy(out: &mut String, rule: &Rule) -> Result<(), AllocError> {
+    match rule.copy() {
+        Ok(copy) => if copy.same_rule(rule) {
+            write_rule(out, &copy)?;
+        },
+        Err(_) => return Err(AllocError),
+    }
+    Ok(())
+}
+
 // The outcomes of a text, with `;` after each, or why it has no rules.
 fn outcomes(alloc: Global, text: &str) -> Result<String, AllocError> {
     let mut out = String::new(alloc);
@@ -129,7 +141,7 @@ fn outcomes(alloc: Global, text: &str) -> Result<String, AllocError> {
         Ok(all) => {
             for outcome in all.as_slice() {
                 match outcome {
-                    RuleOutcome::Good(rule) => write_rule(&mut out, rule)?,
+                    RuleOutcome::Good(rule) => write_copy(&mut out, rule)?,
                     RuleOutcome::Bad(fault) => {
                         let (id, key) = (fault.id.as_str(), fault.key.as_str());
                         write!(out, "{:?} {id} {key}", fault.kind)?;
