@@ -1,0 +1,5 @@
+//! Tests of control-flow graphs.
+#![tactic(auto)]
+
+#[cfg(test)]
+mod graphs;
