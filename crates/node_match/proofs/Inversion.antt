@@ -12,13 +12,15 @@ use Rattle.node_match.specs.Sets.{Among}
 use Rattle.node_tree.specs.Kinds.{is_term, is_expression, is_literal}
 use Rattle.node_match.specs.Kinds.{role_of, IsOne}
 use Rattle.std.specs.Prelude.{Some}
-use Rattle.node_match.specs.Free.{Part}
-use Rattle.node_match.specs.Relation.{Matches, MatchesKids, MatchesList, in_order, same_node, known_literal, known_string, wildcard, metavariable, some_string, deep, Binds, IsString, wild}
+use Rattle.node_match.specs.Free.{Part, parts_of}
+use Rattle.node_match.specs.declared.order.Order.TheVariants.{Fixed, Any}
+use Rattle.node_match.specs.Orders.{order_of}
+use Rattle.node_match.specs.Relation.{Matches, MatchesKids, MatchesList, in_order, choosing, same_node, known_literal, known_string, wildcard, metavariable, some_string, deep, Binds, IsString, wild}
 use Rattle.node_match.specs.Holding.{HoldsString, Same, Held}
 use Rattle.node_match.specs.Fronts.{End, Leads, head_front, dots_front, named_dots_front}
 use Rattle.node_match.specs.States.{Goes, Runs, Heads}
 use Rattle.node_tree.specs.declared.known.Known.{Known}
-use Rattle.node_tree.specs.Numbers.{Numbered, pre_at, numbered}
+use Rattle.node_tree.specs.Numbers.{Numbered, kids_at, pre_at, numbered}
 
 -- ---- one node
 
@@ -145,11 +147,12 @@ module _ (C : List Known) where
 -- ---- how kids match
 
 module _ (C : List Known) where
-  pub ordered_kids : (h : Numbered) (ps : List Part) (ns : List Numbered) (b c : List Bound) → MatchesList C h ps ns b c ↔ MatchesKids C h ps ns b c
-  ordered_kids h ps ns b c = (λ x. in_order x, λ x. to x)
+  pub ordered_kids : (p : Node) (n : Numbered) (b c : List Bound) → order_of p ≡ Fixed → MatchesList C n (parts_of p) (kids_at n) b c ↔ MatchesKids C p n b c
+  ordered_kids p n b c fixed = (λ x. in_order fixed x, λ x. to c x)
     where
-      to : MatchesKids C h ps ns b c → MatchesList C h ps ns b c
-      to (in_order x) = x
+      to : (c : List Bound) → MatchesKids C p n b c → MatchesList C n (parts_of p) (kids_at n) b c
+      to c (in_order _ x) = x
+      to c (choosing any _ _) = absurd (let e : Fixed ≡ Any = sym fixed ∙ any in cc)
 
 -- ---- a list
 

@@ -1,6 +1,8 @@
 pub mod Sets
 pub mod FrontLaws
 pub mod Inversion
+pub mod Choosing
+pub mod Counted
 pub mod Steps
 pub mod Parts
 pub mod Numbering

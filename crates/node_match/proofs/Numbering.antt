@@ -1,5 +1,5 @@
 -- Kids and their numbers.
-use Rattle.std.proofs.Common.{◌≡◌, ℕ, zero, suc, ◌+◌, ◌<◌, ◌≤◌, List, [], ◌∷◌, length, take, drop, get_or, refl, sym, ap, ◌∙◌, arith, add-one, eq-eqb, Bool, true, false}
+use Rattle.std.proofs.Common.{◌≡◌, inl, inr, ℕ, zero, suc, ◌+◌, ◌<◌, ◌≤◌, List, [], ◌∷◌, length, take, drop, get_or, refl, sym, ap, ◌∙◌, arith, add-one, eq-eqb, Bool, true, false}
 use Rattle.std.specs.Prelude.{Option, None, Some, nat_eq, if◌then◌else◌}
 use Rattle.std.proofs.Math.Seq.{drop-cons}
 use Rattle.std.proofs.lemmas.Bool.Decides.{nat_tests}
@@ -10,6 +10,7 @@ use Rattle.node_tree.specs.Tree.{kids_of, pre_of}
 use Rattle.node_pool.specs.declared.spot.Spot.{Spot}
 use Rattle.node_tree.specs.Numbers.{Numbered, count_of, siblings, kids_at, pre_at, numbered}
 use Rattle.node_pool.specs.Spots.{seen, all_seen}
+use Rattle.node_match.specs.Sets.{Among}
 use Rattle.node_match.specs.Relation.{nodes_of, held_at}
 
 siblings_nodes : (at : ℕ) (ns : List Node) → nodes_of (siblings at ns) ≡ ns
@@ -22,6 +23,11 @@ kids_nodes h = siblings_nodes (h.at + 1) (kids_of h.node)
 
 pub kids_many : (h : Numbered) → length (kids_at h) ≡ length (kids_of h.node)
 kids_many h = sym (length-map (kids_at h) (λ (s : Numbered). s.node)) ∙ ap length (kids_nodes h)
+
+pub among_nodes : (ss : List Numbered) (s : Numbered) → Among ss s → Among (nodes_of ss) s.node
+among_nodes [] s a = absurd a
+among_nodes (x ∷ ss) s (inl e) = inl (ap (λ (y : Numbered). y.node) e)
+among_nodes (x ∷ ss) s (inr a) = inr (among_nodes ss s a)
 
 nodes_drop : (k : ℕ) (ss : List Numbered) → nodes_of (drop k ss) ≡ drop k (nodes_of ss)
 nodes_drop zero ss = refl

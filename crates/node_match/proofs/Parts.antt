@@ -1,9 +1,10 @@
 -- What a pattern node asks, kid by kid.
-use Rattle.std.proofs.Common.{◌≡◌, ℕ, zero, suc, ◌+◌, ◌<◌, List, [], ◌∷◌, length, drop, get_or, refl, sym, ap, ◌∙◌, arith, add-one}
-use Rattle.std.specs.Prelude.{cond, true, false, None, Some}
+use Rattle.std.proofs.Common.{◌≡◌, inl, inr, ℕ, zero, suc, ◌+◌, ◌<◌, List, [], ◌∷◌, length, drop, get_or, refl, sym, ap, ◌∙◌, arith, add-one}
+use Rattle.std.specs.Prelude.{Bool, cond, true, false, None, Some}
 use Rattle.node_tree.specs.declared.node.Node.{Node}
 use Rattle.node_tree.specs.declared.kind.Kind.{Kind}
 use Rattle.node_tree.specs.Tree.{kind_of, kids_of}
+use Rattle.node_match.specs.Sets.{Among}
 use Rattle.node_match.specs.Free.{Part, is_free, parts_from, parts_of}
 
 -- what is asked of the kid at a place, where the pattern has q
@@ -41,3 +42,16 @@ free_here p kids i q e lt is free = part_here p kids i q e lt is ∙ ap (λ b. c
 pub asked_here : (p : Node) (kids : List Node) (i : ℕ) (q : Node) → kids ≡ kids_of p → i < length (kids_of p) → q ≡ get_or kids i q → is_free (kind_of p) i q ≡ false
     → drop i (parts_of p) ≡ Some q ∷ drop (i + 1) (parts_of p)
 asked_here p kids i q e lt is asked = part_here p kids i q e lt is ∙ ap (λ b. cond b None (Some q) ∷ drop (i + 1) (parts_of p)) asked
+
+kid_asked : (k : Kind) (j : ℕ) (qs : List Node) (q : Node) → Among (parts_from k j qs) (Some q) → Among qs q
+kid_asked k j [] q a = absurd a
+kid_asked k j (x ∷ qs) q (inl e) = inl (at (is_free k j x) e)
+  where
+    at : (t : Bool) → cond t None (Some x) ≡ Some q → x ≡ q
+    at true f = absurd cc
+    at false f = cc
+kid_asked k j (x ∷ qs) q (inr a) = inr (kid_asked k (j + 1) qs q a)
+
+-- a pattern that is asked for is a kid
+pub part_kid : (p q : Node) → Among (parts_of p) (Some q) → Among (kids_of p) q
+part_kid p q = kid_asked (kind_of p) 0 (kids_of p) q

@@ -1,6 +1,6 @@
 -- Sets that loops gather.
-use Rattle.std.proofs.Common.{◌≡◌, ◌⊎◌, inl, inr, ◌↔◌, ℕ, zero, suc, ◌<◌, List, [], ◌∷◌, ◌++◌, length, get_or, sym, subst, arith}
-use Rattle.node_match.specs.Sets.{Among, Adds}
+use Rattle.std.proofs.Common.{◌≡◌, ◌⊎◌, inl, inr, ◌↔◌, ℕ, zero, suc, ◌<◌, ◌≤◌, List, [], ◌∷◌, ◌++◌, length, get_or, sym, subst, arith}
+use Rattle.node_match.specs.Sets.{Among, Adds, AddsUpTo}
 
 module _ (A B X L R W : Type 0) where
   -- what was gathered and what is left are the whole, once more is gathered
@@ -80,3 +80,47 @@ pub among_at : {X : Type 0} (xs : List X) (i : ℕ) (x : X) → i < length xs �
 among_at [] i x lt is = absurd (omega arith)
 among_at (y ∷ ys) zero x lt is = inl (sym is)
 among_at (y ∷ ys) (suc i) x lt is = inr (among_at ys i x (omega arith) is)
+
+-- ---- up to a number of items
+
+pub adds_up : {X : Type 0} (most : ℕ) (old new : List X) (P : X → Type 0) → Adds old new P → AddsUpTo most old new P
+adds_up most old new P adds = record { sound = λ x h. (adds x).0 h; whole = λ _. adds }
+
+pub adds_up_as : {X : Type 0} (most : ℕ) (old new : List X) (P Q : X → Type 0) → AddsUpTo most old new P → ((x : X) → P x ↔ Q x) → AddsUpTo most old new Q
+adds_up_as most old new P Q adds same = record {
+  sound = λ x h. elim (adds.sound x h) [ inl a ↦ inl a | inr p ↦ inr ((same x).0 p) ];
+  whole = λ few. adds_as old new P Q (adds.whole few) same;
+}
+
+-- the last of what was left is added
+pub adds_up_last : {X : Type 0} (most : ℕ) (old mid new : List X) (P Left All : X → Type 0) → AddsUpTo most mid new P → ((x : X) → (Among mid x ⊎ Left x) ↔ (Among old x ⊎ All x)) → ((x : X) → P x ↔ Left x) → AddsUpTo most old new All
+adds_up_last most old mid new P Left All adds gathers same = record {
+  sound = λ x h. elim (adds.sound x h) [ inl a ↦ (gathers x).0 (inl a) | inr p ↦ (gathers x).0 (inr ((same x).0 p)) ];
+  whole = λ few x.
+      let step = plus_as (Among mid x) (Among new x) (P x) (Left x) (adds.whole few x) (same x) in
+      (λ h. (gathers x).0 (step.0 h), λ h. step.1 ((gathers x).1 h));
+}
+
+-- more was gathered than is needed
+pub adds_enough : {X : Type 0} (most : ℕ) (old mid new : List X) (P Left All : X → Type 0) → AddsUpTo most mid new P → ((x : X) → (Among mid x ⊎ Left x) ↔ (Among old x ⊎ All x)) → ((x : X) → P x → Left x) → most < length new → AddsUpTo most old new All
+adds_enough most old mid new P Left All adds gathers part many = record {
+  sound = λ x h. elim (adds.sound x h) [ inl a ↦ (gathers x).0 (inl a) | inr p ↦ (gathers x).0 (inr (part x p)) ];
+  whole = λ few. absurd (omega arith);
+}
+
+-- the same of a part of the set
+pub adds_over : {X : Type 0} (most : ℕ) (old new : List X) (P All : X → Type 0) → AddsUpTo most old new P → ((x : X) → P x → All x) → most < length new → AddsUpTo most old new All
+adds_over most old new P All adds part many = record {
+  sound = λ x h. elim (adds.sound x h) [ inl a ↦ inl a | inr p ↦ inr (part x p) ];
+  whole = λ few. absurd (omega arith);
+}
+
+-- a part of the set is added, and then the whole
+pub adds_again : {X : Type 0} (most : ℕ) (old mid new : List X) (P Q All : X → Type 0) → AddsUpTo most old mid P → length mid ≤ most → ((x : X) → P x → All x) → AddsUpTo most mid new Q → ((x : X) → Q x ↔ All x) → AddsUpTo most old new All
+adds_again {X} most old mid new P Q All first few part second same = record {
+  sound = sound;
+  whole = λ few' x. (sound x, λ h. elim h [ inl a ↦ (second.whole few' x).1 (inl ((first.whole few x).1 (inl a))) | inr y ↦ (second.whole few' x).1 (inr ((same x).1 y)) ]);
+}
+  where
+    sound : (x : X) → Among new x → Among old x ⊎ All x
+    sound x h = elim (second.sound x h) [ inl a ↦ elim (first.sound x a) [ inl b ↦ inl b | inr p ↦ inr (part x p) ] | inr q ↦ inr ((same x).0 q) ]

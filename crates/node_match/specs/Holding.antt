@@ -4,10 +4,10 @@ use Rattle.node_tree.specs.declared.node.Node.{Node}
 use Rattle.node_tree.specs.declared.kind.Kind.TheVariants as kinds
 use Rattle.node_tree.specs.declared.known.Known.{Known}
 use Rattle.node_tree.specs.Tree.{kind_of, content_of}
-use Rattle.node_tree.specs.Numbers.{Numbered, kids_at}
+use Rattle.node_tree.specs.Numbers.{Numbered}
 use Rattle.node_tree.specs.Kinds.{is_literal}
 use Rattle.node_match.specs.Relation.{Holds, MatchesKids}
-use Rattle.node_match.specs.Free.{parts_of, HasText}
+use Rattle.node_match.specs.Free.{HasText}
 use Rattle.meta_bind.specs.declared.bound.Bound.{Bound}
 
 -- the node is a name that is known to hold a string
@@ -20,7 +20,7 @@ HoldsSame C p n = (literal : Node) × (is_literal (kind_of p) ≡ true) × Holds
 
 -- a plain pattern takes a node of its own kind and text
 abbrev pub Same : List Known → Node → Numbered → List Bound → List Bound → Type 0
-Same C p n b c = (kind_of p ≡ kind_of n.node) × HasText p n.node × MatchesKids C n (parts_of p) (kids_at n) b c
+Same C p n b c = (kind_of p ≡ kind_of n.node) × HasText p n.node × MatchesKids C p n b c
 
 -- a literal takes a name that holds it
 abbrev pub Held : List Known → Node → Numbered → List Bound → List Bound → Type 0

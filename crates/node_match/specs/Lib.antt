@@ -2,8 +2,10 @@ pub mod Sets
 pub mod Kinds
 pub mod Kids
 pub mod Free
+pub mod Orders
 pub mod Relation
 pub mod Holding
 pub mod Refused
 pub mod Fronts
 pub mod States
+pub mod Choices

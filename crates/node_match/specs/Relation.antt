@@ -1,5 +1,5 @@
 -- When a pattern matches a node, and what its metavariables stand for then.
-use Rattle.std.specs.Prelude.{◌≡◌, ◌≢◌, ◌⊎◌, ℕ, List, [], ◌∷◌, map, take, drop, Option, None, Some, true, nat_eq, if◌then◌else◌}
+use Rattle.std.specs.Prelude.{◌≡◌, ◌≢◌, ◌⊎◌, ℕ, ◌<◌, List, [], ◌∷◌, length, map, take, drop, remove, slice_index_or, Option, None, Some, true, false, nat_eq, if◌then◌else◌}
 use Rattle.node_tree.specs.declared.node.Node.{Node}
 use Rattle.node_tree.specs.declared.kind.Kind.TheVariants as kinds
 use Rattle.node_tree.specs.declared.span.Span.{Span}
@@ -13,6 +13,8 @@ use Rattle.node_match.specs.Sets.{Among}
 use Rattle.node_tree.specs.Kinds.{is_expression, is_term, is_literal}
 use Rattle.node_match.specs.Kinds.{role_of}
 use Rattle.node_match.specs.Free.{Part, parts_of, HasText}
+use Rattle.node_match.specs.declared.order.Order.TheVariants.{Fixed, Any}
+use Rattle.node_match.specs.Orders.{order_of, has_dots, asked_of}
 
 -- the end of the last of these nodes
 abbrev pub end_of : Node → List Node → ℕ
@@ -63,7 +65,7 @@ mutual
   -- in a file with these constants pattern p matches node n, and takes the binding b to c
   pub data Matches (C : List Known) : Node → Numbered → List Bound → List Bound → Type 0 where
     -- the same kind, the text that is asked for, and kids that match
-    same_node : {p : Node} {n : Numbered} {b c : List Bound} → role_of (kind_of p) ≡ roles.Plain → kind_of p ≡ kind_of n.node → HasText p n.node → MatchesKids C n (parts_of p) (kids_at n) b c → Matches C p n b c
+    same_node : {p : Node} {n : Numbered} {b c : List Bound} → role_of (kind_of p) ≡ roles.Plain → kind_of p ≡ kind_of n.node → HasText p n.node → MatchesKids C p n b c → Matches C p n b c
     -- a literal takes a name that is known to hold it
     known_literal : {p : Node} {n : Numbered} {b : List Bound} (literal : Node) → role_of (kind_of p) ≡ roles.Plain → is_literal (kind_of p) ≡ true → Holds C n literal → content_of literal ≡ content_of p → Matches C p n b b
     -- `$_` takes any expression, name or type, and binds nothing
@@ -77,9 +79,16 @@ mutual
     -- `<... q ...>` takes an expression of which q matches some node
     deep : {p : Node} {n : Numbered} {b c : List Bound} (q : Node) (m : Numbered) → role_of (kind_of p) ≡ roles.Deep → kids_of p ≡ q ∷ [] → is_expression (kind_of n.node) ≡ true → Among (pre_at n) m → Matches C q m b c → Matches C p n b c
 
-  -- parts match the kids of the holder: in order
-  pub data MatchesKids (C : List Known) : Numbered → List Part → List Numbered → List Bound → List Bound → Type 0 where
-    in_order : {h : Numbered} {ps : List Part} {ns : List Numbered} {b c : List Bound} → MatchesList C h ps ns b c → MatchesKids C h ps ns b c
+  -- the kids of the pattern match those of the node
+  pub data MatchesKids (C : List Known) : Node → Numbered → List Bound → List Bound → Type 0 where
+    in_order : {p : Node} {n : Numbered} {b c : List Bound} → order_of p ≡ Fixed → MatchesList C n (parts_of p) (kids_at n) b c → MatchesKids C p n b c
+    -- by choosing; without `...` no kid is left over
+    choosing : {p : Node} {n : Numbered} {rest : List Numbered} {b c : List Bound} → order_of p ≡ Any → (has_dots (kids_of p) ≡ false → rest ≡ []) → MatchesChoice C (asked_of (kids_of p)) (kids_at n) rest b c → MatchesKids C p n b c
+
+  -- in written order each pattern matches a node that none before it took; those that aren't taken are the rest
+  pub data MatchesChoice (C : List Known) : List Node → List Numbered → List Numbered → List Bound → List Bound → Type 0 where
+    no_choice : {ns : List Numbered} {b : List Bound} → MatchesChoice C [] ns ns b b
+    choice : {p : Node} {ps : List Node} {ns rest : List Numbered} {b c d : List Bound} (k : ℕ) (n : Numbered) → k < length ns → n ≡ slice_index_or ns k n → Matches C p n b c → MatchesChoice C ps (remove ns k) rest c d → MatchesChoice C (p ∷ ps) ns rest b d
 
   -- parts match the nodes ns, all of them and in order, where ns are kids of the holder
   pub data MatchesList (C : List Known) : Numbered → List Part → List Numbered → List Bound → List Bound → Type 0 where

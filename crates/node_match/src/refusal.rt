@@ -1,14 +1,17 @@
 //! A look at a node and the levels below it that rules a match out, whatever is bound, before the search makes any state.
 
 ghost use Rattle.std.specs.Prelude.{◌≡◌, ◌↔◌, true, IsTrue};
+ghost use Rattle.node_tree.specs.Tree.{kids_of};
 ghost use Rattle.node_tree.specs.declared.kind.Kind.TheVariants.{Name};
 ghost use Rattle.node_tree.specs.Kinds.{is_literal as literal};
 ghost use Rattle.std.specs.Option.{option_copied};
 ghost use Rattle.node_match.specs.Free.{parts_of};
-ghost use Rattle.node_match.specs.Refused.{IsSingle, all_single, IsRefused, AreRefused, IsFrontRefused};
+ghost use Rattle.node_match.specs.Refused.{IsSingle, all_single, IsRefused, IsRefusedBy, AreRefused, IsFrontRefused, AreKidsRefused, IsChoiceRefused};
 
+use crate::asked::{has_dots, is_dots, order_of};
 use crate::class::{Role, is_alike, is_one, is_same, is_string, role_of};
 use crate::free::part_at;
+use crate::order::Order;
 use node_tree::{Kind, Node};
 
 /// How many levels below the kids of a node are looked at. A name of a member is at the first of them.
@@ -62,7 +65,7 @@ fn is_refused(pattern: &Node, node: &Node, levels: u32) -> bool
             if levels == 0 {
                 return false;
             }
-            are_refused(pattern, node.kids.as_slice(), levels - 1)
+            are_kids_refused(pattern, node, levels - 1)
         }
         Role::Meta => !node.kind.is_term(),
         Role::StrAny => {
@@ -77,10 +80,52 @@ fn is_refused(pattern: &Node, node: &Node, levels: u32) -> bool
     }
 }
 
-/// Whether a match of these nodes, all of them and in order, by what the pattern asks of kids is ruled out by how many they
-/// are, or by one before the first dots and so many levels below it.
+/// Whether a match of the kids is ruled out by how many they are, or by themselves and so many levels below them.
 #[cycle(refusal)]
-pub fn are_refused(pattern: &Node, nodes: &[Node], levels: u32) -> bool
+pub fn are_kids_refused(pattern: &Node, node: &Node, levels: u32) -> bool
+    ensures { IsTrue result → AreKidsRefused pattern.now node.now }
+{
+    let nodes = node.kids.as_slice();
+    match order_of(pattern) {
+        Order::Fixed => are_refused(pattern, nodes, levels),
+        Order::Any => is_choice_refused(pattern, nodes, levels),
+    }
+}
+
+// The same where each pattern takes a kid that none before it took.
+#[cycle(refusal)]
+fn is_choice_refused(pattern: &Node, nodes: &[Node], levels: u32) -> bool
+    ensures { IsTrue result → IsChoiceRefused (kids_of pattern.now) nodes.now }
+{
+    let patterns = pattern.kids.as_slice();
+    if nodes.len() != patterns.len() && !has_dots(patterns) {
+        return true;
+    }
+    for one in patterns {
+        if is_none(one, nodes, levels) && !is_dots(one) {
+            return true;
+        }
+    }
+    false
+}
+
+// Whether none of the nodes can match, as the nodes and so many levels below them say.
+#[cycle(refusal)]
+fn is_none(pattern: &Node, nodes: &[Node], levels: u32) -> bool
+    ensures { IsTrue result → IsRefusedBy nodes.now pattern.now }
+{
+    for node in nodes {
+        if !is_refused(pattern, node, levels) {
+            return false;
+        }
+    }
+    true
+}
+
+// Whether a match of these nodes, all of them and in order, by what the pattern asks of kids is ruled out by how many they
+// are, or by one before the first dots and so many levels below it.
+#[cycle(refusal)]
+fn are_refused(pattern: &Node, nodes: &[Node], levels: u32) -> bool
     ensures { IsTrue result → AreRefused (parts_of pattern.now) nodes.now }
 {
     if pattern.kids.len() < nodes.len() && are_single(pattern) {

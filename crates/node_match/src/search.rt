@@ -1,30 +1,35 @@
 //! The search for the bindings that a pattern may take a binding to.
 
-ghost use Rattle.std.specs.Prelude.{List as list, ◌≡◌, ◌↔◌, ◌<◌, ◌+◌, ◌∷◌, length, drop, OnOk, IfOk, Some};
+ghost use Rattle.std.specs.Prelude.{◌≡◌, ◌↔◌, ◌<◌, ◌≤◌, ◌+◌, ◌∷◌, length, drop, slice_index_or, OnOk, IfOk, Some};
+ghost use Rattle.node_tree.specs.declared.node.Node.{Node as node};
 ghost use Rattle.node_tree.specs.Tree.{kids_of, kind_of};
 ghost use Rattle.node_tree.specs.Numbers.{kids_at};
 ghost use Rattle.node_pool.specs.Spots.{seen};
-ghost use Rattle.node_match.specs.Sets.{Adds};
+ghost use Rattle.node_match.specs.Sets.{Adds, AddsUpTo};
 ghost use Rattle.node_match.specs.Kinds.{role_of as role, IsOne};
 ghost use Rattle.node_match.specs.Free.{parts_of};
-ghost use Rattle.node_match.specs.Relation.{Matches, MatchesList};
+ghost use Rattle.node_match.specs.Relation.{Matches, MatchesKids};
 ghost use Rattle.node_match.specs.Fronts.{End};
-ghost use Rattle.node_match.specs.States.{AnyFrom, AddsFrom, Steps, From, Heads};
-ghost use Rattle.node_match.specs.declared.class.Role.TheVariants.{Meta, Deep, Plain, StrAny};
+ghost use Rattle.node_match.specs.States.{AnyFrom, AddsFrom, From, Heads};
+ghost use Rattle.node_match.specs.Choices.{untaken, Chosen, Picked, TakesAt};
+ghost use Rattle.node_match.specs.Orders.{order_of as order};
+ghost use Rattle.node_match.specs.declared.order.Order.TheVariants.{Fixed, Any};
+ghost use Rattle.node_match.specs.declared.class.Role.TheVariants.{Meta, Deep, StrAny};
 ghost use Rattle.node_match.specs.Holding.{Same, Held};
 ghost use Rattle.node_match.specs.Kids.{AreKids};
-ghost use Rattle.node_tree.specs.Numbers.{Numbered};
-ghost use Rattle.node_tree.specs.declared.node.Node.{Node as node};
-ghost use Rattle.meta_bind.specs.declared.bound.Bound.{Bound as bound};
 ghost use Rattle.node_pool.specs.Spots.{all_seen};
 
+use crate::asked::{has_dots, is_dots, order_of};
+use crate::choice::Choice;
 use crate::class::{Role, is_alike, is_string, is_wild, role_of};
 use crate::free::is_free;
 use crate::holder::Holder;
 use crate::known::{holds_same, holds_string};
 use crate::list::{bound_run, enter, finish, float, put_trail, runs, skip, start};
-use crate::refusal::{LOOK, are_refused};
+use crate::order::Order;
+use crate::refusal::{LOOK, are_kids_refused};
 use crate::state::State;
+use crate::taken::{mark, settle};
 use meta_bind::Trail;
 use node_pool::Spot;
 use node_tree::{Known, List, Memory, Node};
@@ -73,31 +78,16 @@ pub fn relate<'t>(
     ensures { OnOk result (Adds out.old out.new (λ c. Matches known.now pattern.now (seen spot.entry) trail.now c)) }
 {
     match role_of(pattern.kind) {
-        Role::Plain => plain(alloc, known, pattern, spot, trail, out)?,
+        Role::Plain => {
+            same(alloc, known, pattern, spot, trail, out)?;
+            held(known, pattern, spot, trail, out)?;
+        }
         Role::Meta => meta(known, pattern, spot, trail, out)?,
         Role::Deep => deep(alloc, known, pattern, spot, trail, out)?,
         Role::StrAny => any_string(known, pattern, spot, trail, out)?,
         Role::Dots => {}
         Role::MetaDots => {}
     }
-    Ok(())
-}
-
-// The same kind and text, or a name that is known to hold the same.
-#[cycle(search)]
-fn plain<'t>(
-    alloc: Global,
-    known: &[Known],
-    pattern: &'t Node,
-    spot: Spot<'_, 't>,
-    trail: &Trail<'t>,
-    out: &mut List<Trail<'t>>,
-) -> Result<(), Memory>
-    requires { role (kind_of pattern.now) ≡ Plain }
-    ensures { OnOk result (Adds out.old out.new (λ c. Matches known.now pattern.now (seen spot.entry) trail.now c)) }
-{
-    same(alloc, known, pattern, spot, trail, out)?;
-    held(known, pattern, spot, trail, out)?;
     Ok(())
 }
 
@@ -116,10 +106,16 @@ fn same<'t>(
     if !is_alike(pattern, spot.node) {
         return Ok(());
     }
-    if are_refused(pattern, spot.node.kids.as_slice(), LOOK) {
+    if are_kids_refused(pattern, spot.node, LOOK) {
         return Ok(());
     }
-    kids(alloc, known, pattern, spot, trail, out)?;
+    match order_of(pattern) {
+        Order::Fixed => kids(alloc, known, pattern, spot, trail, out)?,
+        Order::Any => {
+            choose_kids(alloc, known, pattern, spot, trail, usize::MAX, out)?;
+            let _room = out.len();
+        }
+    }
     Ok(())
 }
 
@@ -170,7 +166,7 @@ fn deep<'t>(
     trail: &Trail<'t>,
     out: &mut List<Trail<'t>>,
 ) -> Result<(), Memory>
-    requires { role (kind_of pattern.now) ≡ Deep }
+    requires role { role (kind_of pattern.now) ≡ Deep }
     ensures { OnOk result (Adds out.old out.new (λ c. Matches known.now pattern.now (seen spot.entry) trail.now c)) }
 {
     if !spot.node.kind.is_expression() {
@@ -186,7 +182,7 @@ fn deep<'t>(
     Ok(())
 }
 
-// The kids of the pattern match those of the node.
+// The kids of the pattern match those of the node in order.
 #[cycle(search)]
 fn kids<'t>(
     alloc: Global,
@@ -196,7 +192,8 @@ fn kids<'t>(
     trail: &Trail<'t>,
     out: &mut List<Trail<'t>>,
 ) -> Result<(), Memory>
-    ensures { OnOk result (Adds out.old out.new (λ c. MatchesList known.now (seen spot.entry) (parts_of pattern.now) (kids_at (seen spot.entry)) trail.now c)) }
+    requires fixed { order pattern.now ≡ Fixed }
+    ensures { OnOk result (Adds out.old out.new (λ c. MatchesKids known.now pattern.now (seen spot.entry) trail.now c)) }
 {
     let list = spot.kids(alloc)?;
     let holder = Holder {
@@ -230,25 +227,9 @@ pub fn step_at<'t>(
         let next = skip(alloc, holder.spot, states)?;
         return Ok(next);
     }
-    let next = step(alloc, known, kid, holder, states)?;
-    Ok(next)
-}
-
-// Where one pattern of a list leads from these states.
-#[cycle(search)]
-fn step<'t>(
-    alloc: Global,
-    known: &[Known],
-    pattern: &'t Node,
-    holder: Holder<'_, '_, 't>,
-    states: &List<State<'t>>,
-) -> Result<List<State<'t>>, Memory>
-    requires kin { AreKids holder.kids.now (seen holder.spot) }
-    ensures { IfOk result (λ next. Steps known.now (seen holder.entry.spot) (Some pattern.now) states.now next) }
-{
     let mut next = List::new(alloc);
     for state in states.as_slice() {
-        advance(alloc, known, pattern, holder, state, &mut next)?;
+        advance(alloc, known, kid, holder, state, &mut next)?;
     }
     Ok(next)
 }
@@ -319,5 +300,128 @@ fn item_at<'t>(
     let mut found = List::new(alloc);
     relate(alloc, known, pattern, holder.kids[at], trail, &mut found)?;
     enter(next, at + 1, found)?;
+    Ok(())
+}
+
+/// Adds the bindings that the kids of the pattern may take the binding to when they take those of the node in any order, and
+/// stops once there are more than `most`.
+#[cycle(search)]
+pub fn choose_kids<'t>(
+    alloc: Global,
+    known: &[Known],
+    pattern: &'t Node,
+    spot: Spot<'_, 't>,
+    trail: &Trail<'t>,
+    most: usize,
+    out: &mut List<Trail<'t>>,
+) -> Result<(), Memory>
+    requires any { order pattern.now ≡ Any }
+    ensures { OnOk result (AddsUpTo most out.old out.new (λ c. MatchesKids known.now pattern.now (seen spot.entry) trail.now c)) }
+{
+    let list = spot.kids(alloc)?;
+    let patterns = pattern.kids.as_slice();
+    let choice = Choice {
+        known,
+        patterns,
+        nodes: list.as_slice(),
+        loose: has_dots(patterns),
+        most,
+    };
+    let mut taken = vec![in alloc; false; list.len()]?;
+    choose(alloc, choice, 0, &mut taken, trail, out)?;
+    Ok(())
+}
+
+// Adds the bindings that the patterns from one on may take the binding to when each takes a node that isn't taken, and stops
+// once there are too many.
+#[cycle(search)]
+fn choose<'t>(
+    alloc: Global,
+    choice: Choice<'_, '_, '_, 't>,
+    from: usize,
+    taken: &mut Vec<bool>,
+    trail: &Trail<'t>,
+    out: &mut List<Trail<'t>>,
+) -> Result<(), Memory>
+    requires size { length taken.old.items ≡ length choice.nodes.now }
+    requires within { from ≤ length choice.patterns.now }
+    ensures kept { OnOk result (taken.new.items ≡ taken.old.items) }
+    ensures added { OnOk result (AddsUpTo choice.entry.most out.old out.new (λ c. Chosen choice.entry.known.now choice.entry.loose (drop from choice.entry.patterns.now) (untaken taken.old.items (all_seen choice.entry.nodes.now)) trail.now c)) }
+{
+    let patterns = choice.patterns;
+    if patterns.len() <= from {
+        settle(choice, taken.as_slice(), trail, out)?;
+        return Ok(());
+    }
+    if is_dots(&patterns[from]) {
+        choose(alloc, choice, from + 1, taken, trail, out)?;
+        return Ok(());
+    }
+    for at in 0..choice.nodes.len() {
+        take(alloc, choice, from, at, taken, trail, out)?;
+        if out.len() > choice.most {
+            return Ok(());
+        }
+    }
+    Ok(())
+}
+
+// The same where the first of the patterns takes the node at this place.
+#[cycle(search)]
+fn take<'t>(
+    alloc: Global,
+    choice: Choice<'_, '_, '_, 't>,
+    from: usize,
+    at: usize,
+    taken: &mut Vec<bool>,
+    trail: &Trail<'t>,
+    out: &mut List<Trail<'t>>,
+) -> Result<(), Memory>
+    requires size { length taken.old.items ≡ length choice.nodes.now }
+    requires part { from < length choice.patterns.now }
+    requires within { at < length choice.nodes.now }
+    ensures kept { OnOk result (taken.new.items ≡ taken.old.items) }
+    ensures added { OnOk result ((p : node) → p ≡ slice_index_or choice.entry.patterns.now from p → AddsUpTo choice.entry.most out.old out.new (λ c. TakesAt choice.entry.known.now choice.entry.loose at p (drop (from + 1) choice.entry.patterns.now) taken.old.items (all_seen choice.entry.nodes.now) trail.now c)) }
+{
+    if taken[at] {
+        return Ok(());
+    }
+    let first = &choice.patterns[from];
+    let mut found = List::new(alloc);
+    relate(
+        alloc,
+        choice.known,
+        first,
+        choice.nodes[at],
+        trail,
+        &mut found,
+    )?;
+    mark(taken, at, true);
+    go_on(alloc, choice, from + 1, taken, found, out)?;
+    mark(taken, at, false);
+    Ok(())
+}
+
+// The same from each of these bindings.
+#[cycle(search)]
+fn go_on<'t>(
+    alloc: Global,
+    choice: Choice<'_, '_, '_, 't>,
+    from: usize,
+    taken: &mut Vec<bool>,
+    mut found: List<Trail<'t>>,
+    out: &mut List<Trail<'t>>,
+) -> Result<(), Memory>
+    requires size { length taken.old.items ≡ length choice.nodes.now }
+    requires within { from ≤ length choice.patterns.now }
+    ensures kept { OnOk result (taken.new.items ≡ taken.old.items) }
+    ensures added { OnOk result (AddsUpTo choice.entry.most out.old out.new (λ c. Picked choice.entry.known.now choice.entry.loose (drop from choice.entry.patterns.now) (untaken taken.old.items (all_seen choice.entry.nodes.now)) found.entry c)) }
+{
+    while let Some(trail) = found.pop() {
+        choose(alloc, choice, from, taken, &trail, out)?;
+        if out.len() > choice.most {
+            return Ok(());
+        }
+    }
     Ok(())
 }

@@ -15,10 +15,13 @@ use Rattle.node_match.specs.declared.class.Role.TheVariants as roles
 use Rattle.node_match.specs.Sets.{Among}
 use Rattle.node_match.specs.Kinds.{role_of, IsOne}
 use Rattle.node_match.specs.Free.{Part, parts_of}
-use Rattle.node_match.specs.Relation.{Matches, MatchesKids, in_order, MatchesList, both_empty, head_and_rest, free_and_rest, dots, named_dots, nodes_of, Holds, held_at, same_node, known_literal, known_string, wildcard, metavariable, some_string, deep}
+use Rattle.node_match.specs.Relation.{Matches, MatchesKids, in_order, choosing, MatchesList, both_empty, head_and_rest, free_and_rest, dots, named_dots, Holds, held_at, same_node, known_literal, known_string, wildcard, metavariable, some_string, deep}
+use Rattle.node_match.specs.Orders.{is_dots, is_dots_role, asked_of}
 use Rattle.node_match.proofs.Inversion.{plain_cases, Somewhere}
+use Rattle.node_match.proofs.Choosing.{choice_meets, asked_among}
+use Rattle.node_match.proofs.Parts.{part_kid}
 use Rattle.tree_match.proofs.Pres.{pre_nodes}
-use Rattle.node_match.proofs.Numbering.{kids_nodes}
+use Rattle.node_match.proofs.Numbering.{kids_nodes, among_nodes}
 use Rattle.node_tree.specs.declared.known.Known.{Known}
 use Rattle.node_tree.specs.Numbers.{Numbered, kids_at, pre_at}
 use Rattle.node_tree.specs.Numbers.{root_of}
@@ -83,11 +86,6 @@ in_below = by_kids Closed (λ n each m k a b.
     ])
 
 -- ---- nodes with numbers
-
-among_nodes : (ss : List Numbered) (s : Numbered) → Among ss s → Among (nodes_of ss) s.node
-among_nodes [] s a = absurd a
-among_nodes (x ∷ ss) s (inl e) = inl (ap (λ (y : Numbered). y.node) e)
-among_nodes (x ∷ ss) s (inr a) = inr (among_nodes ss s a)
 
 among_kids : (h s : Numbered) → Among (kids_at h) s → Among (kids_of h.node) s.node
 among_kids h s a = let P : List Node → Type 0 = λ ns. Among ns s.node in subst P (kids_nodes h) (among_nodes (kids_at h) s a)
@@ -156,8 +154,22 @@ part_met C h q (Some p ∷ ps) ns b c one (inr a) (dots k r x) = met_after C k q
 part_met C h q (Some p ∷ ps) ns b c one (inl e) (named_dots k r x y) = absurd (not_one p q _ e r (λ z. z) one)
 part_met C h q (Some p ∷ ps) ns b c one (inr a) (named_dots k r x y) = met_after C k q ns (part_met C h q ps (drop k ns) _ c one a y)
 
-kids_met : (C : List Known) (h : Numbered) (q : Node) (ps : List Part) (ns : List Numbered) (b c : List Bound) → IsOne (role_of (kind_of q)) → Among ps (Some q) → MatchesKids C h ps ns b c → Met C q ns
-kids_met C h q ps ns b c one a (in_order x) = part_met C h q ps ns b c one a x
+one_asks : (q : Node) → IsOne (role_of (kind_of q)) → is_dots q ≡ false
+one_asks q one = at (role_of (kind_of q)) one
+  where
+    at : (r : Role) → IsOne r → is_dots_role r ≡ false
+    at roles.Plain _ = refl
+    at roles.Meta _ = refl
+    at roles.MetaDots o = absurd o
+    at roles.Dots o = absurd o
+    at roles.Deep _ = refl
+    at roles.StrAny _ = refl
+
+kids_met : (C : List Known) (p : Node) (n : Numbered) (q : Node) (b c : List Bound) → IsOne (role_of (kind_of q)) → Among (parts_of p) (Some q) → MatchesKids C p n b c → Met C q (kids_at n)
+kids_met C p n q b c one a (in_order _ x) = part_met C n q (parts_of p) (kids_at n) b c one a x
+kids_met C p n q b c one a (choosing {rest = rest} _ _ x) =
+    let (m, among, d, e, y) = choice_meets C q (asked_of (kids_of p)) (kids_at n) rest b c (asked_among (kids_of p) q (one_asks q one) (part_kid p q a)) x in
+    record { node = m; among = among; before = d; after = e; matches = y }
 
 module _ (fixed : Bool) where
   needs_one : (q : Node) (w : Word) → Needs fixed q w → IsOne (role_of (kind_of q))
@@ -195,7 +207,7 @@ module _ (C : List Known) (fixed : Bool) (none : fixed ≡ true → C ≡ []) wh
       ]
   needed p w (below {q = q} role literal a x) n b c y =
       elim (plain_cases C p n b role c y) [
-        | inl (kinds, texts, z) ↦ (let met = kids_met C n q (parts_of p) (kids_at n) b c (needs_one fixed q w x) a z in
+        | inl (kinds, texts, z) ↦ (let met = kids_met C p n q b c (needs_one fixed q w x) a z in
             let k = needed q w x met.node met.before met.after met.matches in
             (k.0, in_kid n.node met.node.node k.0 (among_kids n met.node met.among) k.1, k.2))
         | inr ((l, is, h, e), _) ↦ absurd (literal is)

@@ -1,6 +1,6 @@
 -- The members of a pattern stand at places of the file's text.
-use Rattle.std.proofs.Common.{◌≡◌, ℕ, List, [], ◌∷◌, ◌++◌, ◌⊎◌, inl, inr, ◌-◌, take, drop, map, refl, sym, subst, Bool, true, false, cond}
-use Rattle.std.specs.Prelude.{All, None, Some, Result, Ok, Err, IfOk}
+use Rattle.std.proofs.Common.{◌≡◌, ℕ, suc, List, [], ◌∷◌, ◌++◌, ◌⊎◌, inl, inr, ◌-◌, take, drop, map, refl, sym, subst, Bool, true, false, cond}
+use Rattle.std.specs.Prelude.{remove, All, None, Some, Result, Ok, Err, IfOk}
 use Rattle.std.specs.Ordering.{is_lt}
 use Rattle.std.specs.Str.{IsCharBoundary}
 use Rattle.std.specs.List.{flat_map}
@@ -23,12 +23,14 @@ use Rattle.tree_match.specs.declared.leaf.Leaf.{Leaf}
 use Rattle.tree_match.specs.declared.leaf.Leaf.TheVariants.{Full, Crowded}
 use Rattle.node_match.specs.Sets.{Among}
 use Rattle.node_match.specs.Free.{Part, parts_of}
-use Rattle.node_match.specs.Relation.{end_of, run_span, bound_by, Binds, fresh, again, Matches, same_node, known_literal, known_string, wildcard, metavariable, some_string, deep, nodes_of, MatchesKids, in_order, MatchesList, both_empty, head_and_rest, free_and_rest, dots, named_dots}
+use Rattle.node_match.specs.Orders.{asked_of}
+use Rattle.node_match.specs.Relation.{end_of, run_span, bound_by, Binds, fresh, again, Matches, same_node, known_literal, known_string, wildcard, metavariable, some_string, deep, nodes_of, MatchesKids, in_order, choosing, MatchesChoice, no_choice, choice, MatchesList, both_empty, head_and_rest, free_and_rest, dots, named_dots}
 use Rattle.node_tree.specs.Numbers.{root_of}
 use Rattle.tree_match.specs.Members.{Member, MemberAt, MemberRun, MemberOf, IsMember, KnownTree, kids_between, range_of, blocks_at, known_to}
 use Rattle.node_tree.specs.declared.known.Known.{Known}
 use Rattle.node_tree.specs.Numbers.{Numbered, kids_at, pre_at}
 use Rattle.node_match.proofs.Numbering.{kids_nodes}
+use Rattle.node_match.proofs.Sets.{among_at}
 use Rattle.tree_match.proofs.Pres.{pre_nodes}
 use Rattle.tree_match.specs.Leaf.{IsLeaf}
 use Rattle.tree_match.specs.Placed.{IsPlaced, IsLeafPlaced}
@@ -160,7 +162,7 @@ module _ (text : List ℕ) where
 
   mutual
     one_bound : (C : List Known) (p : Node) (n : Numbered) (b c : List Bound) → Matches C p n b c → Lies n.node → AreBound b → AreBound c
-    one_bound C p n b c (same_node r k t x) lies all = kids_bound C n (parts_of p) (kids_at n) b c x lies (kids_lie_at n lies) all
+    one_bound C p n b c (same_node r k t x) lies all = kids_bound C p n b c x lies all
     one_bound C p n b _ (known_literal l r is h e) lies all = all
     one_bound C p n b _ (wildcard r w t) lies all = all
     one_bound C p n b c (metavariable r w t x) lies all =
@@ -169,8 +171,15 @@ module _ (text : List ℕ) where
     one_bound C p n b _ (known_string l r h k) lies all = all
     one_bound C p n b c (deep q m r k e among x) lies all = one_bound C q m b c x (all_among LiesAt (pre_at n) m (pre_lie_at n lies) among) all
 
-    kids_bound : (C : List Known) (h : Numbered) (ps : List Part) (ns : List Numbered) (b c : List Bound) → MatchesKids C h ps ns b c → Lies h.node → All LiesAt ns → AreBound b → AreBound c
-    kids_bound C h ps ns b c (in_order x) lies kids all = list_bound C h ps ns b c x lies kids all
+    kids_bound : (C : List Known) (p : Node) (n : Numbered) (b c : List Bound) → MatchesKids C p n b c → Lies n.node → AreBound b → AreBound c
+    kids_bound C p n b c (in_order _ x) lies all = list_bound C n (parts_of p) (kids_at n) b c x lies (kids_lie_at n lies) all
+    kids_bound C p n b c (choosing {rest = rest} _ _ x) lies all = choice_bound C (asked_of (kids_of p)) (kids_at n) rest b c x (kids_lie_at n lies) all
+
+    choice_bound : (C : List Known) (ps : List Node) (ns rest : List Numbered) (b c : List Bound) → MatchesChoice C ps ns rest b c → All LiesAt ns → AreBound b → AreBound c
+    choice_bound C _ ns _ b _ no_choice kids all = all
+    choice_bound C (p ∷ ps) ns rest b c (choice {c = d} k n lt is x y) kids all =
+        choice_bound C ps (remove ns k) rest d c y (All-append LiesAt (take k ns) (drop (suc k) ns) (All-take LiesAt k ns kids) (All-drop LiesAt (suc k) ns kids))
+        (one_bound C p n b d x (all_among LiesAt ns n kids (among_at ns k n lt is)) all)
 
     list_bound : (C : List Known) (h : Numbered) (ps : List Part) (ns : List Numbered) (b c : List Bound) → MatchesList C h ps ns b c → Lies h.node → All LiesAt ns → AreBound b → AreBound c
     list_bound C h _ _ b _ both_empty lies kids all = all

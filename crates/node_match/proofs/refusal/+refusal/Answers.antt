@@ -1,11 +1,14 @@
-use Rattle.std.proofs.Common.{◌≡◌, Bool, true, false, not, arith, sym, ◌∙◌, List, subst, IsTrue}
-use Rattle.node_match.specs.Refused.{AreRefused}
+use Rattle.std.proofs.Common.{◌≡◌, inr, Bool, true, false, not, arith, sym, ap, ◌∙◌, subst, length, List, IsTrue}
 use Rattle.std.specs.Prelude.{Option}
 use Rattle.std.specs.Option.{option_copied}
 use Rattle.std.specs.Borrow.{Bor}
 use Rattle.node_tree.specs.declared.node.Node.{Node}
+use Rattle.node_tree.specs.Tree.{kids_of}
+use Rattle.node_match.specs.Sets.{Among}
 use Rattle.node_match.specs.Free.{parts_of}
-use Rattle.node_match.proofs.Refusals.{other_refused, kids_refused, string_refused}
+use Rattle.node_match.specs.Orders.{has_dots}
+use Rattle.node_match.proofs.Sets.{among_at}
+use Rattle.node_match.proofs.Refusals.{other_refused, kids_refused, list_refused, choice_refused, number_refused, asked_refused, refused_next, refused_all, string_refused}
 use Rattle.node_match.proofs.Parts.{parts_as_many}
 use Rattle.node_match.proofs.Refused.{same_number, whole_refused, none_left, one_refused, next_reached, NeverTakes}
 use Rattle.node_match.proofs.refusal.+refusal.Goals as goal
@@ -27,9 +30,38 @@ is_refused-returns-then-not-is_alike t c _ =
 
 pub is_refused-returns-else-levels-eq0 : goal.is_refused-returns-else-levels-eq0
 is_refused-returns-else-levels-eq0 t c refused =
-    let p = c.args.pattern.now in
-    let P : List Node → Type 0 = λ ns. AreRefused (parts_of p) ns in
-    kids_refused p c.args.node.now (sym c.role_of.ensures ∙ c.in-Plain.is) (untrue _ c.may_hold.ensures.1 c.if-may_hold.false) (subst P c.as_slice.ensures (c.are_refused.ensures refused))
+    kids_refused c.args.pattern.now c.args.node.now (sym c.role_of.ensures ∙ c.in-Plain.is) (untrue _ c.may_hold.ensures.1 c.if-may_hold.false) (c.are_kids_refused.ensures refused)
+
+pub are_kids_refused-returns-in-Fixed : goal.are_kids_refused-returns-in-Fixed
+are_kids_refused-returns-in-Fixed t c refused =
+    list_refused c.args.pattern.now c.args.node.now c.as_slice-nodes.result.now (sym c.order_of.ensures ∙ c.in-Fixed.is) c.as_slice-nodes.ensures (c.are_refused.ensures refused)
+
+pub are_kids_refused-returns-in-Any : goal.are_kids_refused-returns-in-Any
+are_kids_refused-returns-in-Any t c refused =
+    choice_refused c.args.pattern.now c.args.node.now c.as_slice-nodes.result.now (sym c.order_of.ensures ∙ c.in-Any.is) c.as_slice-nodes.ensures (c.is_choice_refused.ensures refused)
+
+pub is_choice_refused-returns-then-not-has_dots : goal.is_choice_refused-returns-then-not-has_dots
+is_choice_refused-returns-then-not-has_dots t c _ =
+    let ps = kids_of c.args.pattern.now in
+    let none = sym (c.has_dots.ensures ∙ ap has_dots c.as_slice-patterns.ensures) ∙ c.if-not-has_dots.true in
+    number_refused ps c.args.nodes.now none (λ e. c.if-nodes-patterns.true (e ∙ ap length (sym c.as_slice-patterns.ensures)))
+
+pub is_choice_refused-returns-then-not-is_dots : goal.is_choice_refused-returns-then-not-is_dots
+is_choice_refused-returns-then-not-is_dots t c _ =
+    let one = c.one-item.result in
+    let P : List Node → Type 0 = λ ps. Among ps one in
+    let among = subst P c.as_slice-patterns.ensures (among_at c.as_slice-patterns.result.now c.loop-one.one-index one c.loop-one-test.true c.one-item.is) in
+    asked_refused (kids_of c.args.pattern.now) c.args.nodes.now one among (sym c.is_dots.ensures ∙ c.if-not-is_dots.true) (c.is_none.ensures c.if-is_none.true)
+
+pub is_none-loop-node-init : goal.is_none-loop-node-init
+is_none-loop-node-init t c m among = inr among
+
+pub is_none-loop-node-preserved : goal.is_none-loop-node-preserved
+is_none-loop-node-preserved t c =
+    refused_next c.args.pattern.now c.args.nodes.now c.loop-node.node-index c.node-item.result c.loop-node-test.true c.node-item.is (c.is_refused.ensures c.if-not-is_refused.false) c.loop-node.invariant
+
+pub is_none-returns : goal.is_none-returns
+is_none-returns t c _ = refused_all c.args.pattern.now c.args.nodes.now c.loop-node.node-index c.loop-node-test.false c.loop-node.invariant
 
 pub are_refused-returns-then-are_single : goal.are_refused-returns-then-are_single
 are_refused-returns-then-are_single t c _ =

@@ -1,53 +1,32 @@
-use Rattle.std.proofs.Common.{◌≡◌, ◌∷◌, [], ◌∙◌, ap, sym, arith, drop, true, false, refl, subst, length, List, get_or, ◌↔◌}
-use Rattle.node_tree.specs.declared.node.Node.{Node}
-use Rattle.node_match.specs.declared.state.State.{State}
-use Rattle.node_match.specs.States.{AnyFrom}
-use Rattle.node_tree.specs.Tree.{kids_of}
-use Rattle.node_match.proofs.Sets.{adds_as, adds_none, adds_two, gathered, gathered_all, plus_as, plus_none, chain}
-use Rattle.node_match.proofs.Inversion.{plain_or_held, no_dots, no_meta_dots, dots_again, deep_in, heads, goes_more, no_goes, no_item, ordered_kids, somewhere_more, nowhere, one_kid}
-use Rattle.node_match.proofs.Steps.{first_state, no_state, floating_from, staying_from, entered_heads, part_steps, last_part, from_none}
+use Rattle.std.proofs.Common.{◌≡◌, ◌∷◌, [], ◌∙◌, ◌+◌, inl, ap, sym, arith, drop, false, refl, subst, length, length-set, List, Bool, get_or, set, ◌↔◌}
 use Rattle.std.specs.Prelude.{Some}
-use Rattle.node_match.specs.Free.{parts_of}
-use Rattle.node_match.proofs.Parts.{parts_as_many, free_here, asked_here}
+use Rattle.std.proofs.lemmas.List.{drop_all, get_or_default}
+use Rattle.node_tree.specs.declared.node.Node.{Node}
+use Rattle.node_tree.specs.Tree.{kids_of}
 use Rattle.node_tree.specs.Numbers.{kids_at, pre_at}
 use Rattle.node_pool.specs.declared.spot.Spot.{Spot}
-use Rattle.node_pool.specs.Spots.{seen}
-use Rattle.node_match.proofs.Numbering.{kids_nodes, kid_is, as_many, pre_many, one_further}
-use Rattle.std.proofs.lemmas.List.{drop_all}
+use Rattle.node_pool.specs.Spots.{seen, all_seen}
+use Rattle.meta_bind.specs.declared.bound.Bound.{Bound}
+use Rattle.node_match.specs.declared.state.State.{State}
+use Rattle.node_match.specs.Sets.{AddsUpTo}
+use Rattle.node_match.specs.Free.{Part}
+use Rattle.node_match.specs.Fronts.{End}
+use Rattle.node_match.specs.States.{AnyFrom}
+use Rattle.node_match.specs.Orders.{has_dots, asked_of}
+use Rattle.node_match.specs.Choices.{untaken, TakesAt}
+use Rattle.node_match.proofs.Sets.{adds_as, adds_two, adds_up, adds_up_as, adds_enough, gathered, gathered_all, plus_as, plus_none, chain}
+use Rattle.node_match.proofs.Inversion.{plain_or_held, dots_again, deep_in, heads, goes_more, no_goes, no_item, ordered_kids, somewhere_more, nowhere, one_kid}
+use Rattle.node_match.proofs.Steps.{first_state, no_state, floating_from, staying_from, entered_heads, part_steps, last_part, from_none}
+use Rattle.node_match.proofs.Choosing.{chosen_kids, chosen_as, chosen_at, takes, takes_as, take_more, none_takes, picked_at, picked_as, picked_last, none_picked, asked_from, all_left, read_free, set_back, seen_many, seen_at}
+use Rattle.node_match.proofs.Counted.{count_kid, count_kids, count_next, count_some}
+use Rattle.node_match.proofs.Parts.{parts_as_many, free_here, asked_here}
+use Rattle.node_match.proofs.Numbering.{kid_is, as_many, pre_many, one_further}
 use Rattle.node_match.proofs.search.+search.Goals as goal
 
-pub same-returns-then-not-is_alike : goal.same-returns-then-not-is_alike
-same-returns-then-not-is_alike t c =
-    adds_none _ _ (λ d (k, text, x). let yes = c.is_alike.ensures.1 (k, text) in let e : false ≡ true = sym c.if-not-is_alike.true ∙ yes in cc)
-
-pub same-returns-then-are_refused : goal.same-returns-then-are_refused
-same-returns-then-are_refused t c =
-    let p = c.args.pattern.now in
-    let s = seen c.args.spot in
-    let C = c.args.known.now in
-    adds_none _ _
-    (λ d (k, text, x).
-    c.are_refused.ensures c.if-are_refused.true C (kids_at s) (kids_nodes s ∙ sym c.as_slice.ensures) s c.args.trail.now d ((ordered_kids C s (parts_of p) (kids_at s) c.args.trail.now d).1 x))
-
-pub same-returns : goal.same-returns
-same-returns t c =
-    let p = c.args.pattern.now in
-    let s = seen c.args.spot in
-    let C = c.args.known.now in
-    let alike = c.is_alike.ensures.0 c.if-not-is_alike.false in
-    adds_as _ _ _ _ c.in_ok-kids.ensures
-    (λ b. let o = ordered_kids C s (parts_of p) (kids_at s) c.args.trail.now b in (λ x. (alike.0, alike.1, o.0 x), λ (k, text, x). o.1 x))
-
-pub plain-returns : goal.plain-returns
-plain-returns t c =
-    adds_as _ _ _ _ (adds_two _ _ _ _ _ c.in_ok-same.ensures c.in_ok-held.ensures)
-    (λ b. plain_or_held c.args.known.now c.args.pattern.now (seen c.args.spot) c.args.trail.now c.requires b)
-
-pub relate-returns-in-Dots : goal.relate-returns-in-Dots
-relate-returns-in-Dots t c = adds_none _ _ (λ b x. no_dots c.args.known.now c.args.pattern.now (seen c.args.spot) c.args.trail.now b (sym c.role_of.ensures ∙ c.in-Dots.is) x)
-
-pub relate-returns-in-MetaDots : goal.relate-returns-in-MetaDots
-relate-returns-in-MetaDots t c = adds_none _ _ (λ b x. no_meta_dots c.args.known.now c.args.pattern.now (seen c.args.spot) c.args.trail.now b (sym c.role_of.ensures ∙ c.in-MetaDots.is) x)
+pub relate-returns-in_ok-held-in-Plain : goal.relate-returns-in_ok-held-in-Plain
+relate-returns-in_ok-held-in-Plain t c =
+    adds_as _ _ _ _ (adds_two _ _ _ _ _ c.in_ok-same-in-Plain.ensures c.in_ok-held-in-Plain.ensures)
+    (λ b. plain_or_held c.args.known.now c.args.pattern.now (seen c.args.spot) c.args.trail.now (sym c.role_of.ensures ∙ c.in-Plain.is) b)
 
 pub advance-returns-in_ok-float-in-Dots : goal.advance-returns-in_ok-float-in-Dots
 advance-returns-in_ok-float-in-Dots t c ps b =
@@ -99,7 +78,7 @@ deep-returns t c b =
     let q = one.0 in
     let done : drop c.loop-further.further (pre_at s) ≡ [] = drop_all c.loop-further.further (pre_at s) (omega (arith, pre_many s, c.size-further-end.ensures.size, c.loop-further-test.false)) in
     plus_as _ _ _ _ (gathered_all _ _ _ (nowhere C q _ c.args.trail.now b done) (c.loop-further.invariant q b (c.as_slice-inner.ensures ∙ one.1)))
-    (deep_in C c.args.pattern.now s c.args.trail.now c.requires q one.1 (sym c.is_expression.ensures ∙ c.if-not-is_expression.false) b)
+    (deep_in C c.args.pattern.now s c.args.trail.now c.requires.role q one.1 (sym c.is_expression.ensures ∙ c.if-not-is_expression.false) b)
 
 pub deep-loop-further-preserved : goal.deep-loop-further-preserved
 deep-loop-further-preserved t c q b e =
@@ -111,8 +90,11 @@ deep-loop-further-preserved t c q b e =
 
 pub kids-returns : goal.kids-returns
 kids-returns t c =
-    adds_as _ _ _ _ (c.in_ok-finish.ensures c.args.known.now)
-    (λ b. last_part c.args.known.now (seen c.args.spot) _ _ _ c.args.trail.now b (omega (arith, parts_as_many c.args.pattern.now, c.len-at-end.ensures, c.loop-at-test.false)) (c.loop-at.invariant ([], b)))
+    let C = c.args.known.now in
+    let n = seen c.args.spot in
+    adds_as _ _ _ _ (c.in_ok-finish.ensures C)
+    (λ b. chain _ _ _ (last_part C n _ _ _ c.args.trail.now b (omega (arith, parts_as_many c.args.pattern.now, c.len-at-end.ensures, c.loop-at-test.false)) (c.loop-at.invariant ([], b)))
+    (ordered_kids C c.args.pattern.now n c.args.trail.now b c.requires.fixed))
 
 pub kids-loop-at-init : goal.kids-loop-at-init
 kids-loop-at-init t c b = c.in_ok-states.ensures c.args.known.now (seen c.args.spot) _ b
@@ -125,19 +107,183 @@ step_at-returns-then-is_free t c b =
     let here = free_here c.args.pattern.now _ c.args.at c.index-as_slice-at.result c.as_slice.ensures c.requires.within c.index-as_slice-at.is (sym c.is_free.ensures ∙ c.if-is_free.true) in
     part_steps c.args.known.now (seen c.args.holder.spot) _ _ c.args.at _ _ b here (c.in_ok-next.ensures c.args.known.now _ b)
 
+pub step_at-loop-state-preserved : goal.step_at-loop-state-preserved
+step_at-loop-state-preserved t c ps b =
+    let q = c.index-as_slice-at.result in
+    gathered _ _ _ _ _ _ (c.in_ok-advance.ensures ps b) (first_state c.args.known.now (seen c.args.holder.spot) (Some q ∷ ps) _ _ _ b c.loop-state-test.true c.state-item.is) (c.loop-state.invariant ps b)
+
+pub step_at-loop-state-init : goal.step_at-loop-state-init
+step_at-loop-state-init t c ps b = from_none c.args.known.now (seen c.args.holder.spot) ps _ _ b c.new-next.ensures
+
 pub step_at-returns : goal.step_at-returns
 step_at-returns t c b =
-    let here = asked_here c.args.pattern.now _ c.args.at c.index-as_slice-at.result c.as_slice.ensures c.requires.within c.index-as_slice-at.is (sym c.is_free.ensures ∙ c.if-is_free.false) in
-    part_steps c.args.known.now (seen c.args.holder.spot) _ _ c.args.at _ _ b here (c.in_ok-next-2.ensures _ b)
+    let C = c.args.known.now in
+    let h = seen c.args.holder.spot in
+    let q = c.index-as_slice-at.result in
+    let here = asked_here c.args.pattern.now _ c.args.at q c.as_slice.ensures c.requires.within c.index-as_slice-at.is (sym c.is_free.ensures ∙ c.if-is_free.false) in
+    let P : (ps : List Part) (e : End) → List State → Type 0 = λ ps e ss. AnyFrom C h ps c.loop-state.next e ↔ AnyFrom C h (Some q ∷ ps) ss e in
+    let all = λ (ps : List Part) (e : End). subst (P ps e) c.as_slice-state-items.ensures (gathered_all _ _ _ (no_state C h (Some q ∷ ps) _ _ e c.loop-state-test.false) (c.loop-state.invariant ps e)) in
+    part_steps C h _ _ c.args.at _ _ b here (all _ b)
 
-pub step-loop-state-preserved : goal.step-loop-state-preserved
-step-loop-state-preserved t c ps b =
-    gathered _ _ _ _ _ _ (c.in_ok-advance.ensures ps b) (first_state c.args.known.now (seen c.args.holder.spot) (Some c.args.pattern.now ∷ ps) _ _ _ b c.loop-state-test.true c.state-item.is) (c.loop-state.invariant ps b)
+-- ---- choosing
 
-pub step-returns : goal.step-returns
-step-returns t c ps b =
-    let P : List State → Type 0 = λ ss. AnyFrom c.args.known.now (seen c.args.holder.spot) ps c.loop-state.next b ↔ AnyFrom c.args.known.now (seen c.args.holder.spot) (Some c.args.pattern.now ∷ ps) ss b in
-    subst P c.as_slice-state-items.ensures (gathered_all _ _ _ (no_state c.args.known.now (seen c.args.holder.spot) (Some c.args.pattern.now ∷ ps) _ _ b c.loop-state-test.false) (c.loop-state.invariant ps b))
+pub choose_kids-returns : goal.choose_kids-returns
+choose_kids-returns t c =
+    let C = c.args.known.now in
+    let p = c.args.pattern.now in
+    let n = seen c.args.spot in
+    let nodes = c.as_slice.result.now in
+    let many : length c.in_ok-taken.taken.items ≡ length (all_seen nodes) = omega (arith, c.in_ok-taken.ensures.len, c.in_ok-taken.taken.ok.0, c.len.ensures, ap length c.as_slice.ensures, seen_many nodes) in
+    let left = all_left _ (λ x y h. h) c.in_ok-taken.taken.items (all_seen nodes) c.in_ok-taken.ensures.items many ∙ ap all_seen c.as_slice.ensures ∙ c.in_ok-list.ensures in
+    adds_up_as _ _ _ _ _ c.in_ok-choose.ensures.added
+    (λ b. chain _ _ _ (chosen_as C _ _ c.as_slice-patterns.result.now (kids_of p) _ _ c.args.trail.now b (c.has_dots.ensures ∙ ap has_dots c.as_slice-patterns.ensures) (ap asked_of c.as_slice-patterns.ensures) left) (chosen_kids C p n c.args.trail.now b c.requires.any))
 
-pub step-loop-state-init : goal.step-loop-state-init
-step-loop-state-init t c ps b = from_none c.args.known.now (seen c.args.holder.spot) ps _ _ b c.new-next.ensures
+pub choose-loop-at-init : goal.choose-loop-at-init
+choose-loop-at-init t c = record { kept = refl; gathers = λ p b is. (λ x. x, λ x. x) }
+
+pub choose-loop-at-preserved : goal.choose-loop-at-preserved
+choose-loop-at-preserved t c = record {
+  kept = c.in_ok-take.ensures.kept ∙ c.loop-at.invariant.kept;
+  gathers = λ p b is.
+      let C = c.args.choice.known.now in
+      let nodes = c.args.choice.nodes.now in
+      let rest = drop (c.args.from + 1) c.args.choice.patterns.now in
+      let added = takes_as C _ _ _ c.args.choice.loose c.loop-at.at p rest _ c.args.taken.now.items (all_seen nodes) c.args.trail.now c.loop-at.invariant.kept (c.in_ok-take.ensures.added p is) in
+      gathered _ _ _ _ _ _ (added.whole (omega (arith, c.len.ensures)) b)
+      (take_more C c.args.choice.loose p rest c.args.taken.now.items (all_seen nodes) (c.requires.size ∙ sym (seen_many nodes)) c.args.trail.now b c.loop-at.at (omega (arith, seen_many nodes)))
+      (c.loop-at.invariant.gathers p b is);
+}
+
+pub choose-returns-then-len-choice-clause-kept : goal.choose-returns-then-len-choice-clause-kept
+choose-returns-then-len-choice-clause-kept t c = c.in_ok-take.ensures.kept ∙ c.loop-at.invariant.kept
+
+pub choose-returns-then-len-choice-clause-added : goal.choose-returns-then-len-choice-clause-added
+choose-returns-then-len-choice-clause-added t c =
+    let C = c.args.choice.known.now in
+    let f = c.args.choice.loose in
+    let nodes = c.args.choice.nodes.now in
+    let ps = c.args.choice.patterns.now in
+    let p = c.index-patterns-from.result in
+    let is = c.index-patterns-from.is in
+    let rest = drop (c.args.from + 1) ps in
+    let ts = c.args.taken.now.items in
+    let many = c.requires.size ∙ sym (seen_many nodes) in
+    let added = takes_as C _ _ _ f c.loop-at.at p rest _ ts (all_seen nodes) c.args.trail.now c.loop-at.invariant.kept (c.in_ok-take.ensures.added p is) in
+    let more = λ (b : List Bound). take_more C f p rest ts (all_seen nodes) many c.args.trail.now b c.loop-at.at (omega (arith, seen_many nodes)) in
+    adds_up_as _ _ _ _ _ (adds_enough _ _ _ _ _ _ _ added (λ b. c.loop-at.invariant.gathers p b is) (λ b x. (more b).1 (inl x)) (omega (arith, c.len.ensures)))
+    (λ b. chain _ _ _ (takes C f p rest ts (all_seen nodes) many c.args.trail.now b (sym c.is_dots.ensures ∙ c.if-is_dots.false))
+    (chosen_as C _ _ (p ∷ rest) (drop c.args.from ps) _ _ c.args.trail.now b refl (sym (asked_from ps c.args.from p (omega arith) is)) refl))
+
+pub choose-returns-clause-kept : goal.choose-returns-clause-kept
+choose-returns-clause-kept t c = c.loop-at.invariant.kept
+
+pub choose-returns-clause-added : goal.choose-returns-clause-added
+choose-returns-clause-added t c =
+    let C = c.args.choice.known.now in
+    let f = c.args.choice.loose in
+    let nodes = c.args.choice.nodes.now in
+    let ps = c.args.choice.patterns.now in
+    let p = c.index-patterns-from.result in
+    let is = c.index-patterns-from.is in
+    let rest = drop (c.args.from + 1) ps in
+    let ts = c.args.taken.now.items in
+    let many = c.requires.size ∙ sym (seen_many nodes) in
+    adds_up_as _ _ _ _ _
+    (adds_up _ _ _ _ (λ b. gathered_all _ _ _ (none_takes C f p rest ts (all_seen nodes) many c.args.trail.now b c.loop-at.at (omega (arith, seen_many nodes))) (c.loop-at.invariant.gathers p b is)))
+    (λ b. chain _ _ _ (takes C f p rest ts (all_seen nodes) many c.args.trail.now b (sym c.is_dots.ensures ∙ c.if-is_dots.false))
+    (chosen_as C _ _ (p ∷ rest) (drop c.args.from ps) _ _ c.args.trail.now b refl (sym (asked_from ps c.args.from p (omega arith) is)) refl))
+
+pub take-returns-clause-kept : goal.take-returns-clause-kept
+take-returns-clause-kept t c =
+    let free = read_free c.args.taken.now.items c.args.at c.index.result.now (omega (arith, c.requires.size)) c.index.ensures c.if-index.false in
+    c.mark-2.ensures ∙ ap (λ (ts : List Bool). set ts c.args.at false) (c.in_ok-go_on.ensures.kept ∙ c.mark.ensures) ∙ set_back c.args.taken.now.items c.args.at free
+
+pub take-returns-clause-added : goal.take-returns-clause-added
+take-returns-clause-added t c p is =
+    let C = c.args.choice.known.now in
+    let f = c.args.choice.loose in
+    let nodes = c.args.choice.nodes.now in
+    let ps = c.args.choice.patterns.now in
+    let rest = drop (c.args.from + 1) ps in
+    let q = get_or ps c.args.from c.index-choice-from.result in
+    let n = get_or nodes c.args.at c.index-choice-at.result in
+    let R : Node → Type 0 = λ x. x ≡ get_or ps c.args.from x in
+    let S : Spot → Type 0 = λ x. x ≡ get_or nodes c.args.at x in
+    let q-is = subst R c.index-choice-from.is c.index-choice-from.is in
+    let n-is = subst S c.index-choice-at.is c.index-choice-at.is in
+    let free = read_free c.args.taken.now.items c.args.at c.index.result.now (omega (arith, c.requires.size)) c.index.ensures c.if-index.false in
+    let same : p ≡ q = is ∙ get_or_default ps c.args.from p q c.requires.part ∙ sym q-is in
+    let here = seen_at nodes c.args.at n c.requires.within n-is in
+    let left = ap (λ (ts : List Bool). untaken ts (all_seen nodes)) c.mark.ensures in
+    let Q : Node → Type 0 = λ r. AddsUpTo c.args.choice.most c.args.out.now c.go_on.new.out (λ b. TakesAt C f c.args.at r rest c.args.taken.now.items (all_seen nodes) c.args.trail.now b) in
+    subst Q (sym same) (adds_up_as _ _ _ _ _ c.in_ok-go_on.ensures.added
+    (λ b. chain _ _ _ (picked_as C f rest _ _ _ b left)
+    (picked_at C f q rest c.args.taken.now.items (all_seen nodes) (c.requires.size ∙ sym (seen_many nodes)) c.args.trail.now b c.args.at (seen n) _ _ (omega (arith, seen_many nodes)) here free c.new-found.ensures c.in_ok-relate.ensures)))
+
+pub go_on-loop-trail-init : goal.go_on-loop-trail-init
+go_on-loop-trail-init t c = record { kept = refl; gathers = λ b. (λ x. x, λ x. x) }
+
+pub go_on-loop-trail-preserved : goal.go_on-loop-trail-preserved
+go_on-loop-trail-preserved t c = record {
+  kept = c.in_ok-choose.ensures.kept ∙ c.loop-trail.invariant.kept;
+  gathers = λ b.
+      let C = c.args.choice.known.now in
+      let added = chosen_at C _ _ _ c.args.choice.loose _ _ c.args.taken.now.items (all_seen c.args.choice.nodes.now) c.in-Some.trail c.loop-trail.invariant.kept c.in_ok-choose.ensures.added in
+      gathered _ _ _ _ _ _ (added.whole (omega (arith, c.len.ensures)) b) (picked_last C c.args.choice.loose _ _ _ _ c.in-Some.trail b c.in-Some.ensures) (c.loop-trail.invariant.gathers b);
+}
+
+pub go_on-returns-then-len-choice-clause-kept : goal.go_on-returns-then-len-choice-clause-kept
+go_on-returns-then-len-choice-clause-kept t c = c.in_ok-choose.ensures.kept ∙ c.loop-trail.invariant.kept
+
+pub go_on-returns-then-len-choice-clause-added : goal.go_on-returns-then-len-choice-clause-added
+go_on-returns-then-len-choice-clause-added t c =
+    let C = c.args.choice.known.now in
+    let added = chosen_at C _ _ _ c.args.choice.loose _ _ c.args.taken.now.items (all_seen c.args.choice.nodes.now) c.in-Some.trail c.loop-trail.invariant.kept c.in_ok-choose.ensures.added in
+    adds_enough _ _ _ _ _ _ _ added c.loop-trail.invariant.gathers (λ b x. (picked_last C c.args.choice.loose _ _ _ _ c.in-Some.trail b c.in-Some.ensures).1 (inl x)) (omega (arith, c.len.ensures))
+
+pub go_on-returns-clause-kept : goal.go_on-returns-clause-kept
+go_on-returns-clause-kept t c = c.loop-trail.invariant.kept
+
+pub go_on-returns-clause-added : goal.go_on-returns-clause-added
+go_on-returns-clause-added t c =
+    adds_up _ _ _ _ (λ b. gathered_all _ _ _ (none_picked c.args.choice.known.now c.args.choice.loose _ _ _ b c.in_default.ensures.0) (c.loop-trail.invariant.gathers b))
+
+-- ---- the search goes down the pattern
+
+pub deep-relate-requires : goal.deep-relate-requires
+deep-relate-requires t c =
+    let fewer = count_kid c.args.pattern.now c.as_slice-inner.result.now 0 c.index-inner-0.result c.as_slice-inner.ensures (omega (arith, c.if-inner-ne1.false)) c.index-inner-0.is in
+    (omega (arith, c.decreases, fewer), tt)
+
+pub step_at-advance-requires : goal.step_at-advance-requires
+step_at-advance-requires t c =
+    let fewer = count_kid c.args.pattern.now _ c.args.at c.index-as_slice-at.result c.as_slice.ensures (omega (arith, c.requires.within, ap length c.as_slice.ensures)) c.index-as_slice-at.is in
+    (omega (arith, c.decreases, fewer), c.requires.kin)
+
+pub choose_kids-choose-requires : goal.choose_kids-choose-requires
+choose_kids-choose-requires t c =
+    let fewer = count_kids c.args.pattern.now c.as_slice-patterns.result.now c.as_slice-patterns.ensures in
+    (omega (arith, c.decreases, fewer), (omega (arith, c.in_ok-taken.ensures.len, c.in_ok-taken.taken.ok.0, c.len.ensures, ap length c.as_slice.ensures), omega arith))
+
+pub choose-choose-requires : goal.choose-choose-requires
+choose-choose-requires t c =
+    let next = count_next c.args.choice.patterns.now c.args.from c.index-patterns-from.result (omega arith) c.index-patterns-from.is in
+    (omega (arith, c.decreases, next, count_some c.index-patterns-from.result), (c.requires.size, omega arith))
+
+pub choose-take-requires : goal.choose-take-requires
+choose-take-requires t c = (omega (arith, c.decreases), (omega (arith, ap length c.loop-at.invariant.kept, c.requires.size), (omega arith, omega arith)))
+
+pub take-relate-requires : goal.take-relate-requires
+take-relate-requires t c =
+    let R : Node → Type 0 = λ x. x ≡ get_or c.args.choice.patterns.now c.args.from x in
+    let q-is = subst R c.index-choice-from.is c.index-choice-from.is in
+    let next = count_next c.args.choice.patterns.now c.args.from (get_or c.args.choice.patterns.now c.args.from c.index-choice-from.result) c.requires.part q-is in
+    (omega (arith, c.decreases, next), tt)
+
+pub take-go_on-requires : goal.take-go_on-requires
+take-go_on-requires t c =
+    let next = count_next c.args.choice.patterns.now c.args.from c.index-choice-from.result c.requires.part c.index-choice-from.is in
+    (omega (arith, c.decreases, next, count_some c.index-choice-from.result), (ap length c.mark.ensures ∙ length-set _ _ _ ∙ c.requires.size, omega (arith, c.requires.part)))
+
+pub go_on-choose-requires : goal.go_on-choose-requires
+go_on-choose-requires t c = (omega (arith, c.decreases), (omega (arith, ap length c.loop-trail.invariant.kept, c.requires.size), c.requires.within))

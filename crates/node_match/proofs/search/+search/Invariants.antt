@@ -1,7 +1,8 @@
-use Rattle.std.proofs.Common.{◌↔◌, ◌⊎◌, List, [], ◌∷◌, drop, true}
+use Rattle.std.proofs.Common.{◌≡◌, ◌↔◌, ◌⊎◌, ◌+◌, ◌*◌, List, [], ◌∷◌, length, drop, get_or, true}
 use Rattle.node_tree.specs.declared.node.Node.{Node}
-use Rattle.node_tree.specs.Numbers.{kids_at, pre_at}
-use Rattle.node_pool.specs.Spots.{seen}
+use Rattle.node_tree.specs.Tree.{pre_all}
+use Rattle.node_tree.specs.Numbers.{count_of, kids_at, pre_at}
+use Rattle.node_pool.specs.Spots.{seen, all_seen}
 use Rattle.meta_bind.specs.declared.bound.Bound.{Bound}
 use Rattle.std.specs.Prelude.{Some}
 use Rattle.node_match.specs.Sets.{Among}
@@ -9,7 +10,7 @@ use Rattle.node_match.specs.Free.{Part, parts_of}
 use Rattle.node_match.specs.Fronts.{End, Leads}
 use Rattle.node_match.specs.States.{AnyFrom, Goes}
 use Rattle.node_match.proofs.Inversion.{Somewhere}
-use Rattle.std.proofs.Common.{◌≡◌}
+use Rattle.node_match.specs.Choices.{untaken, TakesFrom, Picked}
 use Rattle.node_match.proofs.search.+search.Given as goal
 
 abbrev pub invariant-deep-loop-further : goal.invariant-deep-loop-further
@@ -24,6 +25,61 @@ invariant-items-loop-at l =
 abbrev pub invariant-kids-loop-at : goal.invariant-kids-loop-at
 invariant-kids-loop-at l = (c : End) → AnyFrom l.known (seen l.spot) (drop l.at (parts_of l.pattern)) l.states c ↔ Leads l.known (seen l.spot) (parts_of l.pattern) (kids_at (seen l.spot)) l.trail c
 
-abbrev pub invariant-step-loop-state : goal.invariant-step-loop-state
-invariant-step-loop-state l =
-    (ps : List Part) (c : End) → (AnyFrom l.known (seen l.holder.spot) ps l.next c ⊎ AnyFrom l.known (seen l.holder.spot) (Some l.pattern ∷ ps) (drop l.state-index l.state-items) c) ↔ AnyFrom l.known (seen l.holder.spot) (Some l.pattern ∷ ps) l.state-items c
+abbrev pub invariant-step_at-loop-state : goal.invariant-step_at-loop-state
+invariant-step_at-loop-state l =
+    (ps : List Part) (c : End) → (AnyFrom l.known (seen l.holder.spot) ps l.next c ⊎ AnyFrom l.known (seen l.holder.spot) (Some l.kid ∷ ps) (drop l.state-index l.state-items) c) ↔ AnyFrom l.known (seen l.holder.spot) (Some l.kid ∷ ps) l.state-items c
+
+abbrev pub invariant-choose-loop-at : goal.invariant-choose-loop-at
+invariant-choose-loop-at l = record {
+  kept : l.taken.items ≡ l.initial.taken.items;
+  gathers : (p : Node) (c : List Bound) → p ≡ get_or l.choice.patterns.now l.from p → (Among l.out c ⊎ TakesFrom l.choice.known.now l.choice.loose l.at p (drop (l.from + 1) l.choice.patterns.now) l.initial.taken.items (all_seen l.choice.nodes.now) l.trail c)
+      ↔ (Among l.initial.out c ⊎ TakesFrom l.choice.known.now l.choice.loose 0 p (drop (l.from + 1) l.choice.patterns.now) l.initial.taken.items (all_seen l.choice.nodes.now) l.trail c);
+}
+
+abbrev pub decreases-go_on-loop-trail : goal.decreases-go_on-loop-trail
+decreases-go_on-loop-trail l = length l.found
+
+abbrev pub invariant-go_on-loop-trail : goal.invariant-go_on-loop-trail
+invariant-go_on-loop-trail l = record {
+  kept : l.taken.items ≡ l.initial.taken.items;
+  gathers : (c : List Bound) → (Among l.out c ⊎ Picked l.choice.known.now l.choice.loose (drop l.from l.choice.patterns.now) (untaken l.initial.taken.items (all_seen l.choice.nodes.now)) l.found c)
+      ↔ (Among l.initial.out c ⊎ Picked l.choice.known.now l.choice.loose (drop l.from l.choice.patterns.now) (untaken l.initial.taken.items (all_seen l.choice.nodes.now)) l.initial.found c);
+}
+
+-- ---- the search goes down the pattern
+
+abbrev pub decreases-relate : goal.decreases-relate
+decreases-relate l = 16 * count_of l.pattern.now + 9
+
+abbrev pub decreases-same : goal.decreases-same
+decreases-same l = 16 * count_of l.pattern.now + 8
+
+abbrev pub decreases-deep : goal.decreases-deep
+decreases-deep l = 16 * count_of l.pattern.now + 8
+
+abbrev pub decreases-kids : goal.decreases-kids
+decreases-kids l = 16 * count_of l.pattern.now + 7
+
+abbrev pub decreases-choose_kids : goal.decreases-choose_kids
+decreases-choose_kids l = 16 * count_of l.pattern.now + 7
+
+abbrev pub decreases-step_at : goal.decreases-step_at
+decreases-step_at l = 16 * count_of l.pattern.now + 6
+
+abbrev pub decreases-advance : goal.decreases-advance
+decreases-advance l = 16 * count_of l.pattern.now + 12
+
+abbrev pub decreases-items : goal.decreases-items
+decreases-items l = 16 * count_of l.pattern.now + 11
+
+abbrev pub decreases-item_at : goal.decreases-item_at
+decreases-item_at l = 16 * count_of l.pattern.now + 10
+
+abbrev pub decreases-choose : goal.decreases-choose
+decreases-choose l = 16 * length (pre_all (drop l.from l.choice.patterns.now)) + 12
+
+abbrev pub decreases-take : goal.decreases-take
+decreases-take l = 16 * length (pre_all (drop l.from l.choice.patterns.now)) + 11
+
+abbrev pub decreases-go_on : goal.decreases-go_on
+decreases-go_on l = 16 * length (pre_all (drop l.from l.choice.patterns.now)) + 13

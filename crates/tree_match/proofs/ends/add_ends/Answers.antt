@@ -3,9 +3,9 @@ use Rattle.node_pool.specs.Spots.{seen}
 use Rattle.tree_match.specs.declared.aim.Aim.{Aim}
 use Rattle.node_match.specs.Sets.{AddsUpTo}
 use Rattle.tree_match.specs.Aims.{MemberFrom}
-use Rattle.tree_match.proofs.Ascents.{adds_up_as}
 use Rattle.tree_match.proofs.Spreads.{states_end}
 use Rattle.tree_match.proofs.ends.add_ends.Goals as goal
+use Rattle.node_match.proofs.Sets.{adds_up_as}
 
 pub returns-in_ok-add_all-in-All-clause-added : goal.returns-in_ok-add_all-in-All-clause-added
 returns-in_ok-add_all-in-All-clause-added c =

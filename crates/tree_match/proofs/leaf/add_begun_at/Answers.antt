@@ -5,8 +5,7 @@ use Rattle.node_pool.specs.Spots.{seen}
 use Rattle.node_match.specs.Sets.{AddsUpTo}
 use Rattle.tree_match.specs.Members.{MemberAt}
 use Rattle.std.proofs.Common.{arith}
-use Rattle.node_match.proofs.Sets.{adds_none}
-use Rattle.tree_match.proofs.Ascents.{adds_up}
+use Rattle.node_match.proofs.Sets.{adds_none, adds_up}
 use Rattle.node_match.proofs.Numbering.{pre_many}
 use Rattle.tree_match.proofs.Starting.{none_begins}
 use Rattle.tree_match.proofs.leaf.add_begun_at.Goals as goal

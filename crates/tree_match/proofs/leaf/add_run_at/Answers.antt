@@ -1,8 +1,7 @@
 use Rattle.std.proofs.Common.{◌∙◌, sym}
 use Rattle.node_pool.specs.Spots.{seen}
 use Rattle.tree_match.specs.Members.{MemberRun}
-use Rattle.node_match.proofs.Sets.{adds_none}
-use Rattle.tree_match.proofs.Ascents.{adds_up, adds_up_as}
+use Rattle.node_match.proofs.Sets.{adds_none, adds_up, adds_up_as}
 use Rattle.tree_match.proofs.MemberOrder.{one_block, no_block}
 use Rattle.tree_match.proofs.leaf.add_run_at.Goals as goal
 

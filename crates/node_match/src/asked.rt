@@ -1,0 +1,73 @@
+//! What a pattern asks of kids that may stand in any order.
+
+ghost use Rattle.std.specs.Prelude.{◌≡◌};
+ghost use Rattle.node_tree.specs.Tree.{kids_of};
+ghost use Rattle.node_match.specs.Orders.{is_dots as dots, is_run as run, has_dots as dots_in, has_runs as runs_in, members_by, order_of as order};
+
+use crate::class::{Role, role_of};
+use crate::order::Order;
+use node_tree::{Kind, Node};
+
+/// Whether the pattern is `...`.
+pub fn is_dots(pattern: &Node) -> bool
+    ensures { result ≡ dots pattern.now }
+{
+    match role_of(pattern.kind) {
+        Role::Dots => true,
+        _ => false,
+    }
+}
+
+// Whether the pattern is `$...X`.
+fn is_run(pattern: &Node) -> bool
+    ensures { result ≡ run pattern.now }
+{
+    match role_of(pattern.kind) {
+        Role::MetaDots => true,
+        _ => false,
+    }
+}
+
+/// Whether one of the patterns is `...`.
+pub fn has_dots(patterns: &[Node]) -> bool
+    ensures { result ≡ dots_in patterns.now }
+{
+    for pattern in patterns {
+        if is_dots(pattern) {
+            return true;
+        }
+    }
+    false
+}
+
+// Whether one of the patterns is `$...X`.
+fn has_runs(patterns: &[Node]) -> bool
+    ensures { result ≡ runs_in patterns.now }
+{
+    for pattern in patterns {
+        if is_run(pattern) {
+            return true;
+        }
+    }
+    false
+}
+
+// The order of members.
+fn members_order(pattern: &Node) -> Order
+    ensures { result ≡ members_by (kids_of pattern.now) }
+{
+    if has_runs(pattern.kids.as_slice()) {
+        return Order::Fixed;
+    }
+    Order::Any
+}
+
+/// In which order the kids of the pattern take those of a node.
+pub fn order_of(pattern: &Node) -> Order
+    ensures { result ≡ order pattern.now }
+{
+    match pattern.kind {
+        Kind::Object => members_order(pattern),
+        _ => Order::Fixed,
+    }
+}
