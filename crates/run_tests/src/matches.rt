@@ -44,6 +44,11 @@ fn prints_where_a_pattern_matches(rt: HostRuntime) -> Result<(), Fail> {
         "json ⇒ $X ⇒ {\"a\":1} ⇒ 0..7 $X=0..7\n1..4 $X=1..4\n5..6 $X=5..6\n",
         "json ⇒ {$K: \"...\"} ⇒ {\"a\":\"b\"} ⇒ 0..9 $K=1..4\n",
         "json ⇒ [$_, $_] ⇒ [1,2] ⇒ 0..5\n",
+        "json ⇒ {\"a\": $X, \"b\": $Y} ⇒ {\"b\":1,\"a\":2} ⇒ 0..13 $X=11..12 $Y=5..6\n",
+        "json ⇒ {$K: $V, ...} ⇒ {\"b\":1,\"a\":2} ⇒ 0..13 $K=1..4 $V=5..6\n0..13 $K=7..10 $V=11..12\n",
+        "json ⇒ {$K: $V} ⇒ {\"b\":1,\"a\":2} ⇒ ",
+        "json ⇒ {\"a\": $X, \"a\": $Y} ⇒ {\"a\":1,\"a\":2} ⇒ 0..13 $X=5..6 $Y=11..12\n0..13 $X=11..12 $Y=5..6\n",
+        "json ⇒ {\"a\": $_, ...} ⇒ {\"a\":1,\"a\":2} ⇒ 0..13\n",
         "json ⇒ 1 ⇒  ⇒ BadTarget",
         "json ⇒ 1 ⇒ [1,] ⇒ BadTarget",
         "json ⇒ ... ⇒ 1 ⇒ BadPattern",
@@ -98,7 +103,13 @@ fn prints_where_a_pattern_matches(rt: HostRuntime) -> Result<(), Fail> {
 #[test]
 fn ends_at_limits_and_failing_calls(rt: HostRuntime) -> Result<(), Fail> {
     let file: &[(u32, &[u8])] = &[(1, b"[1,{\"a\":1}]")];
-    let rows: [(&str, &[(u32, &[u8])], [u32; 3], &str); 10] = [
+    let rows: [(&str, &[(u32, &[u8])], [u32; 3], &str); 11] = [
+        (
+            "{$A: $B, $C: $D, ...}",
+            &[(1, b"{\"a\":0"), (110, b",\"a\":0"), (1, b"}")],
+            [0, 0, 0],
+            "TooMany(10000)",
+        ),
         (
             "0",
             &[(1, b"[0"), (10_000, b",0"), (1, b"]")],

@@ -5,5 +5,7 @@ pub mod Files
 pub mod Rules
 pub mod Causes
 pub mod Scans
+pub mod Inputs
 pub mod Matches
+pub mod Checks
 pub mod Requests

@@ -1,9 +1,8 @@
 -- A match ends in one way.
-use Rattle.std.proofs.Common.{◌≡◌, ◌⊎◌, inl, inr, ℕ, ◌+◌, ◌≤◌, List, [], ◌++◌, length, map, refl, sym, ap, ◌∙◌, subst, arith, length-append}
+use Rattle.std.proofs.Common.{◌≡◌, ◌⊎◌, inl, inr, ℕ, ◌+◌, ◌≤◌, List, [], length, map, refl, sym, ap, ◌∙◌, subst, arith}
 use Rattle.std.specs.Prelude.{Option, Some, None, IsSome}
 use Rattle.std.specs.List.{concat}
-use Rattle.std.specs.Io.KnownBytes.{Consumes, IsAtEnd, Appends}
-use Rattle.std.proofs.lemmas.List.{append-nil}
+use Rattle.std.specs.Io.KnownBytes.{Appends}
 use Rattle.node_tree.specs.declared.node.Node.{Node}
 use Rattle.node_tree.specs.declared.view.Pattern.{Pattern}
 use Rattle.node_tree.specs.declared.view.FileView.{FileView}
@@ -20,14 +19,15 @@ use Rattle.scan_run.specs.declared.status.Status.{Status}
 use Rattle.scan_run.specs.declared.status.Status.TheVariants.{OverLimit, BadTarget, BadPattern, TooMany, Done}
 use Rattle.scan_run.specs.declared.status.Status.TheVariants as statuses
 use Rattle.scan_run.specs.declared.status.LimitKind.TheVariants.{Target}
-use Rattle.scan_run.specs.Status.{IsOfSearch, IsOfMatch}
+use Rattle.scan_run.specs.Status.{HasInputCause, IsOfSearch, IsOfInput}
 use Rattle.scan_run.specs.Steps.{TakesSteps}
 use Rattle.scan_run.specs.Reading.{IsFileOf, IsOnlyFile, HasNoFile}
 use Rattle.scan_run.specs.Lines.{line_of}
-use Rattle.scan_run.specs.Streams.{Tells}
+use Rattle.scan_run.specs.Streams.{Tells, IsTarget, IsTooLong}
 use Rattle.scan_run.specs.Ways.{Printed, PrintedFront, PrintedSome, IsOnlyEnd}
 use Rattle.scan_run.specs.Matching.{HasNoPattern, SearchEnds, too_many, done, MatchEnds, bad_pattern, over_limit, bad_target, searched, Matches}
 use Rattle.scan_run.proofs.Streaming.{nothing_written}
+use Rattle.scan_run.proofs.Inputs.{some_input}
 
 -- ---- the search of a file
 
@@ -50,7 +50,7 @@ has_searched pattern tree _ _ (done members whole) = tt
 
 -- ---- what ends a search
 
-pub of_search : (s : Status) → IsOfSearch s → IsOfMatch s
+pub of_search : (s : Status) → IsOfSearch s → IsOfInput s
 of_search Done h = tt
 of_search (TooMany n) h = tt
 of_search statuses.Memory h = tt
@@ -78,6 +78,21 @@ search_steps (OverLimit kind n) b o a h e f = absurd h
 search_steps statuses.NoSuchPath b o a h e f = absurd h
 search_steps BadTarget b o a h e f = absurd h
 search_steps BadPattern b o a h e f = absurd h
+
+-- reading the input takes no step
+pub input_steps : (faults faults_after : ℕ) (s : Status) (steps : ℕ) → HasInputCause faults faults_after s → TakesSteps s steps steps
+input_steps f f' (OverLimit kind n) steps h = refl
+input_steps f f' statuses.Memory steps h = omega arith
+input_steps f f' statuses.InputFault steps h = refl
+input_steps f f' Done steps h = absurd h
+input_steps f f' statuses.Findings steps h = absurd h
+input_steps f f' statuses.Usage steps h = absurd h
+input_steps f f' statuses.OutputFault steps h = absurd h
+input_steps f f' statuses.TreeFault steps h = absurd h
+input_steps f f' (TooMany n) steps h = absurd h
+input_steps f f' statuses.NoSuchPath steps h = absurd h
+input_steps f f' BadTarget steps h = absurd h
+input_steps f f' BadPattern steps h = absurd h
 
 -- ---- the file that bytes are
 
@@ -142,30 +157,6 @@ only_match lang text input (Some bytes) w v s lines told settled ends put some o
     let Q : List (List ℕ) → Type 0 = λ ls. Appends w v (concat ls) in
     (same.0, subst Q (sym same.1) put)
 
--- ---- the input that a source tells
-
--- whatever the source tells is some input
-pub some_input : (left : Option (List ℕ)) → (input : List ℕ) × Tells left input
-some_input None = ([], tt)
-some_input (Some xs) = (xs, refl)
-
--- some input begins with what was read
-pub record Input (left : Option (List ℕ)) (front : List ℕ) : Type 0 where
-  pub bytes : List ℕ
-  pub told : Tells left bytes
-  pub long : length front ≤ length bytes
-
-pub input_with : (left after : Option (List ℕ)) (front : List ℕ) → Consumes left after front → Input left front
-input_with None after front h = record { bytes = front; told = tt; long = omega arith }
-input_with (Some xs) None front h = absurd h
-input_with (Some xs) (Some ys) front h = record { bytes = xs; told = refl; long = omega (arith, ap length h, length-append front ys) }
-
--- what was read to the end is the input
-pub whole_input : (left after : Option (List ℕ)) (read : List ℕ) → Consumes left after read → IsAtEnd after → Tells left read
-whole_input None after read h e = tt
-whole_input (Some xs) None read h e = absurd h
-whole_input (Some xs) (Some ys) read h e = h ∙ ap (λ (l : List ℕ). read ++ l) e ∙ append-nil read
-
 -- ---- how a match ends
 
 -- an end before anything is printed, on this input
@@ -183,16 +174,16 @@ only_unprinted lang text left w s nay u = only_match lang text u.input left w w 
 pub ends_bad_pattern : (lang : Lang) (text : List ℕ) (left : Option (List ℕ)) → HasNoPattern lang text → Unprinted lang text left BadPattern
 ends_bad_pattern lang text left none = let i = some_input left in record { input = i.0; told = i.1; ends = bad_pattern none }
 
-module _ (lang : Lang) (text : List ℕ) (pattern : Pattern) (is : IsPatternOf lang text pattern) (left after : Option (List ℕ)) (read : List ℕ) (h : Consumes left after read) where
-  pub ends_over_limit : 1000001 ≤ length read → Unprinted lang text left (OverLimit Target 1000001)
-  ends_over_limit long = let i = input_with left after read h in record { input = i.bytes; told = i.told; ends = over_limit pattern is (omega (arith, i.long)) }
+pub ends_over_limit : (lang : Lang) (text : List ℕ) (pattern : Pattern) (left : Option (List ℕ)) → IsPatternOf lang text pattern → IsTooLong left → Unprinted lang text left (OverLimit Target 1000001)
+ends_over_limit lang text pattern left is long = record { input = long.input; told = long.told; ends = over_limit pattern is long.long }
 
-  pub ends_bad_target : IsAtEnd after → length read ≤ 1000000 → HasNoFile lang read → Unprinted lang text left BadTarget
-  ends_bad_target end small none = record { input = read; told = whole_input left after read h end; ends = bad_target pattern is small none }
+module _ (lang : Lang) (text : List ℕ) (pattern : Pattern) (is : IsPatternOf lang text pattern) (left : Option (List ℕ)) (read : List ℕ) (target : IsTarget left read) where
+  pub ends_bad_target : HasNoFile lang read → Unprinted lang text left BadTarget
+  ends_bad_target none = record { input = read; told = target.told; ends = bad_target pattern is target.short none }
 
-  module _ (end : IsAtEnd after) (tree : KnownTree) (file : IsFileOf lang read tree) where
+  module _ (tree : KnownTree) (file : IsFileOf lang read tree) where
     found : (s : Status) (lines : List (List ℕ)) → SearchEnds pattern tree s lines → Matches lang text left s lines
-    found s lines ends = (read, whole_input left after read h end, searched pattern tree s lines is file ends)
+    found s lines ends = (read, target.told, searched pattern tree s lines is file ends)
 
     pub ends_by_search : (w v : Option (List ℕ)) (s : Status) → Printed (SearchEnds pattern tree) w v s → Printed (Matches lang text left) w v s
     ends_by_search w v s p = record { lines = p.lines; ends = found s p.lines p.ends; printed = p.printed }
@@ -207,6 +198,6 @@ module _ (lang : Lang) (text : List ℕ) (pattern : Pattern) (is : IsPatternOf l
     -- if no other pattern and no other tree were read, there is no other
     pub only_search : (w v : Option (List ℕ)) (s : Status) → ((p : Pattern) → IsPatternOf lang text p → pattern ≡ p) → IsOnlyFile lang read tree → Printed (SearchEnds pattern tree) w v s → IsSome left → IsOnlyEnd (Matches lang text left) w v s
     only_search w v s only_pattern only_file p =
-        only_match lang text read left w v s p.lines (whole_input left after read h end)
+        only_match lang text read left w v s p.lines target.told
         (λ has q r t u a b f g. (sym (only_pattern r b) ∙ only_pattern q a, only_file u g ∙ sym (only_file t f)))
         (searched pattern tree s p.lines is file p.ends) p.printed

@@ -4,6 +4,7 @@ pub mod Lines
 pub mod Reading
 pub mod Ways
 pub mod Matching
+pub mod Checking
 pub mod Taking
 pub mod Config
 pub mod Scan

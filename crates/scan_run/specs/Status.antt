@@ -45,6 +45,13 @@ abbrev pub HasConfigCause : ℕ → ℕ → ℕ → ℕ → Status → Type 0
 HasConfigCause faults faults_after absences absences_after NoSuchPath = (faults_after ≡ faults) × Rose absences absences_after
 HasConfigCause faults faults_after absences absences_after status = HasReadingCause faults faults_after status
 
+-- How reading the input may end a run: by its limit, by memory, or by a fault that the source counted.
+abbrev pub HasInputCause : ℕ → ℕ → Status → Type 0
+HasInputCause faults faults_after (OverLimit kind count) = faults_after ≡ faults
+HasInputCause faults faults_after Memory = Unit {0}
+HasInputCause faults faults_after InputFault = Rose faults faults_after
+HasInputCause faults faults_after _ = ⊥
+
 -- how a limit may end it, or memory, without a call of the tree
 abbrev pub IsOfLimit : Status → Type 0
 IsOfLimit (OverLimit kind count) = Unit {0}
@@ -60,11 +67,11 @@ IsOfReport Memory = Unit {0}
 IsOfReport OutputFault = Unit {0}
 IsOfReport _ = ⊥
 
--- how a match may end: by nothing that a tree of files counts
-abbrev pub IsOfMatch : Status → Type 0
-IsOfMatch TreeFault = ⊥
-IsOfMatch NoSuchPath = ⊥
-IsOfMatch _ = Unit {0}
+-- how a command may end that reads nothing but the input: by nothing that a tree of files counts
+abbrev pub IsOfInput : Status → Type 0
+IsOfInput TreeFault = ⊥
+IsOfInput NoSuchPath = ⊥
+IsOfInput _ = Unit {0}
 
 -- how the search of one file may end
 abbrev pub IsOfSearch : Status → Type 0

@@ -1,15 +1,17 @@
 //! The top call.
 
-ghost use Rattle.std.specs.Prelude.{◌≡◌, ◌⊎◌, map, string_bytes};
+ghost use Rattle.std.specs.Prelude.{◌≡◌, ◌⊎◌, ◌↔◌, map, string_bytes, IsTrue, IfSome, IsSomeAnd};
 ghost use Rattle.std.specs.Io.KnownBytes.{IsAtEnd};
 ghost use Rattle.scan_world.specs.Faults.{Rose};
 ghost use Rattle.scan_world.specs.Trees.{KeepsFiles};
 ghost use Rattle.scan_session.specs.Refused.{Gains, gained};
 ghost use Rattle.scan_run.specs.Status.{IsAnswer};
 ghost use Rattle.scan_run.specs.Ways.{Printed, PrintedFront, PrintedSome, IsOnlyEnd};
-ghost use Rattle.scan_run.specs.Run.{Ends, AreTold, AskToMatch, AskForNoScan};
+ghost use Rattle.wire_words.specs.Commands.{Request, request as requested};
+ghost use Rattle.scan_run.specs.Run.{Asks, IsBuilt, Ends, AreTold, AskToMatch, AskToRead, AskForNoScan, AskForNoSearch};
 ghost use Rattle.scan_run.specs.Steps.{TakesSteps};
 
+use crate::checking::run_check;
 use crate::matching::run_match;
 use crate::scan::run_scan;
 use crate::status::Status;
@@ -19,6 +21,33 @@ use scan_world::{Sink, Source, Tree};
 use std::alloc::Global;
 use std::sync::ledger::Ledger;
 use wire_words::{Command, read_words};
+
+// Whether a run does what a command asks for. The other commands, traces and stores are not built yet: their words are as those
+// outside the table.
+fn is_built(command: &Command<'_>) -> bool
+    ensures { IsTrue result ↔ IsBuilt (requested command.now) }
+{
+    match command {
+        Command::Match(_, _) => true,
+        Command::Check => true,
+        Command::Scan(job) => !job.trace && job.store.is_none(),
+        Command::Fix(_) => false,
+        Command::Session(_, _) => false,
+        Command::Drill(_) => false,
+    }
+}
+
+// The command that the words ask for, if a run does it.
+fn asked(words: &Vec<String>) -> Option<Command<'_>>
+    ensures read { IfSome result (λ command. Asks (map string_bytes words.now.items) (requested command)) }
+    ensures only { (r : Request) → Asks (map string_bytes words.now.items) r → IsSomeAnd result (λ command. requested command ≡ r) }
+{
+    let command = read_words(words)?;
+    if !is_built(&command) {
+        return None;
+    }
+    Some(command)
+}
 
 /// Does what the words ask for, from the input or the tree of files to the lines on the output. `specs/Run.antt` says what a
 /// run is, by the texts of regular expressions that were refused in it; the clauses say which part of it each status promises.
@@ -35,11 +64,11 @@ pub fn run<T: Tree, S: Source, K: Sink, P: Patterns, L: Ledger>(
     ensures ends { IsAnswer result → Printed (Ends (map string_bytes words.now.items) (S.left input.old) (T.files tree.old) (gained (P.refusals patterns.old) (P.refusals patterns.new))) (K.written out.old) (K.written out.new) result }
     ensures only { IsAnswer result → AreTold (map string_bytes words.now.items) (S.left input.old) (T.files tree.old) → IsOnlyEnd (Ends (map string_bytes words.now.items) (S.left input.old) (T.files tree.old) (gained (P.refusals patterns.old) (P.refusals patterns.new))) (K.written out.old) (K.written out.new) result }
 
-    // It leaves the counts of faults as they were, and a match is done only at the end of the input.
+    // It leaves the counts of faults as they were, and a match or a check is done only at the end of the input.
     ensures tree_kept { IsAnswer result → T.faults tree.new ≡ T.faults tree.old }
     ensures input_kept { IsAnswer result → S.faults input.new ≡ S.faults input.old }
     ensures output_kept { IsAnswer result → K.faults out.new ≡ K.faults out.old }
-    ensures read_to_its_end { AskToMatch (map string_bytes words.now.items) → result ≡ Status.Done → IsAtEnd (S.left input.new) }
+    ensures read_to_its_end { AskToRead (map string_bytes words.now.items) → result ≡ Status.Done → IsAtEnd (S.left input.new) }
 
     // The files stay as they are, however it ends.
     ensures files_kept { KeepsFiles (T.files tree.old) (T.files tree.new) }
@@ -57,11 +86,15 @@ pub fn run<T: Tree, S: Source, K: Sink, P: Patterns, L: Ledger>(
     ensures patterns_grow { Gains (P.refusals patterns.old) (P.refusals patterns.new) }
     ensures patterns_kept { AskForNoScan (map string_bytes words.now.items) → P.refusals patterns.new ≡ P.refusals patterns.old }
 
-    ensures work { AskForNoScan (map string_bytes words.now.items) → TakesSteps result steps.old steps.new }
+    // A match takes steps as its status says, and a run that searches nothing takes none.
+    ensures work { AskToMatch (map string_bytes words.now.items) → TakesSteps result steps.old steps.new }
+    ensures no_work { AskForNoSearch (map string_bytes words.now.items) → steps.new ≡ steps.old }
 {
-    match read_words(words) {
+    match asked(words) {
         None => Status::Usage,
         Some(Command::Match(lang, text)) => run_match(alloc, lang, text, input, out, steps),
+        Some(Command::Check) => run_check(alloc, input, out),
         Some(Command::Scan(job)) => run_scan(alloc, &job, tree, out, patterns, steps),
+        Some(_) => unreachable!(),
     }
 }

@@ -1,21 +1,25 @@
 //! Reading the input.
 
-ghost use Rattle.std.specs.Prelude.{◌≡◌, ◌<◌, ◌≤◌, length, IfOk, OnOk, IsErrOf, vec_len};
+ghost use Rattle.std.specs.Prelude.{◌≡◌, ◌<◌, ◌≤◌, length, IfOk, IfErr, OnOk, IsErrOf, vec_len};
 ghost use Rattle.std.specs.Io.KnownBytes.{Consumes, IsAtEnd};
 ghost use Rattle.scan_world.specs.Faults.{Rose};
-ghost use Rattle.scan_run.specs.Streams.{TakesPiece};
+ghost use Rattle.scan_run.specs.Status.{IsAnswer, HasInputCause};
+ghost use Rattle.scan_run.specs.Streams.{TakesPiece, IsTarget, IsTooLong};
+ghost use Rattle.scan_run.specs.declared.status.Status.TheVariants.{OverLimit as over_limit};
+ghost use Rattle.scan_run.specs.declared.status.LimitKind.TheVariants.{Target as target};
 
+use crate::status::{LimitKind, Status};
 use scan_world::Source;
 use std::alloc::Global;
 
-/// The most bytes that are read: one more than an input may have.
-pub const MOST: usize = 1_000_001;
+// The most bytes that are read: one more than an input may have.
+const MOST: usize = 1_000_001;
 
 const PIECE: usize = 16384;
 
-/// Why an input was not read.
+// Why an input was not read.
 #[derive(Clone, Copy, Debug, PartialEq, Eq)]
-pub enum InputError {
+enum InputError {
     Memory,
     Failed,
 }
@@ -42,8 +46,8 @@ fn read_some<S: Source>(
     Ok(count)
 }
 
-/// The bytes to the end of the input, or the first ones of an input that is too long.
-pub fn read_input<S: Source>(alloc: Global, input: &mut S) -> Result<Vec<u8>, InputError>
+// The bytes to the end of the input, or the first ones of an input that is too long.
+fn read_input<S: Source>(alloc: Global, input: &mut S) -> Result<Vec<u8>, InputError>
     ensures bytes { IfOk result (λ v. Consumes (S.left input.old) (S.left input.new) v.items) }
     ensures limit { IfOk result (λ v. vec_len v ≤ MOST) }
     ensures end { IfOk result (λ v. vec_len v < MOST → IsAtEnd (S.left input.new)) }
@@ -61,4 +65,22 @@ pub fn read_input<S: Source>(alloc: Global, input: &mut S) -> Result<Vec<u8>, In
         }
     }
     unreachable!()
+}
+
+/// The input, which is read to its end. It ends with OverLimit where the input has more than 1,000,000 bytes.
+pub fn read_target<S: Source>(alloc: Global, input: &mut S) -> Result<Vec<u8>, Status>
+    ensures target { IfOk result (λ v. IsTarget (S.left input.old) v.items) }
+    ensures end { OnOk result (IsAtEnd (S.left input.new)) }
+    ensures kept { OnOk result (S.faults input.new ≡ S.faults input.old) }
+    ensures too_long { IfErr result (λ status. IsAnswer status → (status ≡ over_limit target 1000001) × IsTooLong (S.left input.old)) }
+    ensures cause { IfErr result (HasInputCause (S.faults input.old) (S.faults input.new)) }
+{
+    match read_input(alloc, input) {
+        Ok(bytes) if bytes.len() == MOST => {
+            Err(Status::OverLimit(LimitKind::Target, MOST as u64))
+        }
+        Ok(bytes) => Ok(bytes),
+        Err(InputError::Memory) => Err(Status::Memory),
+        Err(InputError::Failed) => Err(Status::InputFault),
+    }
 }

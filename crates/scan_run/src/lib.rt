@@ -1,6 +1,7 @@
 //! The top call: from the words, the input and the folder to the lines on the output. `specs/Run.antt` defines what a run is.
 #![tactic(auto)]
 
+mod checking;
 mod config;
 mod entry;
 mod input;

@@ -4,14 +4,14 @@ ghost use Rattle.std.specs.Prelude.{◌≡◌, ◌⊎◌, ◌+◌, ◌≤◌, Is
 ghost use Rattle.std.specs.Io.KnownBytes.{IsAtEnd};
 ghost use Rattle.scan_world.specs.Faults.{Rose};
 ghost use Rattle.tree_match.specs.Members.{known_tree};
-ghost use Rattle.scan_run.specs.Status.{IsAnswer, IsOfSearch, IsOfMatch};
+ghost use Rattle.scan_run.specs.Status.{IsAnswer, IsOfSearch, IsOfInput};
 ghost use Rattle.scan_run.specs.Ways.{Printed, PrintedFront, PrintedSome, IsOnlyEnd};
 ghost use Rattle.scan_run.specs.Matching.{SearchEnds, Matches};
 ghost use Rattle.scan_run.specs.Steps.{TakesSteps};
 
-use crate::input::{InputError, MOST, read_input};
+use crate::input::read_target;
 use crate::output::{OutputError, print_all};
-use crate::status::{LimitKind, Status};
+use crate::status::Status;
 use file_open::{Opened, open_file};
 use languages::Languages;
 use node_tree::{Bytes, FileView, Lang, Pattern, Steps};
@@ -68,7 +68,7 @@ pub fn run_match<S: Source, K: Sink, L: Ledger>(
     ensures output_fault { result ≡ Status.OutputFault → Rose (K.faults out.old) (K.faults out.new) }
     ensures front_written { result ≡ Status.OutputFault → PrintedFront (Matches lang text.now (S.left input.old)) (K.written out.old) (K.written out.new) }
     ensures whole_lines { result ≡ Status.Memory → (K.written out.new ≡ K.written out.old) ⊎ PrintedSome (Matches lang text.now (S.left input.old)) (K.written out.old) (K.written out.new) }
-    ensures cause { IsOfMatch result }
+    ensures cause { IsOfInput result }
     ensures work { TakesSteps result steps.old steps.new }
 {
     let pattern = match read_pattern(alloc, lang, text) {
@@ -78,14 +78,10 @@ pub fn run_match<S: Source, K: Sink, L: Ledger>(
             _ => return Status::BadPattern,
         },
     };
-    let bytes = match read_input(alloc, input) {
+    let bytes = match read_target(alloc, input) {
         Ok(bytes) => bytes,
-        Err(InputError::Memory) => return Status::Memory,
-        Err(InputError::Failed) => return Status::InputFault,
+        Err(status) => return status,
     };
-    if bytes.len() == MOST {
-        return Status::OverLimit(LimitKind::Target, MOST as u64);
-    }
     let Ok(opened) = open_file(alloc, &Languages, lang, Bytes::from_vec(bytes), steps) else {
         return Status::Memory;
     };

@@ -17,7 +17,7 @@ pub enum LimitKind {
     RuleBytes,
     /// The entries of the rules, at most 1,000.
     Rules,
-    /// The bytes of the input of `match`, at most 1,000,000.
+    /// The bytes of the input of `match` or `check`, at most 1,000,000.
     Target,
 }
 

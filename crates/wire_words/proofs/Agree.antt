@@ -1,16 +1,18 @@
 -- The words of a command tell what is asked.
-use Rattle.std.proofs.Common.{◌≡◌, ◌↔◌, inl, inr, ℕ, Bool, true, false, List, [], ◌∷◌, ◌++◌, codes, sym, ap, ◌∙◌, subst, arith, refl, Option, None, Some}
-use Rattle.std.specs.Prelude.{Contains, count_by, IsTrue, MatchOption}
-use Rattle.std.specs.Borrow.{Bor}
+use Rattle.std.proofs.Common.{◌≡◌, ℕ, ◌≤◌, Bool, false, List, ◌∷◌, codes, sym, ap, ◌∙◌, subst, arith, refl, Option, None, Some}
+use Rattle.std.specs.Fmt.{decimal}
+use Rattle.std.specs.Str.{bytes_eq}
+use Rattle.std.proofs.lemmas.Slice.Eq.{bytes_eq-Decides}
+use Rattle.std.specs.Str.Parse.{digits_value}
+use Rattle.std.proofs.lemmas.Fmt.{decimal_is_IsNumeral}
 use Rattle.node_tree.specs.declared.view.Lang.{Lang}
 use Rattle.node_tree.specs.declared.view.Lang.TheVariants as langs
 use Rattle.wire_words.specs.Words.{lang_word, IsMatched}
-use Rattle.wire_words.specs.Choices.{Choice, Flag, Most, Config, is_most, is_config, IsFlagWord, AreOnce, AreChoices}
-use Rattle.wire_words.specs.Settings.{Tells}
-use Rattle.wire_words.specs.Commands.{Task, Request, Matching, Scanning, IsMost, AreJobWords, IsCommand}
-use Rattle.wire_words.specs.declared.settings.Taken.{Taken}
-use Rattle.wire_words.proofs.Counts.{counted, single}
-use Rattle.wire_words.proofs.Options.{same_choices}
+use Rattle.wire_words.specs.declared.options.Subcommand.{Subcommand}
+use Rattle.wire_words.specs.declared.options.Subcommand.TheVariants as subcommands
+use Rattle.wire_words.specs.Options.{Choice, AreChoices, is_given, value_of}
+use Rattle.wire_words.specs.Commands.{Task, Request, Matching, Checking, Scanning, Fixing, Serving, Drilling, IsMost, IsStore, AreJobWords, AreSessionWords, IsCommand}
+use Rattle.wire_words.proofs.Choices.{same_choices}
 use Rattle.wire_words.proofs.Parts.{same_parts}
 
 same_lang : (l m : Lang) → IsMatched l → IsMatched m → lang_word l ≡ lang_word m → l ≡ m
@@ -28,69 +30,119 @@ same_lang langs.C langs.C a b e = refl
 same_lang langs.C langs.Regex a b e = absurd b
 same_lang langs.Regex m a b e = absurd a
 
-same_bool : (P : Type 0) (b c : Bool) → IsTrue b ↔ P → IsTrue c ↔ P → b ≡ c
-same_bool P true true h g = refl
-same_bool P true false h g = sym (g.1 (h.0 refl))
-same_bool P false true h g = h.1 (g.0 refl)
-same_bool P false false h g = refl
+-- ---- the values of options
 
-same_most : (cs : List Choice) (n m : ℕ) → AreOnce cs → IsMost cs n → IsMost cs m → n ≡ m
-same_most cs n m once (inl a) (inl b) = let e = single is_most cs (Most n) (Most m) a b refl refl once.most in cc
-same_most cs n m once (inl a) (inr b) = let c = counted is_most cs (Most n) a refl in let z = b.0 in absurd (omega arith)
-same_most cs n m once (inr a) (inl b) = let c = counted is_most cs (Most m) b refl in let z = a.0 in absurd (omega arith)
-same_most cs n m once (inr a) (inr b) = a.1 ∙ sym b.1
+pub decimal_same : (n m : ℕ) → n ≤ 50000 → m ≤ 50000 → decimal n ≡ decimal m → n ≡ m
+decimal_same n m a b e = sym (decimal_is_IsNumeral n (omega arith)).1 ∙ ap (digits_value 10) e ∙ (decimal_is_IsNumeral m (omega arith)).1
 
-same_config : (cs : List Choice) (p q : List ℕ) → AreOnce cs → Contains cs (Config p) → Contains cs (Config q) → p ≡ q
-same_config cs p q once a b = let e = single is_config cs (Config p) (Config q) a b refl refl once.config in cc
+same_most : (value : Option (List ℕ)) (n m : ℕ) → IsMost value n → IsMost value m → n ≡ m
+same_most None n m a b = a ∙ sym b
+same_most (Some word) n m a b = decimal_same n m a.0 b.0 (sym a.1 ∙ b.1)
 
-abbrev task_with : Bool → ℕ → List ℕ → List ℕ → Task
-task_with f m c p = record { flag = f; most = m; config = c; prefix = p }
+same_store : (config other : List ℕ) (value s t : Option (List ℕ)) → IsStore config value s → IsStore other value t → s ≡ t
+same_store config other None s t a b = a ∙ sym b
+same_store config other (Some path) s t a b = a.0 ∙ sym b.0
 
-same_task : (t u : Task) → t.flag ≡ u.flag → t.most ≡ u.most → t.config ≡ u.config → t.prefix ≡ u.prefix → t ≡ u
-same_task t u f m c p =
-    ap (λ (x : Bool). task_with x t.most t.config t.prefix) f
-    ∙ ap (λ (x : ℕ). task_with u.flag x t.config t.prefix) m
-    ∙ ap (λ (x : List ℕ). task_with u.flag u.most x t.prefix) c
-    ∙ ap (λ (x : List ℕ). task_with u.flag u.most u.config x) p
+-- ---- commands with options
 
-same_job : (command flag : List ℕ) → IsFlagWord flag → (words : List (List ℕ)) (t u : Task) → AreJobWords command flag words t → AreJobWords command flag words u → t ≡ u
-same_job command flag w words t u a b =
-    let s = same_parts command a.options b.options t.prefix u.prefix words a.are b.are in
-    let cs = same_choices flag w b.options a.choices b.choices (subst (λ (o : List (List ℕ)). AreChoices flag o a.choices) s.0 a.chosen) b.chosen in
+abbrev task_with : Bool → ℕ → List ℕ → List ℕ → Bool → Option (List ℕ) → Task
+task_with f m c p t s = record { flag = f; most = m; config = c; prefix = p; trace = t; store = s }
+
+same_task : (t u : Task) → t.flag ≡ u.flag → t.most ≡ u.most → t.config ≡ u.config → t.prefix ≡ u.prefix → t.trace ≡ u.trace → t.store ≡ u.store → t ≡ u
+same_task t u f m c p r s =
+    ap (λ (x : Bool). task_with x t.most t.config t.prefix t.trace t.store) f
+    ∙ ap (λ (x : ℕ). task_with u.flag x t.config t.prefix t.trace t.store) m
+    ∙ ap (λ (x : List ℕ). task_with u.flag u.most x t.prefix t.trace t.store) c
+    ∙ ap (λ (x : List ℕ). task_with u.flag u.most u.config x t.trace t.store) p
+    ∙ ap (λ (x : Bool). task_with u.flag u.most u.config u.prefix x t.store) r
+    ∙ ap (λ (x : Option (List ℕ)). task_with u.flag u.most u.config u.prefix u.trace x) s
+
+same_job : (command : Subcommand) (word flag : List ℕ) (words : List (List ℕ)) (t u : Task) → AreJobWords command word flag words t → AreJobWords command word flag words u → t ≡ u
+same_job command word flag words t u a b =
+    let s = same_parts word a.options b.options t.prefix u.prefix words a.are b.are in
+    let cs = same_choices command b.options a.choices b.choices (subst (λ (o : List (List ℕ)). AreChoices command o a.choices) s.0 a.chosen) b.chosen in
+    let c : t.config ≡ u.config = cc (a.config.0, ap (value_of (codes "--config")) cs, b.config.0) in
     same_task t u
-    (same_bool (Contains a.choices Flag) t.flag u.flag a.flag_of (subst (λ (l : List Choice). IsTrue u.flag ↔ Contains l Flag) (sym cs) b.flag_of))
-    (same_most a.choices t.most u.most a.chosen.once a.most (subst (λ (l : List Choice). IsMost l u.most) (sym cs) b.most))
-    (same_config a.choices t.config u.config a.chosen.once a.config (subst (λ (l : List Choice). Contains l (Config u.config)) (sym cs) b.config))
+    (a.flag_of ∙ ap (is_given flag) cs ∙ sym b.flag_of)
+    (same_most (value_of (codes "--max") b.choices) t.most u.most (subst (λ (l : List Choice). IsMost (value_of (codes "--max") l) t.most) cs a.most) b.most)
+    c
     s.1
+    (a.trace ∙ ap (is_given (codes "--trace")) cs ∙ sym b.trace)
+    (same_store t.config u.config (value_of (codes "--store") b.choices) t.store u.store (subst (λ (l : List Choice). IsStore t.config (value_of (codes "--store") l) t.store) cs a.store) b.store)
 
-pub error_word : IsFlagWord (codes "--error")
-error_word = record { not_max = λ e. cc; not_config = λ e. cc }
+same_session : (words : List (List ℕ)) (n m : ℕ) (x y : Bool) → AreSessionWords words n x → AreSessionWords words m y → Serving n x ≡ Serving m y
+same_session words n m x y a b =
+    let o : a.options ≡ b.options = cc (a.are, b.are) in
+    let cs = same_choices subcommands.Session b.options a.choices b.choices (subst (λ (o : List (List ℕ)). AreChoices subcommands.Session o a.choices) o a.chosen) b.chosen in
+    let most = same_most (value_of (codes "--max") b.choices) n m (subst (λ (l : List Choice). IsMost (value_of (codes "--max") l) n) cs a.most_of) b.most_of in
+    ap (λ (k : ℕ). Serving k x) most ∙ ap (λ (t : Bool). Serving m t) (a.trace_of ∙ ap (is_given (codes "--trace")) cs ∙ sym b.trace_of)
 
--- words ask for at most one thing
+-- ---- words ask for at most one thing
+
+-- the word that a request begins with
+abbrev first_word : Request → List ℕ
+first_word (Matching lang pattern) = codes "match"
+first_word Checking = codes "check"
+first_word (Scanning task) = codes "scan"
+first_word (Fixing task) = codes "fix"
+first_word (Serving most trace) = codes "session"
+first_word (Drilling count) = codes "drill"
+
+begins : (words : List (List ℕ)) (r : Request) → IsCommand words r → (rest : List (List ℕ)) × (words ≡ first_word r ∷ rest)
+begins words (Matching lang pattern) a = (_, a.are)
+begins words Checking a = (_, a)
+begins words (Scanning task) a = (_, a.are)
+begins words (Fixing task) a = (_, a.are)
+begins words (Serving most trace) a = (_, a.are)
+begins words (Drilling count) a = (_, a.are)
+
+clash : (words : List (List ℕ)) (r s : Request) → IsCommand words r → IsCommand words s → bytes_eq (first_word r) (first_word s) ≡ false → ⊥
+clash words r s a b other = let f = begins words r a in let g = begins words s b in unlike (first_word r) (first_word s) words f.0 g.0 f.1 g.1 other
+  where
+    unlike : (x y : List ℕ) (ws xs ys : List (List ℕ)) → ws ≡ x ∷ xs → ws ≡ y ∷ ys → bytes_eq x y ≡ false → ⊥
+    unlike x y ws xs ys e f differ = let same : x ≡ y = cc in let yes = (bytes_eq-Decides x y).1 same in absurd cc
+
 pub agree : (words : List (List ℕ)) (r s : Request) → IsCommand words r → IsCommand words s → r ≡ s
 agree words (Matching l p) (Matching m q) a b =
     let e : lang_word l ≡ lang_word m = cc (a.are, b.are) in
     let f : p ≡ q = cc (a.are, b.are) in
     ap (λ (x : Lang). Matching x p) (same_lang l m a.matched b.matched e) ∙ ap (λ (x : List ℕ). Matching m x) f
-agree words (Matching l p) (Scanning u) a b = absurd (apart words _ _ a.are b.are)
-  where
-    apart : (words xs ys : List (List ℕ)) → words ≡ codes "match" ∷ xs → words ≡ codes "scan" ∷ ys → ⊥
-    apart words xs ys e f = cc
-agree words (Scanning t) (Matching m q) a b = absurd (apart words _ _ a.are b.are)
-  where
-    apart : (words xs ys : List (List ℕ)) → words ≡ codes "scan" ∷ xs → words ≡ codes "match" ∷ ys → ⊥
-    apart words xs ys e f = cc
-agree words (Scanning t) (Scanning u) a b = ap Scanning (same_job (codes "scan") (codes "--error") error_word words t u a b)
-
--- where `--config` doesn't stand among the options, the words are none
-pub no_config : (command flag : List ℕ) → IsFlagWord flag → (words options : List (List ℕ)) (prefix : List ℕ) (t : Taken) → words ≡ command ∷ (options ++ (prefix ∷ [])) → (cs : List Choice) × AreChoices flag options cs × Tells cs t → t.config ≡ None → (u : Task) → AreJobWords command flag words u → ⊥
-no_config command flag w words options prefix t e (cs, b, k) none u a =
-    let s = same_parts command a.options options u.prefix prefix words a.are e in
-    let same = same_choices flag w options a.choices cs (subst (λ (o : List (List ℕ)). AreChoices flag o a.choices) s.0 a.chosen) b in
-    let stands = counted is_config cs (Config u.config) (subst (λ (l : List Choice). Contains l (Config u.config)) same a.config) refl in
-    let zeros = gone cs t.config k.config none in
-    omega arith
-  where
-    gone : (cs : List Choice) (o : Option (Bor (List ℕ))) → MatchOption o (count_by is_config cs ≡ 0) (λ p. (count_by is_config cs ≡ 1) × Contains cs (Config p.now)) → o ≡ None → count_by is_config cs ≡ 0
-    gone cs None k e = k
-    gone cs (Some p) k e = absurd cc
+agree words (Matching l p) Checking a b = absurd (clash words (Matching l p) Checking a b refl)
+agree words (Matching l p) (Scanning u) a b = absurd (clash words (Matching l p) (Scanning u) a b refl)
+agree words (Matching l p) (Fixing u) a b = absurd (clash words (Matching l p) (Fixing u) a b refl)
+agree words (Matching l p) (Serving m y) a b = absurd (clash words (Matching l p) (Serving m y) a b refl)
+agree words (Matching l p) (Drilling m) a b = absurd (clash words (Matching l p) (Drilling m) a b refl)
+agree words Checking (Matching m q) a b = absurd (clash words Checking (Matching m q) a b refl)
+agree words Checking Checking a b = refl
+agree words Checking (Scanning u) a b = absurd (clash words Checking (Scanning u) a b refl)
+agree words Checking (Fixing u) a b = absurd (clash words Checking (Fixing u) a b refl)
+agree words Checking (Serving m y) a b = absurd (clash words Checking (Serving m y) a b refl)
+agree words Checking (Drilling m) a b = absurd (clash words Checking (Drilling m) a b refl)
+agree words (Scanning t) (Matching m q) a b = absurd (clash words (Scanning t) (Matching m q) a b refl)
+agree words (Scanning t) Checking a b = absurd (clash words (Scanning t) Checking a b refl)
+agree words (Scanning t) (Scanning u) a b = ap Scanning (same_job subcommands.Scan (codes "scan") (codes "--error") words t u a b)
+agree words (Scanning t) (Fixing u) a b = absurd (clash words (Scanning t) (Fixing u) a b refl)
+agree words (Scanning t) (Serving m y) a b = absurd (clash words (Scanning t) (Serving m y) a b refl)
+agree words (Scanning t) (Drilling m) a b = absurd (clash words (Scanning t) (Drilling m) a b refl)
+agree words (Fixing t) (Matching m q) a b = absurd (clash words (Fixing t) (Matching m q) a b refl)
+agree words (Fixing t) Checking a b = absurd (clash words (Fixing t) Checking a b refl)
+agree words (Fixing t) (Scanning u) a b = absurd (clash words (Fixing t) (Scanning u) a b refl)
+agree words (Fixing t) (Fixing u) a b = ap Fixing (same_job subcommands.Fix (codes "fix") (codes "--dryrun") words t u a b)
+agree words (Fixing t) (Serving m y) a b = absurd (clash words (Fixing t) (Serving m y) a b refl)
+agree words (Fixing t) (Drilling m) a b = absurd (clash words (Fixing t) (Drilling m) a b refl)
+agree words (Serving n x) (Matching m q) a b = absurd (clash words (Serving n x) (Matching m q) a b refl)
+agree words (Serving n x) Checking a b = absurd (clash words (Serving n x) Checking a b refl)
+agree words (Serving n x) (Scanning u) a b = absurd (clash words (Serving n x) (Scanning u) a b refl)
+agree words (Serving n x) (Fixing u) a b = absurd (clash words (Serving n x) (Fixing u) a b refl)
+agree words (Serving n x) (Serving m y) a b = same_session words n m x y a b
+agree words (Serving n x) (Drilling m) a b = absurd (clash words (Serving n x) (Drilling m) a b refl)
+agree words (Drilling n) (Matching m q) a b = absurd (clash words (Drilling n) (Matching m q) a b refl)
+agree words (Drilling n) Checking a b = absurd (clash words (Drilling n) Checking a b refl)
+agree words (Drilling n) (Scanning u) a b = absurd (clash words (Drilling n) (Scanning u) a b refl)
+agree words (Drilling n) (Fixing u) a b = absurd (clash words (Drilling n) (Fixing u) a b refl)
+agree words (Drilling n) (Serving m y) a b = absurd (clash words (Drilling n) (Serving m y) a b refl)
+agree words (Drilling n) (Drilling m) a b =
+    let e : decimal n ≡ decimal m = cc (a.are, b.are) in
+    let k = a.most in
+    let l = b.most in
+    ap Drilling (decimal_same n m (omega arith) (omega arith) e)

@@ -1,6 +1,4 @@
 pub mod Figures
-pub mod Counts
-pub mod Options
-pub mod Sets
+pub mod Choices
 pub mod Parts
 pub mod Agree

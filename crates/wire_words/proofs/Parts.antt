@@ -1,10 +1,11 @@
 -- The words around the options.
-use Rattle.std.proofs.Common.{◌≡◌, ◌≢◌, ℕ, zero, suc, ◌==◌, Bool, true, false, not, ◌&&◌, eqb, List, [], ◌∷◌, ◌++◌, map, length, get_or, ◌<◌, ◌≤◌, arith, eq-eqb, sym, ap, ◌∙◌, refl, Option, None, Some}
+use Rattle.std.proofs.Common.{◌≡◌, ℕ, zero, suc, ◌==◌, Bool, true, false, not, ◌&&◌, eqb, List, [], ◌∷◌, ◌++◌, map, length, get_or, ◌<◌, ◌≤◌, arith, eq-eqb, sym, ap, ◌∙◌, refl, Option, None, Some}
 use Rattle.std.specs.Prelude.{IfNone}
 use lib.Pointwise.{pointwise}
+use Rattle.std.specs.Str.{bytes_eq}
 use Rattle.std.proofs.lemmas.Bool.{eqb-true}
+use Rattle.std.proofs.lemmas.Slice.Eq.{bytes_eq-Decides}
 use Rattle.std.proofs.lemmas.List.{map-append}
-use Rattle.wire_words.specs.Choices.{Choice, Flag, Most, Config, choice_words}
 
 -- `==` on texts tells them apart
 pub same_text : (xs ys : List ℕ) → pointwise eqb xs ys ≡ true → xs ≡ ys
@@ -46,12 +47,6 @@ same_front (a ∷ xs) (b ∷ ys) x y e =
 pub same_parts : (command : List ℕ) (xs ys : List (List ℕ)) (x y : List ℕ) (words : List (List ℕ)) → words ≡ command ∷ (xs ++ (x ∷ [])) → words ≡ command ∷ (ys ++ (y ∷ [])) → (xs ≡ ys) × (x ≡ y)
 same_parts command xs ys x y words a b = let t : xs ++ (x ∷ []) ≡ ys ++ (y ∷ []) = cc in same_front xs ys x y t
 
--- a word alone that isn't the flag is no option
-pub lone : (flag word : List ℕ) (words : List (List ℕ)) (c : Choice) (rest : List (List ℕ)) → words ≡ word ∷ [] → word ≢ flag → words ≡ choice_words flag c ++ rest → ⊥
-lone flag word words Flag rest e other f = other cc
-lone flag word words (Most n) rest e other f = absurd cc
-lone flag word words (Config path) rest e other f = absurd cc
-
 -- what holds at None
 pub if_none : {T : Type 0} (o : Option T) (P : Type 0) → P → IfNone o P
 if_none None P p = p
@@ -65,9 +60,12 @@ three (x ∷ y ∷ []) a b c le lt ea eb ec = absurd (omega arith)
 three (x ∷ y ∷ z ∷ []) a b c le lt ea eb ec = cc
 three (x ∷ y ∷ z ∷ w ∷ ws) a b c le lt ea eb ec = absurd (omega arith)
 
-pub empty_of : {X : Type 0} (xs : List X) → length xs ≡ 0 → xs ≡ []
-empty_of [] e = refl
-empty_of (x ∷ xs) e = absurd (omega arith)
+-- a list of two items
+pub two : {X : Type 0} (ws : List X) (a b : X) → 2 ≤ length ws → length ws < 3 → a ≡ get_or ws 0 a → b ≡ get_or ws 1 b → ws ≡ a ∷ b ∷ []
+two [] a b le lt ea eb = absurd (omega arith)
+two (x ∷ []) a b le lt ea eb = absurd (omega arith)
+two (x ∷ y ∷ []) a b le lt ea eb = cc
+two (x ∷ y ∷ z ∷ ws) a b le lt ea eb = absurd (omega arith)
 
 -- `==` holds of one text
 pub same_reads : (xs ys : List ℕ) → xs ≡ ys → pointwise eqb xs ys ≡ true
@@ -77,6 +75,15 @@ same_reads xs ys e = ap (pointwise eqb xs) (sym e) ∙ itself xs
     itself [] = refl
     itself (x ∷ xs) = rw (eq-eqb x x refl, itself xs) refl
 
+-- `==` answers as the test of definitions does
+pub same_test : (xs ys : List ℕ) (b : Bool) → b ≡ pointwise eqb xs ys → bytes_eq xs ys ≡ b
+same_test xs ys true e = (bytes_eq-Decides xs ys).1 (same_text xs ys (sym e))
+same_test xs ys false e = at (bytes_eq xs ys) refl
+  where
+    at : (b : Bool) → bytes_eq xs ys ≡ b → bytes_eq xs ys ≡ false
+    at true h = let f : false ≡ true = e ∙ same_reads xs ys ((bytes_eq-Decides xs ys).0 h) in absurd cc
+    at false h = h
+
 -- no items, no words
 pub no_words : {X : Type 0} (f : X → List ℕ) (xs : List X) → map f xs ≡ [] → length xs ≡ 0
 no_words f [] e = refl
@@ -85,6 +92,3 @@ no_words f (x ∷ xs) e = absurd cc
 pub not_empty : (n : ℕ) (b : Bool) → b ≡ false → b ≡ (n == 0) → n ≡ 0 → ⊥
 not_empty zero b f e z = absurd cc
 not_empty (suc n) b f e z = absurd (omega arith)
-
-pub at_none : (n : ℕ) (b : Bool) → b ≡ true → b ≡ (n == 0) → n ≡ 0
-at_none n b t e = eqb-true n 0 (sym e ∙ t)

@@ -1,4 +1,3 @@
 pub mod Words
-pub mod Choices
-pub mod Settings
+pub mod Options
 pub mod Commands

@@ -1,5 +1,6 @@
--- The words of `match`.
-use Rattle.std.specs.Prelude.{◌≡◌, ℕ, List, [], ◌∷◌, codes, ⊤}
+-- The words of commands without options.
+use Rattle.std.specs.Prelude.{◌≡◌, ◌≤◌, ℕ, List, [], ◌∷◌, codes, ⊤}
+use Rattle.std.specs.Fmt.{decimal}
 use Rattle.node_tree.specs.declared.view.Lang.{Lang}
 use Rattle.node_tree.specs.declared.view.Lang.TheVariants as langs
 
@@ -21,3 +22,13 @@ IsMatched langs.Regex = ⊥
 pub record AreMatchWords (words : List (List ℕ)) (lang : Lang) (pattern : List ℕ) : Type 0 where
   pub matched : IsMatched lang
   pub are : words ≡ codes "match" ∷ lang_word lang ∷ pattern ∷ []
+
+-- the words are `check json`
+abbrev pub AreCheckWords : List (List ℕ) → Type 0
+AreCheckWords words = words ≡ codes "check" ∷ codes "json" ∷ []
+
+-- the words are `drill` and a number from 1 to 10,000, in decimal without leading zeros
+pub record AreDrillWords (words : List (List ℕ)) (count : ℕ) : Type 0 where
+  pub some : 1 ≤ count
+  pub most : count ≤ 10000
+  pub are : words ≡ codes "drill" ∷ decimal count ∷ []

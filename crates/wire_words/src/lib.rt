@@ -1,17 +1,24 @@
 //! The words that a run is given, without the program's name.
 //!
-//! The words `match LANG PATTERN` match a pattern in the languages `json`, `python` and `c`. The words
-//! `scan [--error] [--max N] --config PATH PREFIX` scan a folder. Options come after the command in any order, each at most
-//! once, before PREFIX, which is last. The word after an option that has a value is that value, and the last word is PREFIX,
-//! whatever they begin with. N is decimal without leading zeros, from 0 to 50,000, PATH a path, and PREFIX a path or `.`.
-//! There are no other spellings. Nothing here takes memory.
+//! - `match LANG PATTERN`, where LANG is `json`, `python` or `c`;
+//! - `check json`;
+//! - `scan [--error] [--max N] [--trace] [--store FILE] --config PATH PREFIX`;
+//! - `fix [--dryrun] [--max N] [--trace] --config PATH PREFIX`;
+//! - `session [--max N] [--trace]`;
+//! - `drill N`, with a number from 1 to 10,000.
+//!
+//! Options come after the command in any order, each at most once, before PREFIX, which is last. The word after an option that has
+//! a value is that value, and the last word of `scan` and `fix` is PREFIX, whatever they begin with. Numbers are decimal without
+//! leading zeros; that of `--max` goes from 0 to 50,000. PATH and FILE are paths, and not the same one; PREFIX is a path or `.`.
+//! There are no other spellings. Nothing here takes memory. `specs/Commands.antt` is this table, `specs/Options.antt` that of the
+//! options.
 #![tactic(auto)]
 
 mod command;
 mod job;
-mod language;
 mod numbers;
-mod settings;
+mod options;
+mod plain;
 mod words;
 
 pub use command::{Command, Job};

@@ -1,22 +1,23 @@
-use Rattle.std.proofs.Common.{◌≡◌, ℕ, List, [], map, string_bytes, subst, inl, inr, refl}
+use Rattle.std.proofs.Common.{◌≡◌, ℕ, List, map, string_bytes, subst, inl, inr, refl}
 use Rattle.wire_words.specs.declared.command.Command.{Command}
-use Rattle.wire_words.specs.Commands.{Request, IsCommand, request, task_of}
+use Rattle.wire_words.specs.Commands.{Request, request, task_of}
 use Rattle.scan_run.specs.declared.status.Status.{Status}
 use Rattle.scan_run.specs.declared.status.Status.TheVariants as statuses
-use Rattle.scan_run.specs.Status.{IsOfMatch}
+use Rattle.scan_run.specs.Status.{IsOfInput}
 use Rattle.scan_run.proofs.Files.{keeps_self}
-use Rattle.scan_run.proofs.Requests.{ends_usage, only_usage, ends_match, only_match, front_match, some_match, ends_scan, only_scan, front_scan, no_match}
+use Rattle.scan_run.specs.Run.{Asks}
+use Rattle.scan_run.proofs.Requests.{ends_usage, only_usage, ends_match, only_match, front_match, some_match, ends_check, only_check, front_check, ends_scan, only_scan, front_scan, no_match_in_check, no_match_in_scan, no_read_in_scan}
 use Rattle.scan_run.proofs.entry.run.Goals as goal
 
 -- what is said of the command that was read holds of its request
-asks : (words : List (List ℕ)) (a b : Command) → a ≡ b → IsCommand words (request a) → IsCommand words (request b)
-asks words a b e h = subst (λ (k : Command). IsCommand words (request k)) e h
+asks : (words : List (List ℕ)) (a b : Command) → a ≡ b → Asks words (request a) → Asks words (request b)
+asks words a b e h = subst (λ (k : Command). Asks words (request k)) e h
 
-only_asks : (words : List (List ℕ)) (a b : Command) → a ≡ b → ((r : Request) → IsCommand words r → request a ≡ r) → (r : Request) → IsCommand words r → request b ≡ r
+only_asks : (words : List (List ℕ)) (a b : Command) → a ≡ b → ((r : Request) → Asks words r → request a ≡ r) → (r : Request) → Asks words r → request b ≡ r
 only_asks words a b e h r is = subst (λ (k : Command). request k ≡ r) e (h r is)
 
-match_at : (s t : Status) → IsOfMatch s → s ≡ t → IsOfMatch t
-match_at s t h e = subst (λ (x : Status). IsOfMatch x) e h
+input_at : (s t : Status) → IsOfInput s → s ≡ t → IsOfInput t
+input_at s t h e = subst (λ (x : Status). IsOfInput x) e h
 
 pub returns-in-None-clause-ends : goal.returns-in-None-clause-ends
 returns-in-None-clause-ends g c a = ends_usage (map string_bytes c.args.words.now.items) (g.S.Source.left c.args.input.now) (g.T.Tree.files c.args.tree.now) _ (g.K.Sink.written c.args.out.now) c.in-None.ensures.only
@@ -26,6 +27,9 @@ returns-in-None-clause-only g c a told = only_usage (map string_bytes c.args.wor
 
 pub returns-in-None-clause-files_kept : goal.returns-in-None-clause-files_kept
 returns-in-None-clause-files_kept g c = keeps_self (g.T.Tree.files c.args.tree.now)
+
+pub returns-in-None-clause-work : goal.returns-in-None-clause-work
+returns-in-None-clause-work g c (lang, text, is) = absurd (c.in-None.ensures.only _ is)
 
 pub returns-in-None-clause-nothing_written : goal.returns-in-None-clause-nothing_written
 returns-in-None-clause-nothing_written g c e = refl
@@ -48,14 +52,14 @@ pub returns-in-Some-Match-clause-files_kept : goal.returns-in-Some-Match-clause-
 returns-in-Some-Match-clause-files_kept g c = keeps_self (g.T.Tree.files c.args.tree.now)
 
 pub returns-in-Some-Match-clause-tree_fault : goal.returns-in-Some-Match-clause-tree_fault
-returns-in-Some-Match-clause-tree_fault g c e = absurd (match_at c.run_match.result statuses.TreeFault c.run_match.ensures.cause e)
+returns-in-Some-Match-clause-tree_fault g c e = absurd (input_at c.run_match.result statuses.TreeFault c.run_match.ensures.cause e)
 
 pub returns-in-Some-Match-clause-absent : goal.returns-in-Some-Match-clause-absent
-returns-in-Some-Match-clause-absent g c e = absurd (match_at c.run_match.result statuses.NoSuchPath c.run_match.ensures.cause e)
+returns-in-Some-Match-clause-absent g c e = absurd (input_at c.run_match.result statuses.NoSuchPath c.run_match.ensures.cause e)
 
 pub returns-in-Some-Match-clause-nothing_written : goal.returns-in-Some-Match-clause-nothing_written
 returns-in-Some-Match-clause-nothing_written g c h =
-    elim h [ inl e ↦ c.run_match.ensures.nothing_written e | inr e ↦ absurd (match_at c.run_match.result statuses.TreeFault c.run_match.ensures.cause e) ]
+    elim h [ inl e ↦ c.run_match.ensures.nothing_written e | inr e ↦ absurd (input_at c.run_match.result statuses.TreeFault c.run_match.ensures.cause e) ]
 
 pub returns-in-Some-Match-clause-front_written : goal.returns-in-Some-Match-clause-front_written
 returns-in-Some-Match-clause-front_written g c e =
@@ -68,7 +72,55 @@ returns-in-Some-Match-clause-whole_lines g c e =
     some_match (map string_bytes c.args.words.now.items) (g.S.Source.left c.args.input.now) (g.T.Tree.files c.args.tree.now) _ (g.K.Sink.written c.args.out.now) (g.K.Sink.written c.run_match.new.out) c.in-Some-Match.lang c.in-Some-Match.text.now is (c.run_match.ensures.whole_lines e)
 
 pub returns-in-Some-Match-clause-work : goal.returns-in-Some-Match-clause-work
-returns-in-Some-Match-clause-work g c nay = c.run_match.ensures.work
+returns-in-Some-Match-clause-work g c asked = c.run_match.ensures.work
+
+pub returns-in-Some-Match-clause-no_work : goal.returns-in-Some-Match-clause-no_work
+returns-in-Some-Match-clause-no_work g c nay =
+    let is = asks (map string_bytes c.args.words.now.items) _ _ c.in-Some-Match.field-0-is c.in-Some-Match.ensures.read in
+    absurd (nay.1 (c.in-Some-Match.lang, c.in-Some-Match.text.now, is))
+
+pub returns-in-Some-Check-clause-ends : goal.returns-in-Some-Check-clause-ends
+returns-in-Some-Check-clause-ends g c a =
+    let is = asks (map string_bytes c.args.words.now.items) _ _ c.in-Some-Check.field-0-is c.in-Some-Check.ensures.read in
+    ends_check (map string_bytes c.args.words.now.items) (g.S.Source.left c.args.input.now) (g.T.Tree.files c.args.tree.now) _ (g.K.Sink.written c.args.out.now) (g.K.Sink.written c.run_check.new.out) is c.run_check.result (c.run_check.ensures.ends a)
+
+pub returns-in-Some-Check-clause-only : goal.returns-in-Some-Check-clause-only
+returns-in-Some-Check-clause-only g c a told =
+    let words = map string_bytes c.args.words.now.items in
+    let is = asks words _ _ c.in-Some-Check.field-0-is c.in-Some-Check.ensures.read in
+    only_check words (g.S.Source.left c.args.input.now) (g.T.Tree.files c.args.tree.now) _ (g.K.Sink.written c.args.out.now) (g.K.Sink.written c.run_check.new.out) is (only_asks words _ _ c.in-Some-Check.field-0-is c.in-Some-Check.ensures.only) c.run_check.result told (c.run_check.ensures.only a)
+
+pub returns-in-Some-Check-clause-read_to_its_end : goal.returns-in-Some-Check-clause-read_to_its_end
+returns-in-Some-Check-clause-read_to_its_end g c ask = c.run_check.ensures.read_to_its_end
+
+pub returns-in-Some-Check-clause-files_kept : goal.returns-in-Some-Check-clause-files_kept
+returns-in-Some-Check-clause-files_kept g c = keeps_self (g.T.Tree.files c.args.tree.now)
+
+pub returns-in-Some-Check-clause-tree_fault : goal.returns-in-Some-Check-clause-tree_fault
+returns-in-Some-Check-clause-tree_fault g c e = absurd (input_at c.run_check.result statuses.TreeFault c.run_check.ensures.cause e)
+
+pub returns-in-Some-Check-clause-absent : goal.returns-in-Some-Check-clause-absent
+returns-in-Some-Check-clause-absent g c e = absurd (input_at c.run_check.result statuses.NoSuchPath c.run_check.ensures.cause e)
+
+pub returns-in-Some-Check-clause-nothing_written : goal.returns-in-Some-Check-clause-nothing_written
+returns-in-Some-Check-clause-nothing_written g c h =
+    elim h [ inl e ↦ c.run_check.ensures.nothing_written e | inr e ↦ absurd (input_at c.run_check.result statuses.TreeFault c.run_check.ensures.cause e) ]
+
+pub returns-in-Some-Check-clause-front_written : goal.returns-in-Some-Check-clause-front_written
+returns-in-Some-Check-clause-front_written g c e =
+    let is = asks (map string_bytes c.args.words.now.items) _ _ c.in-Some-Check.field-0-is c.in-Some-Check.ensures.read in
+    front_check (map string_bytes c.args.words.now.items) (g.S.Source.left c.args.input.now) (g.T.Tree.files c.args.tree.now) _ (g.K.Sink.written c.args.out.now) (g.K.Sink.written c.run_check.new.out) is (c.run_check.ensures.front_written e)
+
+pub returns-in-Some-Check-clause-whole_lines : goal.returns-in-Some-Check-clause-whole_lines
+returns-in-Some-Check-clause-whole_lines g c e = inl (c.run_check.ensures.unwritten e)
+
+pub returns-in-Some-Check-clause-work : goal.returns-in-Some-Check-clause-work
+returns-in-Some-Check-clause-work g c asked =
+    let words = map string_bytes c.args.words.now.items in
+    absurd (no_match_in_check words (only_asks words _ _ c.in-Some-Check.field-0-is c.in-Some-Check.ensures.only) asked)
+
+pub returns-in-Some-Check-clause-no_work : goal.returns-in-Some-Check-clause-no_work
+returns-in-Some-Check-clause-no_work g c nay = refl
 
 pub returns-in-Some-Scan-clause-ends : goal.returns-in-Some-Scan-clause-ends
 returns-in-Some-Scan-clause-ends g c a =
@@ -84,10 +136,7 @@ returns-in-Some-Scan-clause-only g c a told =
 pub returns-in-Some-Scan-clause-read_to_its_end : goal.returns-in-Some-Scan-clause-read_to_its_end
 returns-in-Some-Scan-clause-read_to_its_end g c ask =
     let words = map string_bytes c.args.words.now.items in
-    let is = asks words _ _ c.in-Some-Scan.field-0-is c.in-Some-Scan.ensures.read in
-    let none : ⊥ = no_match words (g.S.Source.left c.args.input.now) (g.T.Tree.files c.args.tree.now) [] (g.K.Sink.written c.args.out.now) (g.K.Sink.written c.args.out.now) (task_of c.in-Some-Scan.job) is
-    (only_asks words _ _ c.in-Some-Scan.field-0-is c.in-Some-Scan.ensures.only) ask in
-    absurd none
+    absurd (no_read_in_scan words (task_of c.in-Some-Scan.job) (only_asks words _ _ c.in-Some-Scan.field-0-is c.in-Some-Scan.ensures.only) ask)
 
 pub returns-in-Some-Scan-clause-input_fault : goal.returns-in-Some-Scan-clause-input_fault
 returns-in-Some-Scan-clause-input_fault g c e = absurd (c.run_scan.ensures.no_input e)
@@ -104,9 +153,14 @@ pub returns-in-Some-Scan-clause-whole_lines : goal.returns-in-Some-Scan-clause-w
 returns-in-Some-Scan-clause-whole_lines g c e = inl (c.run_scan.ensures.unwritten e)
 
 pub returns-in-Some-Scan-clause-work : goal.returns-in-Some-Scan-clause-work
-returns-in-Some-Scan-clause-work g c nay =
+returns-in-Some-Scan-clause-work g c asked =
+    let words = map string_bytes c.args.words.now.items in
+    absurd (no_match_in_scan words (task_of c.in-Some-Scan.job) (only_asks words _ _ c.in-Some-Scan.field-0-is c.in-Some-Scan.ensures.only) asked)
+
+pub returns-in-Some-Scan-clause-no_work : goal.returns-in-Some-Scan-clause-no_work
+returns-in-Some-Scan-clause-no_work g c nay =
     let is = asks (map string_bytes c.args.words.now.items) _ _ c.in-Some-Scan.field-0-is c.in-Some-Scan.ensures.read in
-    absurd (nay (task_of c.in-Some-Scan.job) is)
+    absurd (nay.0 (task_of c.in-Some-Scan.job) is)
 
 pub returns-in-Some-Scan-clause-patterns_kept : goal.returns-in-Some-Scan-clause-patterns_kept
 returns-in-Some-Scan-clause-patterns_kept g c nay =

@@ -1,7 +1,7 @@
 use Rattle.std.proofs.Common.{◌≡◌, ◌∷◌, [], List, ℕ, codes, sym, ap, ◌∙◌, map, string_bytes}
 use Rattle.wire_words.specs.Words.{lang_word}
 use Rattle.wire_words.proofs.Parts.{three, same_text, un_not}
-use Rattle.wire_words.proofs.language.match_words.Goals as goal
+use Rattle.wire_words.proofs.plain.match_words.Goals as goal
 
 pub returns-clause-asked : goal.returns-clause-asked
 returns-clause-asked c =
