@@ -4,6 +4,8 @@
 #[cfg(test)]
 mod cuts;
 #[cfg(test)]
+mod drills;
+#[cfg(test)]
 mod rows;
 #[cfg(test)]
 mod show;
