@@ -6,8 +6,10 @@ use Rattle.std.proofs.lemmas.Slice.Eq.{bytes_eq-Decides}
 use Rattle.rule_form.specs.declared.rule.Rule.{Rule}
 use Rattle.node_match.specs.Sets.{Among}
 use Rattle.scan_session.specs.Running.{Stated, is_taken, is_out, built, firsts}
+use Rattle.scan_session.specs.Taking.{firsts_after}
 use Rattle.scan_session.specs.Judging.{AreApart}
 use Rattle.scan_session.proofs.Members.{get_among}
+use Rattle.scan_session.proofs.Repeats.{firsts_are}
 
 neither : (a b : Bool) → a || b ≡ false → (a ≡ false) × (b ≡ false)
 neither true b e = absurd cc
@@ -20,12 +22,12 @@ Differ (r ∷ rs) = ((s : Rule) → Among rs s → r.id ≡ s.id → ⊥) × Dif
 
 module _ (refused ids : List (List ℕ)) (s : Stated) (ss : List Stated) where
   abbrev Old : List Rule
-  Old = built refused (firsts ids ss)
+  Old = built refused (firsts_after ids ss)
 
   abbrev New : List Rule
-  New = built refused (firsts (s.rule.id ∷ ids) ss)
+  New = built refused (firsts_after (s.rule.id ∷ ids) ss)
 
-  fresh_step : ((r : Rule) → Among Old r → is_taken ids r.id ≡ false) → ((r : Rule) → Among New r → is_taken (s.rule.id ∷ ids) r.id ≡ false) → (r : Rule) → Among (built refused (firsts ids (s ∷ ss))) r → is_taken ids r.id ≡ false
+  fresh_step : ((r : Rule) → Among Old r → is_taken ids r.id ≡ false) → ((r : Rule) → Among New r → is_taken (s.rule.id ∷ ids) r.id ≡ false) → (r : Rule) → Among (built refused (firsts_after ids (s ∷ ss))) r → is_taken ids r.id ≡ false
   fresh_step old new r = at (is_taken ids s.rule.id) refl
     where
       later : Among New r → is_taken ids r.id ≡ false
@@ -36,11 +38,11 @@ module _ (refused ids : List (List ℕ)) (s : Stated) (ss : List Stated) where
       two false e (inl same) = let P : Rule → Type 0 = λ q. is_taken ids q.id ≡ false in subst P same e
       two false e (inr k) = later k
 
-      at : (b : Bool) → is_taken ids s.rule.id ≡ b → Among (built refused (if b then firsts ids ss else s ∷ firsts (s.rule.id ∷ ids) ss)) r → is_taken ids r.id ≡ false
+      at : (b : Bool) → is_taken ids s.rule.id ≡ b → Among (built refused (if b then firsts_after ids ss else s ∷ firsts_after (s.rule.id ∷ ids) ss)) r → is_taken ids r.id ≡ false
       at true e k = old r k
       at false e k = two (is_out refused s.rule) e k
 
-  differ_step : Differ Old → Differ New → ((r : Rule) → Among New r → is_taken (s.rule.id ∷ ids) r.id ≡ false) → Differ (built refused (firsts ids (s ∷ ss)))
+  differ_step : Differ Old → Differ New → ((r : Rule) → Among New r → is_taken (s.rule.id ∷ ids) r.id ≡ false) → Differ (built refused (firsts_after ids (s ∷ ss)))
   differ_step old new fresh = at (is_taken ids s.rule.id)
     where
       other : (t : Rule) → Among New t → s.rule.id ≡ t.id → ⊥
@@ -50,15 +52,15 @@ module _ (refused ids : List (List ℕ)) (s : Stated) (ss : List Stated) where
       two true = new
       two false = (other, new)
 
-      at : (b : Bool) → Differ (built refused (if b then firsts ids ss else s ∷ firsts (s.rule.id ∷ ids) ss))
+      at : (b : Bool) → Differ (built refused (if b then firsts_after ids ss else s ∷ firsts_after (s.rule.id ∷ ids) ss))
       at true = old
       at false = two (is_out refused s.rule)
 
-fresh : (refused ids : List (List ℕ)) (ss : List Stated) (r : Rule) → Among (built refused (firsts ids ss)) r → is_taken ids r.id ≡ false
+fresh : (refused ids : List (List ℕ)) (ss : List Stated) (r : Rule) → Among (built refused (firsts_after ids ss)) r → is_taken ids r.id ≡ false
 fresh refused ids [] r h = absurd h
 fresh refused ids (s ∷ ss) r h = fresh_step refused ids s ss (λ q k. fresh refused ids ss q k) (λ q k. fresh refused (s.rule.id ∷ ids) ss q k) r h
 
-differ : (refused ids : List (List ℕ)) (ss : List Stated) → Differ (built refused (firsts ids ss))
+differ : (refused ids : List (List ℕ)) (ss : List Stated) → Differ (built refused (firsts_after ids ss))
 differ refused ids [] = tt
 differ refused ids (s ∷ ss) = differ_step refused ids s ss (differ refused ids ss) (differ refused (s.rule.id ∷ ids) ss) (fresh refused (s.rule.id ∷ ids) ss)
 
@@ -69,5 +71,5 @@ apart (q ∷ qs) d zero (suc j) r s a b e = let same : q ≡ r = cc in absurd (d
 apart (q ∷ qs) d (suc i) zero r s a b e = let same : q ≡ s = cc in absurd (d.0 r (get_among qs i r a) (ap (λ (x : Rule). x.id) same ∙ sym e))
 apart (q ∷ qs) d (suc i) (suc j) r s a b e = ap suc (apart qs d.1 i j r s a b e)
 
-pub are_apart : (refused : List (List ℕ)) (ss : List Stated) → AreApart (built refused (firsts [] ss))
-are_apart refused ss = apart (built refused (firsts [] ss)) (differ refused [] ss)
+pub are_apart : (refused : List (List ℕ)) (ss : List Stated) → AreApart (built refused (firsts ss))
+are_apart refused ss = subst (λ (l : List Stated). AreApart (built refused l)) (sym (firsts_are ss)) (apart (built refused (firsts_after [] ss)) (differ refused [] ss))

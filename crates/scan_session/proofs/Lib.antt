@@ -1,4 +1,5 @@
 pub mod Members
+pub mod Repeats
 pub mod Asking
 pub mod Taking
 pub mod Orders
@@ -11,3 +12,4 @@ pub mod Hits
 pub mod Scans
 pub mod Laws
 pub mod Others
+pub mod FixOrder

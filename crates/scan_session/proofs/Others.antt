@@ -14,6 +14,8 @@ use Rattle.rule_files.specs.RuleFiles.{outcomes_of}
 use Rattle.scan_session.specs.Sets.{IsExactly}
 use Rattle.scan_session.specs.Reports.{reported_cmp}
 use Rattle.scan_session.specs.Running.{Stated, stated_at, stated_from, stated, is_taken, is_out, firsts, built, running}
+use Rattle.scan_session.specs.Taking.{firsts_after}
+use Rattle.scan_session.proofs.Repeats.{firsts_are}
 use Rattle.scan_session.specs.Quieted.{Grammars}
 use Rattle.scan_session.specs.Fresh.{File, IsResultIn, IsResult, IsFresh}
 use Rattle.scan_session.specs.HitOrder.{reported_total}
@@ -74,14 +76,17 @@ step : (refused : List (List ℕ)) (repeated : Bool) (s : Stated) (later after :
 step refused true s later after = refl
 step refused false s later after = refl
 
-runs : (refused taken : List (List ℕ)) (ss : List Stated) → built refused (firsts taken ss) ≡ run_from refused taken (map rule_of ss)
+runs : (refused taken : List (List ℕ)) (ss : List Stated) → built refused (firsts_after taken ss) ≡ run_from refused taken (map rule_of ss)
 runs refused taken [] = refl
 runs refused taken (s ∷ ss) =
     let more = s.rule.id ∷ taken in
     let later = runs refused taken ss in
     let after = runs refused more ss in
     let F : List Rule → List Rule → List Rule = λ x y. if is_taken taken s.rule.id then x else (if is_out refused s.rule then y else s.rule ∷ y) in
-    step refused (is_taken taken s.rule.id) s (firsts taken ss) (firsts more ss) ∙ ap (λ (x : List Rule). F x (built refused (firsts more ss))) later ∙ ap (λ (y : List Rule). F (run_from refused taken (map rule_of ss)) y) after
+    step refused (is_taken taken s.rule.id) s (firsts_after taken ss) (firsts_after more ss) ∙ ap (λ (x : List Rule). F x (built refused (firsts_after more ss))) later ∙ ap (λ (y : List Rule). F (run_from refused taken (map rule_of ss)) y) after
+
+all_run : (refused : List (List ℕ)) (ss : List Stated) → built refused (firsts ss) ≡ run_from refused [] (map rule_of ss)
+all_run refused ss = ap (built refused) (firsts_are ss) ∙ runs refused [] ss
 
 rules_at : (file : List ℕ) (k : ℕ) (o : RuleOutcome) (os : List RuleOutcome) → map rule_of (stated_at file k o) ++ good_rules os ≡ good_rules (o ∷ os)
 rules_at file k (Good rule) os = refl
@@ -106,7 +111,7 @@ same_rules (b ∷ bs) after f g e =
 
 same_running : (refused : List (List ℕ)) (before after : List RuleFile) (f g : RuleFile) → map rule_of (stated_in f) ≡ map rule_of (stated_in g) → running refused (before ++ f ∷ after) ≡ running refused (before ++ g ∷ after)
 same_running refused before after f g e =
-    runs refused [] (stated (before ++ f ∷ after)) ∙ ap (λ (l : List Rule). run_from refused [] l) (same_rules before after f g e) ∙ sym (runs refused [] (stated (before ++ g ∷ after)))
+    all_run refused (stated (before ++ f ∷ after)) ∙ ap (λ (l : List Rule). run_from refused [] l) (same_rules before after f g e) ∙ sym (all_run refused (stated (before ++ g ∷ after)))
 
 same_entries : (name : List ℕ) (os ps : List RuleOutcome) (fault : RuleFault) → map rule_of (stated_from name 0 (os ++ Bad fault ∷ ps)) ≡ map rule_of (stated_from name 0 (os ++ ps))
 same_entries name os ps fault = rules_from name 0 (os ++ Bad fault ∷ ps) ∙ past_bad os ps fault ∙ sym (rules_from name 0 (os ++ ps))

@@ -15,7 +15,8 @@ use Rattle.rule_files.specs.declared.rule_file.RuleFile.{RuleFile}
 use Rattle.rule_files.specs.RuleFiles.{outcomes_of}
 use Rattle.scan_session.specs.Running.{Stated, stated_at, stated_from, stated, texts_of, is_taken, is_out, built, firsts, stated_notices, first_notices, repeat_notice, file_notices, rule_notices}
 use Rattle.scan_session.specs.Building.{Built, HoldsAll}
-use Rattle.scan_session.specs.Taking.{HasJust, ids_after, run_of, rules_at, notices_at}
+use Rattle.scan_session.specs.Taking.{HasJust, ids_after, run_of, rules_at, notices_at, firsts_after, notices_after}
+use Rattle.scan_session.proofs.Repeats.{firsts_are, notices_are}
 
 -- ---- entries
 
@@ -89,22 +90,22 @@ module _ (ids : List (List ℕ)) (id : Bor (List ℕ)) (old new : Ids) (just : H
 -- ---- one rule after the other
 
 module _ (refused ids : List (List ℕ)) (s : Stated) (ss : List Stated) where
-  next_rules : built refused (firsts ids (s ∷ ss)) ≡ rules_at refused ids s ++ built refused (firsts (ids_after ids s) ss)
+  next_rules : built refused (firsts_after ids (s ∷ ss)) ≡ rules_at refused ids s ++ built refused (firsts_after (ids_after ids s) ss)
   next_rules = at (is_taken ids s.rule.id)
     where
       one : (u : Bool) (rs : List Rule) → (if u then rs else s.rule ∷ rs) ≡ (if u then [] else s.rule ∷ []) ++ rs
       one true rs = refl
       one false rs = refl
 
-      at : (b : Bool) → built refused (if b then firsts ids ss else s ∷ firsts (s.rule.id ∷ ids) ss) ≡ (if b then [] else run_of refused s.rule) ++ built refused (firsts (if b then ids else s.rule.id ∷ ids) ss)
+      at : (b : Bool) → built refused (if b then firsts_after ids ss else s ∷ firsts_after (s.rule.id ∷ ids) ss) ≡ (if b then [] else run_of refused s.rule) ++ built refused (firsts_after (if b then ids else s.rule.id ∷ ids) ss)
       at true = refl
-      at false = one (is_out refused s.rule) (built refused (firsts (s.rule.id ∷ ids) ss))
+      at false = one (is_out refused s.rule) (built refused (firsts_after (s.rule.id ∷ ids) ss))
 
-  next_notices : stated_notices refused ids (s ∷ ss) ≡ notices_at refused ids s ++ stated_notices refused (ids_after ids s) ss
+  next_notices : notices_after refused ids (s ∷ ss) ≡ notices_at refused ids s ++ notices_after refused (ids_after ids s) ss
   next_notices = at (is_taken ids s.rule.id)
     where
-      at : (b : Bool) → (if b then repeat_notice s ∷ stated_notices refused ids ss else first_notices refused s ++ stated_notices refused (s.rule.id ∷ ids) ss)
-          ≡ (if b then repeat_notice s ∷ [] else first_notices refused s) ++ stated_notices refused (if b then ids else s.rule.id ∷ ids) ss
+      at : (b : Bool) → (if b then repeat_notice s ∷ notices_after refused ids ss else first_notices refused s ++ notices_after refused (s.rule.id ∷ ids) ss)
+          ≡ (if b then repeat_notice s ∷ [] else first_notices refused s) ++ notices_after refused (if b then ids else s.rule.id ∷ ids) ss
       at true = refl
       at false = refl
 
@@ -112,8 +113,8 @@ module _ (refused ids : List (List ℕ)) (s : Stated) (ss : List Stated) where
 pub record SoFar (refused : List (List ℕ)) (all : List Stated) (before : List Notice) (taken : Ids) (rules : List Rule) (notices : List Notice) (left : List Stated) : Type 0 where
   pub ids : List (List ℕ)
   pub just : HasJust taken ids
-  pub rules_are : rules ++ built refused (firsts ids left) ≡ built refused (firsts [] all)
-  pub notices_are : notices ++ stated_notices refused ids left ≡ before ++ stated_notices refused [] all
+  pub rules_are : rules ++ built refused (firsts_after ids left) ≡ built refused (firsts_after [] all)
+  pub notices_are : notices ++ notices_after refused ids left ≡ before ++ notices_after refused [] all
 
 -- the same, where of the texts of all rules it is held what they came to
 abbrev pub TakesUp : Built → List Stated → List Notice → Ids → List Rule → List Notice → List Stated → Type 0
@@ -126,31 +127,31 @@ takes refused all before taken taken' rules rules' notices notices' left s ss fa
   ids = ids_after far.ids s;
   just = just;
   rules_are =
-      ap (λ (rs : List Rule). rs ++ built refused (firsts (ids_after far.ids s) ss)) r ∙ append_assoc rules (rules_at refused far.ids s) (built refused (firsts (ids_after far.ids s) ss))
-      ∙ ap (λ (rs : List Rule). rules ++ rs) (sym (next_rules refused far.ids s ss)) ∙ ap (λ (l : List Stated). rules ++ built refused (firsts far.ids l)) (sym left-is) ∙ far.rules_are;
+      ap (λ (rs : List Rule). rs ++ built refused (firsts_after (ids_after far.ids s) ss)) r ∙ append_assoc rules (rules_at refused far.ids s) (built refused (firsts_after (ids_after far.ids s) ss))
+      ∙ ap (λ (rs : List Rule). rules ++ rs) (sym (next_rules refused far.ids s ss)) ∙ ap (λ (l : List Stated). rules ++ built refused (firsts_after far.ids l)) (sym left-is) ∙ far.rules_are;
   notices_are =
-      ap (λ (ns : List Notice). ns ++ stated_notices refused (ids_after far.ids s) ss) n ∙ append_assoc notices (notices_at refused far.ids s) (stated_notices refused (ids_after far.ids s) ss)
-      ∙ ap (λ (ns : List Notice). notices ++ ns) (sym (next_notices refused far.ids s ss)) ∙ ap (λ (l : List Stated). notices ++ stated_notices refused far.ids l) (sym left-is) ∙ far.notices_are;
+      ap (λ (ns : List Notice). ns ++ notices_after refused (ids_after far.ids s) ss) n ∙ append_assoc notices (notices_at refused far.ids s) (notices_after refused (ids_after far.ids s) ss)
+      ∙ ap (λ (ns : List Notice). notices ++ ns) (sym (next_notices refused far.ids s ss)) ∙ ap (λ (l : List Stated). notices ++ notices_after refused far.ids l) (sym left-is) ∙ far.notices_are;
 }
 
 pub all_rules : (refused : List (List ℕ)) (all : List Stated) (before : List Notice) (taken : Ids) (rules : List Rule) (notices : List Notice) (left : List Stated) → SoFar refused all before taken rules notices left → left ≡ []
-    → (rules ≡ built refused (firsts [] all)) × (notices ≡ before ++ stated_notices refused [] all)
+    → (rules ≡ built refused (firsts_after [] all)) × (notices ≡ before ++ notices_after refused [] all)
 all_rules refused all before taken rules notices left far e = (
-  sym (ap (λ (l : List Stated). rules ++ built refused (firsts far.ids l)) e ∙ append-nil rules) ∙ far.rules_are,
-  sym (ap (λ (l : List Stated). notices ++ stated_notices refused far.ids l) e ∙ append-nil notices) ∙ far.notices_are,
+  sym (ap (λ (l : List Stated). rules ++ built refused (firsts_after far.ids l)) e ∙ append-nil rules) ∙ far.rules_are,
+  sym (ap (λ (l : List Stated). notices ++ notices_after refused far.ids l) e ∙ append-nil notices) ∙ far.notices_are,
 )
 
 -- ---- all rules
 
 pub runs_as : {A E : Type 0} (r : Result A E) (items : A → List Rule) (refused : List (List ℕ)) (given all : List Stated) → given ≡ all
-    → IfOk r (λ a. items a ≡ built refused (firsts [] given)) → IfOk r (λ a. items a ≡ built refused (firsts [] all))
-runs_as r items refused given all e h = let P : List Stated → Type 0 = λ ss. IfOk r (λ a. items a ≡ built refused (firsts [] ss)) in subst P e h
+    → IfOk r (λ a. items a ≡ built refused (firsts_after [] given)) → IfOk r (λ a. items a ≡ built refused (firsts all))
+runs_as r items refused given all e h = let P : List Stated → Type 0 = λ ss. IfOk r (λ a. items a ≡ built refused ss) in subst P (ap (firsts_after []) e ∙ sym (firsts_are all)) h
 
 pub all_noted : (refused : List (List ℕ)) (old mid new : List Notice) (files : List RuleFile) (given : List Stated) → mid ≡ old ++ flat_map file_notices files → given ≡ stated files
-    → new ≡ mid ++ stated_notices refused [] given → new ≡ old ++ rule_notices refused files
+    → new ≡ mid ++ notices_after refused [] given → new ≡ old ++ rule_notices refused files
 all_noted refused old mid new files given e f h =
-    h ∙ ap (λ (ss : List Stated). mid ++ stated_notices refused [] ss) f ∙ ap (λ (ns : List Notice). ns ++ stated_notices refused [] (stated files)) e
-    ∙ append_assoc old (flat_map file_notices files) (stated_notices refused [] (stated files))
+    h ∙ ap (λ (ss : List Stated). mid ++ notices_after refused [] ss) f ∙ ap (λ (ns : List Notice). mid ++ ns) (sym (notices_are refused (stated files)))
+    ∙ ap (λ (ns : List Notice). ns ++ stated_notices refused (stated files)) e ∙ append_assoc old (flat_map file_notices files) (stated_notices refused (stated files))
 
 -- ---- ids that are taken
 

@@ -43,10 +43,22 @@ stated (f ∷ fs) = stated_from f.name 0 (outcomes_of f.content) ++ stated fs
 abbrev pub is_taken : List (List ℕ) → List ℕ → Bool
 is_taken taken id = list_any (λ other. bytes_eq other id) taken
 
--- the rules whose id no earlier one has, where these ids are taken before
-abbrev pub firsts : List (List ℕ) → List Stated → List Stated
-firsts taken [] = []
-firsts taken (s ∷ ss) = if is_taken taken s.rule.id then firsts taken ss else s ∷ firsts (s.rule.id ∷ taken) ss
+-- a rule is a repeat where some earlier good rule has its id
+abbrev pub is_repeat : List Stated → Stated → Bool
+is_repeat earlier s = list_any (λ (e : Stated). bytes_eq e.rule.id s.rule.id) earlier
+
+-- each rule with those before it, where these are before the first
+abbrev pub with_earlier : List Stated → List Stated → List (List Stated × Stated)
+with_earlier earlier [] = []
+with_earlier earlier (s ∷ ss) = (earlier, s) ∷ with_earlier (earlier ++ s ∷ []) ss
+
+-- a rule that is no repeat
+abbrev pub first_of : List Stated × Stated → List Stated
+first_of p = if is_repeat p.0 p.1 then [] else p.1 ∷ []
+
+-- the rules that are no repeats
+abbrev pub firsts : List Stated → List Stated
+firsts ss = flat_map first_of (with_earlier [] ss)
 
 -- the texts of good rules, in order of rule and place
 abbrev pub texts_of : List Stated → List (List ℕ)
@@ -83,7 +95,7 @@ built refused [] = []
 built refused (s ∷ ss) = if is_out refused s.rule then built refused ss else s.rule ∷ built refused ss
 
 abbrev pub running : List (List ℕ) → List RuleFile → List Rule
-running refused files = built refused (firsts [] (stated files))
+running refused files = built refused (firsts (stated files))
 
 -- the key of an entry
 abbrev pub entry_key : ℕ → List ℕ
@@ -101,20 +113,22 @@ unbuilt_notice s = notice s.file s.rule.id kinds.OutsideProfile (entry_key s.num
 abbrev pub refused_notices : List (List ℕ) → List ℕ → List ℕ → List ℕ → List Notice
 refused_notices refused file id text = if is_refused refused text then notice file id kinds.Regex text ∷ [] else []
 
--- the notices of a rule whose id no earlier one has: its unread options, its refused texts, and whether it is not built yet
+-- the notices of a rule that is no repeat: its unread options, its refused texts, and whether it is not built yet
 abbrev pub first_notices : List (List ℕ) → Stated → List Notice
 first_notices refused s =
     map (option_notice s.file s.rule.id) s.rule.unread ++ (flat_map (refused_notices refused s.file s.rule.id) s.rule.texts ++ (if is_unbuilt s.rule then unbuilt_notice s ∷ [] else []))
 
--- the notice of one whose id an earlier one has
+-- the notice of a repeat
 abbrev pub repeat_notice : Stated → Notice
 repeat_notice s = notice s.file s.rule.id kinds.DuplicateId (entry_key s.number ++ codes ".id")
 
--- the notices of good rules, where these ids are taken before
-abbrev pub stated_notices : List (List ℕ) → List (List ℕ) → List Stated → List Notice
-stated_notices refused taken [] = []
-stated_notices refused taken (s ∷ ss) =
-    if is_taken taken s.rule.id then repeat_notice s ∷ stated_notices refused taken ss else first_notices refused s ++ stated_notices refused (s.rule.id ∷ taken) ss
+-- the notices of a rule
+abbrev pub notices_of : List (List ℕ) → List Stated × Stated → List Notice
+notices_of refused p = if is_repeat p.0 p.1 then repeat_notice p.1 ∷ [] else first_notices refused p.1
+
+-- the notices of good rules
+abbrev pub stated_notices : List (List ℕ) → List Stated → List Notice
+stated_notices refused ss = flat_map (notices_of refused) (with_earlier [] ss)
 
 -- the notice of an entry that is no rule
 abbrev pub fault_notices : List ℕ → RuleOutcome → List Notice
@@ -134,4 +148,4 @@ file_notices file = content_notices file.name file.content
 
 -- the notices of the rule files
 abbrev pub rule_notices : List (List ℕ) → List RuleFile → List Notice
-rule_notices refused files = flat_map file_notices files ++ stated_notices refused [] (stated files)
+rule_notices refused files = flat_map file_notices files ++ stated_notices refused (stated files)

@@ -269,8 +269,8 @@ fn take_rules<'r>(
     notices: &mut Vec<Noted>,
 ) -> Result<Vec<Runner<'r>>, Memory>
     requires { (refused : list (list ℕ)) × HoldsAll built.now refused (spec.texts_of (map taking.said entries.now)) }
-    ensures rules { (refused : list (list ℕ)) → HoldsAll built.now refused (spec.texts_of (map taking.said entries.now)) → IfOk result (λ running. running.items ≡ spec.built refused (spec.firsts [] (map taking.said entries.now))) }
-    ensures notices { (refused : list (list ℕ)) → HoldsAll built.now refused (spec.texts_of (map taking.said entries.now)) → OnOk result (notices.new.items ≡ notices.old.items ++ spec.stated_notices refused [] (map taking.said entries.now)) }
+    ensures rules { (refused : list (list ℕ)) → HoldsAll built.now refused (spec.texts_of (map taking.said entries.now)) → IfOk result (λ running. running.items ≡ spec.built refused (taking.firsts_after [] (map taking.said entries.now))) }
+    ensures notices { (refused : list (list ℕ)) → HoldsAll built.now refused (spec.texts_of (map taking.said entries.now)) → OnOk result (notices.new.items ≡ notices.old.items ++ taking.notices_after refused [] (map taking.said entries.now)) }
 {
     let mut taken: BTreeSet<&str> = BTreeSet::new(alloc);
     let mut running = Vec::new(alloc);
