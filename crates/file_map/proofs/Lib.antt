@@ -1,0 +1,4 @@
+pub mod Shown
+pub mod Counts
+pub mod Putting
+pub mod Syncing

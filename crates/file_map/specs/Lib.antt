@@ -1,0 +1,4 @@
+pub mod FileMap
+pub mod Seen
+pub mod Faults
+pub mod Sync
