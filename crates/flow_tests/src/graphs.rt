@@ -3,25 +3,13 @@
 //! A point is written as the line on which its statement or handler begins, from 1, with `i`, `t` or `s` behind it for Init,
 //! Test and Step of a `for` in C. `E` is the entry and `X` the exit.
 
-use c_unit::read_unit;
+use crate::source::{line_of, root_of};
 use flow_graph::{Graph, Role, graph_of, units};
 use node_tree::{Memory, Node, ReadFault};
-use py_stmt::read_module;
 use shown::{parted, same};
 use std::alloc::{AllocError, Global};
 use std::fmt::Write;
 use std::test::Fail;
-
-// The line of a byte.
-fn line_of(text: &str, at: u32) -> u32 {
-    let mut line: u32 = 1;
-    for byte in &text.as_bytes()[..(at as usize).min(text.len())] {
-        if *byte == b'\n' {
-            line = line.saturating_add(1);
-        }
-    }
-    line
-}
 
 // Writes the point at that place in the graph.
 fn write_point(
@@ -74,14 +62,7 @@ fn edges(alloc: Global, text: &str, root: &Node, unit: usize) -> Result<String, 
 
 // The edges of a unit of a text in Python or in C, or `none` where the text has no tree.
 fn line(alloc: Global, text: &str, python: bool, unit: usize) -> Result<String, ReadFault> {
-    if text.len() > 1_000_000 {
-        return Err(ReadFault::NoTree);
-    }
-    let root = if python {
-        read_module(alloc, text)?
-    } else {
-        read_unit(alloc, text)?
-    };
+    let root = root_of(alloc, text, python)?;
     Ok(edges(alloc, text, &root, unit)?)
 }
 

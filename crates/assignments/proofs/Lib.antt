@@ -1,0 +1,7 @@
+pub mod Declarators
+pub mod Ends
+pub mod Kids
+pub mod Loops
+pub mod Postorder
+pub mod Targets
+pub mod Trees

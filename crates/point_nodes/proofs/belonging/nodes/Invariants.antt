@@ -1,0 +1,8 @@
+use Rattle.std.proofs.Common.{◌≡◌, take}
+use Rattle.std.specs.List.{flat_map}
+use Rattle.node_tree.specs.Numbers.{pre_at}
+use Rattle.node_pool.specs.Spots.{all_seen}
+use Rattle.point_nodes.proofs.belonging.nodes.Given as goal
+
+abbrev pub invariant-loop-top : goal.invariant-loop-top
+invariant-loop-top l = all_seen l.nodes ≡ flat_map pre_at (all_seen (take l.top-index l.top-items))
