@@ -1,5 +1,5 @@
 -- What a batch of facts leads to is what each of them leads to.
-use Rattle.std.proofs.Common.{◌≡◌, ◌≢◌, ℕ, zero, suc, ◌+◌, ◌*◌, ◌-◌, ◌/◌, ◌%◌, ◌<◌, ◌≤◌, ◌^◌, ◌⊎◌, ◌↔◌, inl, inr, List, [], ◌∷◌, length, get_or, Some, sym, ◌∙◌, ap, subst, refl, arith, mul_comm}
+use Rattle.std.proofs.Common.{◌≡◌, ℕ, zero, suc, ◌+◌, ◌*◌, ◌/◌, ◌%◌, ◌<◌, ◌≤◌, ◌^◌, ◌⊎◌, ◌↔◌, inl, inr, List, [], ◌∷◌, length, get_or, Some, sym, ◌∙◌, ap, subst, refl, arith, mul_comm}
 use Rattle.std.specs.Prelude.{slice_get}
 use Rattle.std.specs.Global.{Vec}
 use Rattle.std.specs.Int.{bit_at}
@@ -14,13 +14,14 @@ use Rattle.flow_reach.specs.declared.moves.Moves.{Moves}
 use Rattle.flow_reach.specs.declared.moves.Move.{Move}
 use Rattle.flow_reach.specs.declared.spread.Batch.{Batch}
 use Rattle.flow_reach.specs.Adds.{Coded, IsAddsOf, AreAdds}
-use Rattle.flow_reach.specs.Bits.{bit_of, Has, InWord, IsWithout, stride_of, width_of}
-use Rattle.flow_reach.specs.Carried.{Fits, Turns, TurnsBy}
-use Rattle.flow_reach.specs.Spread.{Kept, AddedBy, Added, Bits, Follows, Dropped, RowHas, IsTable, Next, NextOf}
-use Rattle.flow_reach.specs.Spread.{IsClosing}
+use Rattle.flow_reach.specs.Bits.{Has, InWord, IsWithout, stride_of, width_of}
+use Rattle.flow_reach.specs.Carried.{Fits, Turns, TurnsBy, Inside}
+use Rattle.flow_reach.specs.Spread.{Kept, Added, Bits, Follows, Dropped, IsTable, NextOf}
+use Rattle.flow_reach.specs.Spread.{IsClosing, IsReady, Left}
+use Rattle.flow_reach.specs.declared.ready.Ready.{Ready}
 use Rattle.flow_reach.specs.Worklist.{Takes}
 use Rattle.flow_reach.specs.declared.worklist.Worklist.{Worklist}
-use Rattle.flow_reach.proofs.Closing.{place}
+use Rattle.flow_reach.proofs.Closing.{place, facts_fit}
 use Rattle.flow_reach.proofs.Sorted.{move_for}
 use Rattle.flow_reach.proofs.Steps.{both_ways, row_at}
 use Rattle.flow_reach.proofs.Words.{in_word, read_word}
@@ -212,9 +213,9 @@ pub record Took (graph : Graph) (moves : Moves) (width word bits : ℕ) : Type 0
   pub point : word / width < length graph.points
   pub facts : (bit : ℕ) → bit_at bits bit ≡ 1 → word % width * 64 + bit < moves.facts
 
-pub took : (graph : Graph) (moves : Moves) (fits : Fits graph moves) (width word bits : ℕ) (w0 w1 : Worklist) → width ≡ width_of moves.facts → IsClosing graph moves (stride_of moves.facts) w0 → Takes word bits w0 w1 → Took graph moves width word bits
-took graph moves fits width word bits w0 w1 wide closing takes =
-    let there : (k : ℕ) → InWord word bits k → (k / stride_of moves.facts < length graph.points) × (k % stride_of moves.facts < moves.facts) = λ k i. place graph moves fits w0 k closing (closing.listed k ((takes.waited k).0 i).0) in
+pub took : (Begins : ℕ → ℕ → Type 0) (graph : Graph) (moves : Moves) (fits : Fits graph moves) (inside : Inside Begins graph moves) (width word bits : ℕ) (w0 w1 : Worklist) → width ≡ width_of moves.facts → IsClosing Begins graph moves (stride_of moves.facts) w0 → Takes word bits w0 w1 → Took graph moves width word bits
+took Begins graph moves fits inside width word bits w0 w1 wide closing takes =
+    let there : (k : ℕ) → InWord word bits k → (k / stride_of moves.facts < length graph.points) × (k % stride_of moves.facts < moves.facts) = λ k i. place Begins graph moves fits inside w0 k closing (closing.listed k ((takes.waited k).0 i).0) in
     let one = takes.some in
     let p = there one.0 one.1 in
     let some : 0 < width = omega (arith, p.1, wide) in
@@ -250,3 +251,40 @@ words_there graph moves fits width word bits w points adds wide took reads room 
     let q = mul_assoc (length graph.points) width 64 in
     let lt = mul-add-lt p width (word % width) (length graph.points) inside (column_lt width word took.some) in
     omega (arith, lt, e, q, mul_comm width (length graph.points))
+
+-- what a point turns a fact into, by what is looked up
+module _ (graph : Graph) (moves : Moves) (fits : Fits graph moves) (ready : Ready) (is : IsReady graph moves ready) (point fact : ℕ) (there : point < length graph.points) (small : fact < moves.facts) where
+  pub number_there : point * stride_of moves.facts + fact < 64 * length ready.dropped.items
+  number_there = omega (arith, mul-add-lt point (stride_of moves.facts) fact (length graph.points) there (facts_fit moves.facts fact small), mul_comm (stride_of moves.facts) (length graph.points), is.room)
+
+  pub turned_is : (xs : Vec ℕ) → xs ≡ get_or ready.added.items point xs → (after : ℕ) → (Left ready.dropped.items (point * stride_of moves.facts + fact) fact after ⊎ Coded xs.items fact after) ↔ Turns moves point fact after
+  turned_is xs read after =
+      let in_rows : point < length moves.rows = omega (arith, there, fits.rows) in
+      let m = move_for moves.rows ready.added.items point xs is.added in_rows read in
+      let k = point * stride_of moves.facts + fact in (
+        λ h. elim h [
+          | inl (same, kept) ↦ (m.0, m.1, inl (same, λ among. kept ((is.dropped k).1 (point, in_rows, m.0, m.1, (fact, among, refl)))))
+          | inr coded ↦ (m.0, m.1, inr ((m.2.pairs fact after).0 coded))
+        ],
+        λ (row, got, by).
+            let one : row ≡ m.0 = let q : Some row ≡ Some m.0 = sym got ∙ m.1 in cc in
+            let P : Move → Type 0 = λ r. TurnsBy r fact after in
+            elim (subst P one by) [
+              | inl (same, stays) ↦ inl (
+                same,
+                λ has.
+                    let d = (is.dropped k).0 has in
+                    let p = d.0 in
+                    let r = d.2 in
+                    let at = d.4 in
+                    let f_lt = (fits.speaks p r d.3).drops at.0 at.1 in
+                    let q = same_parts (stride_of moves.facts) point p fact at.0 (facts_fit moves.facts fact small) (facts_fit moves.facts at.0 f_lt) at.2 in
+                    let G : ℕ → Type 0 = λ x. slice_get moves.rows x ≡ Some r in
+                    let r_is : r ≡ m.0 = let g = subst G (sym q.0) d.3 in let z : Some r ≡ Some m.0 = sym g ∙ m.1 in cc in
+                    let F : ℕ → Type 0 = λ x. Among r.drops x in
+                    let M : Move → Type 0 = λ x. Among x.drops fact in
+                    stays (subst M r_is (subst F (sym q.1) at.1)),
+              )
+              | inr adds ↦ inr ((m.2.pairs fact after).1 adds)
+            ],
+      )

@@ -1,7 +1,6 @@
 -- How numbers that are seen grow, step by step.
-use Rattle.std.proofs.Common.{◌≡◌, ℕ, ◌+◌, ◌*◌, ◌-◌, ◌<◌, ◌≤◌, ◌⊎◌, ◌↔◌, inl, inr, ◌∙◌, arith}
-use Rattle.flow_reach.specs.Bits.{bit_of, Has}
-use Rattle.flow_reach.specs.Worklist.{IsShaped, Grows}
+use Rattle.std.proofs.Common.{ℕ, ◌⊎◌, ◌↔◌, inl, inr, ◌∙◌, arith}
+use Rattle.flow_reach.specs.Worklist.{Grows}
 use Rattle.flow_reach.specs.declared.worklist.Worklist.{Worklist}
 
 pub grows_then : (P Q R : ℕ → Type 0) (a b d : Worklist) → Grows P a b → Grows Q b d → ((k : ℕ) → R k ↔ (P k ⊎ Q k)) → Grows R a d

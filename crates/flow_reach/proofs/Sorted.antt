@@ -3,7 +3,7 @@ use Rattle.std.proofs.Common.{◌≡◌, ◌≢◌, ◌↔◌, ◌⊎◌, inl, i
 use Rattle.std.specs.Prelude.{slice_get}
 use Rattle.std.specs.Global.{Vec}
 use Rattle.std.proofs.lemmas.Bool.{cases_eq}
-use Rattle.std.proofs.lemmas.Option.{slice_get_read, get_or_from_slice_get}
+use Rattle.std.proofs.lemmas.Option.{slice_get_read}
 use Rattle.graph_form.specs.Sets.{Among}
 use Rattle.graph_form.proofs.Amongs.{among_push, among_at, among_place}
 use Rattle.flow_reach.specs.Adds.{Ascends, Codes, CodedTo, Coded, IsAddsOf, AreAdds}
@@ -78,3 +78,14 @@ pub move_for : (moves : List Move) (adds : List (Vec ℕ)) (i : ℕ) (xs : Vec �
 move_for moves adds i xs are lt read =
     let inside : i < length adds = omega (arith, are.size) in
     are.each i xs (slice_get_read adds (length adds) i xs refl inside read)
+
+-- items by their places
+pub got_among : {X : Type 0} (xs : List X) (i : ℕ) (x : X) → slice_get xs i ≡ Some x → Among xs x
+got_among [] i x got = absurd cc
+got_among (y ∷ ys) zero x got = inl cc
+got_among (y ∷ ys) (suc i) x got = inr (got_among ys i x got)
+
+pub among_got : {X : Type 0} (xs : List X) (x : X) → Among xs x → (i : ℕ) × (slice_get xs i ≡ Some x)
+among_got [] x among = absurd among
+among_got (y ∷ ys) x (inl e) = (0, ap Some e)
+among_got (y ∷ ys) x (inr among) = let r = among_got ys x among in (suc r.0, r.1)

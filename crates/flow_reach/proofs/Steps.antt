@@ -1,5 +1,5 @@
 -- The steps of the loops.
-use Rattle.std.proofs.Common.{◌≡◌, ◌≢◌, ℕ, zero, suc, ◌+◌, ◌*◌, ◌-◌, ◌/◌, ◌%◌, ◌<◌, ◌≤◌, ◌⊎◌, ◌↔◌, inl, inr, List, [], ◌∷◌, ◌++◌, length, set, Some, sym, ◌∙◌, ap, subst, refl, arith}
+use Rattle.std.proofs.Common.{◌≡◌, ℕ, zero, suc, ◌+◌, ◌*◌, ◌/◌, ◌%◌, ◌<◌, ◌⊎◌, ◌↔◌, inl, inr, List, [], ◌∷◌, ◌++◌, set, Some, false, IsTrue, sym, ◌∙◌, ap, subst, refl, arith}
 use Rattle.std.specs.Prelude.{slice_get}
 use Rattle.std.specs.Global.{Vec}
 use Rattle.std.specs.Int.{bit_at}
@@ -10,8 +10,11 @@ use Rattle.graph_form.specs.Sets.{Among}
 use Rattle.flow_reach.specs.declared.moves.Move.{Move}
 use Rattle.flow_reach.specs.Adds.{Coded}
 use Rattle.flow_reach.specs.Bits.{InWord, IsWithout}
-use Rattle.flow_reach.specs.Spread.{At, AtEach, Kept, AddedBy, Added, Bits, Done, Dropped, RowHas}
+use Rattle.flow_reach.specs.Spread.{At, AtPairs, AtEach, AddedBy, Added, Bits, Done, Dropped, RowHas}
 use Rattle.flow_reach.proofs.Words.{place_in_word}
+
+pub not_true : IsTrue false → ⊥
+not_true t = cc
 
 -- statements that stand for each other
 pub both_ways : (A B D : Type 0) → (A ↔ B) → (B ↔ D) → (A ↔ D)
@@ -49,6 +52,16 @@ at_more base xs ys y k split = (
   λ (f, among, e). elim ((split f).0 among) [ inl a ↦ inl (f, a, e) | inr q ↦ inr (e ∙ ap (λ z. base + z) (sym q)) ],
   λ h. elim h [
     | inl (f, a, e) ↦ (f, (split f).1 (inl a), e)
+    | inr e ↦ (y, (split y).1 (inr refl), e)
+  ],
+)
+
+-- the pairs, one more
+pub pairs_more : (stride : ℕ) (xs ys : List (ℕ × ℕ)) (y : ℕ × ℕ) (k : ℕ) → ((x : ℕ × ℕ) → Among ys x ↔ (Among xs x ⊎ (y ≡ x))) → AtPairs stride ys k ↔ (AtPairs stride xs k ⊎ (k ≡ y.0 * stride + y.1))
+pairs_more stride xs ys y k split = (
+  λ (p, among, e). elim ((split p).0 among) [ inl a ↦ inl (p, a, e) | inr q ↦ inr (e ∙ ap (λ z. z.0 * stride + z.1) (sym q)) ],
+  λ h. elim h [
+    | inl (p, a, e) ↦ (p, (split p).1 (inl a), e)
     | inr e ↦ (y, (split y).1 (inr refl), e)
   ],
 )

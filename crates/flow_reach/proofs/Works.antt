@@ -1,14 +1,13 @@
 -- The worklist: what it sees and takes, and what is left to do.
-use Rattle.std.proofs.Common.{◌≡◌, ◌≢◌, ℕ, zero, suc, ◌+◌, ◌*◌, ◌-◌, ◌/◌, ◌%◌, ◌<◌, ◌≤◌, ◌^◌, ◌⊎◌, ◌↔◌, inl, inr, List, [], ◌∷◌, ◌++◌, length, get_or, set, sym, ◌∙◌, ap, subst, refl, arith}
+use Rattle.std.proofs.Common.{◌≡◌, ◌≢◌, ℕ, zero, suc, ◌*◌, ◌/◌, ◌%◌, ◌<◌, ◌≤◌, ◌^◌, ◌⊎◌, ◌↔◌, inl, inr, List, [], ◌∷◌, ◌++◌, length, get_or, set, sym, ◌∙◌, ap, subst, refl, arith}
 use Rattle.std.proofs.lemmas.Bool.{cases_eq}
-use Rattle.std.specs.Int.{bit_at}
 use Rattle.std.proofs.lemmas.Nat.Bits.{bit_at-zero}
 use Rattle.graph_form.specs.Sets.{Among}
 use Rattle.graph_form.proofs.Amongs.{among_push}
 use Rattle.flow_reach.specs.Bits.{bit_of, Has, InWord, IsWithout}
-use Rattle.flow_reach.specs.Worklist.{IsShaped, Lists, Grows, Takes, IsIdle, cost_of, total, weight_of}
+use Rattle.flow_reach.specs.Worklist.{IsShaped, Lists, Grows, Takes, cost_of, total, weight_of}
 use Rattle.flow_reach.specs.declared.worklist.Worklist.{Worklist}
-use Rattle.flow_reach.proofs.Words.{bit_small, no_bit, has_none, in_word_or, at_word, other_word, in_word, some_number, no_number}
+use Rattle.flow_reach.proofs.Words.{no_bit, has_none, in_word_or, at_word, other_word, in_word, some_number, no_number}
 
 -- sums
 pub total_le : (f g : ℕ → ℕ) (n : ℕ) → ((k : ℕ) → g k ≤ f k) → total g n ≤ total f n

@@ -1,5 +1,5 @@
 -- Added pairs as numbers in order.
-use Rattle.std.specs.Prelude.{◌≡◌, ◌↔◌, ◌*◌, ◌/◌, ◌%◌, ◌<◌, ◌≤◌, ℕ, List, length, slice_index, slice_get, Some}
+use Rattle.std.specs.Prelude.{◌≡◌, ◌↔◌, ◌/◌, ◌%◌, ◌<◌, ◌≤◌, ℕ, List, length, slice_index, slice_get, Some}
 use Rattle.std.specs.Global.{Vec}
 use Rattle.graph_form.specs.Sets.{Among}
 use Rattle.flow_reach.specs.declared.moves.Move.{Move}

@@ -23,14 +23,35 @@ pub record Stop : Type 0 where
   pub point : ℕ
   pub fact : ℕ
 
--- these stops, the last one first, lead from the entry to just before the point, and carry the fact there
+-- these stops, the last one first, lead from a point where a fact begins to just before the point, and carry the fact there
+abbrev pub LeadsFrom : (ℕ → ℕ → Type 0) → Graph → Moves → List Stop → ℕ → ℕ → Type 0
+LeadsFrom Begins graph moves [] point fact = Begins point fact
+LeadsFrom Begins graph moves (last ∷ earlier) point fact =
+    LeadsFrom Begins graph moves earlier last.point last.fact × HasEdge graph last.point point × Turns moves last.point last.fact fact
+
+-- facts that begin at the entry
+abbrev pub AtEntry : Moves → ℕ → ℕ → Type 0
+AtEntry moves point fact = (point ≡ 0) × Among moves.start fact
+
+-- the same for paths from the entry
 abbrev pub Leads : Graph → Moves → List Stop → ℕ → ℕ → Type 0
-Leads graph moves [] point fact = (point ≡ 0) × Among moves.start fact
-Leads graph moves (last ∷ earlier) point fact = Leads graph moves earlier last.point last.fact × HasEdge graph last.point point × Turns moves last.point last.fact fact
+Leads graph moves stops point fact = LeadsFrom (AtEntry moves) graph moves stops point fact
+
+-- some path from a point where a fact begins carries the fact to just before the point
+abbrev pub CarriedFrom : (ℕ → ℕ → Type 0) → Graph → Moves → ℕ → ℕ → Type 0
+CarriedFrom Begins graph moves point fact = (stops : List Stop) × LeadsFrom Begins graph moves stops point fact
 
 -- some path from the entry carries the fact to just before the point
 abbrev pub Carried : Graph → Moves → ℕ → ℕ → Type 0
-Carried graph moves point fact = (stops : List Stop) × Leads graph moves stops point fact
+Carried graph moves point fact = CarriedFrom (AtEntry moves) graph moves point fact
+
+-- the facts that begin are those of a list of pairs
+abbrev pub Pairs : List (ℕ × ℕ) → ℕ → ℕ → Type 0
+Pairs pairs point fact = Among pairs (point, fact)
+
+-- facts begin at points that are there, and are there
+abbrev pub Inside : (ℕ → ℕ → Type 0) → Graph → Moves → Type 0
+Inside Begins graph moves = (point fact : ℕ) → Begins point fact → (point < length graph.points) × (fact < moves.facts)
 
 -- the row speaks of facts that are there
 pub record SpeaksOf (facts : ℕ) (row : Move) : Type 0 where

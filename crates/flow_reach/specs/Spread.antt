@@ -9,14 +9,19 @@ use Rattle.flow_reach.specs.declared.moves.Move.{Move}
 use Rattle.flow_reach.specs.declared.moves.Moves.{Moves}
 use Rattle.flow_reach.specs.declared.spread.Batch.{Batch}
 use Rattle.flow_reach.specs.declared.worklist.Worklist.{Worklist}
-use Rattle.flow_reach.specs.Adds.{Coded}
 use Rattle.flow_reach.specs.Bits.{Has, InWord, stride_of}
-use Rattle.flow_reach.specs.Carried.{Turns, Carried}
+use Rattle.flow_reach.specs.Adds.{Coded, AreAdds}
+use Rattle.flow_reach.specs.Carried.{Turns, CarriedFrom}
+use Rattle.flow_reach.specs.declared.ready.Ready.{Ready}
 use Rattle.flow_reach.specs.Worklist.{IsShaped}
 
 -- the numbers of these facts at a point whose facts begin there
 abbrev pub At : ℕ → List ℕ → ℕ → Type 0
 At base facts k = (fact : ℕ) × Among facts fact × (k ≡ base + fact)
+
+-- the numbers of these pairs of a point and a fact
+abbrev pub AtPairs : ℕ → List (ℕ × ℕ) → ℕ → Type 0
+AtPairs stride pairs k = (pair : ℕ × ℕ) × Among pairs pair × (k ≡ pair.0 * stride + pair.1)
 
 -- the numbers of these facts at these points
 abbrev pub AtEach : List ℕ → ℕ → List ℕ → ℕ → Type 0
@@ -51,6 +56,10 @@ Follows points adds batch k =
 abbrev pub Dropped : List Move → ℕ → ℕ → ℕ → Type 0
 Dropped rows stride to k = (point : ℕ) × (point < to) × (row : Move) × (slice_get rows point ≡ Some row) × At (point * stride) row.drops k
 
+-- the fact goes on as it is, since its number isn't dropped
+abbrev pub Left : List ℕ → ℕ → ℕ → ℕ → Type 0
+Left dropped at fact after = (fact ≡ after) × (Has dropped at → ⊥)
+
 -- the row of a point in a table has the other point
 abbrev pub RowHas : List (Vec ℕ) → ℕ → ℕ → Type 0
 RowHas [] from to = ⊥
@@ -71,16 +80,24 @@ Next graph moves stride at k =
 abbrev pub NextOf : Graph → Moves → ℕ → ℕ → ℕ → ℕ → Type 0
 NextOf graph moves stride word bits k = (at : ℕ) × InWord word bits at × Next graph moves stride at k
 
+-- the tables are those of the graph and of what its points do
+pub record IsReady (graph : Graph) (moves : Moves) (ready : Ready) : Type 0 where
+  pub after : IsTable graph ready.after.items
+  pub added : AreAdds moves.rows ready.added.items
+  pub room : length graph.points * stride_of moves.facts ≡ 64 * length ready.dropped.items
+  pub few : length ready.dropped.items ≤ 50000000
+  pub dropped : (k : ℕ) → Has ready.dropped.items k ↔ Dropped moves.rows (stride_of moves.facts) (length moves.rows) k
+
 -- what is seen is carried, and all to which it leads is seen, unless it waits
-pub record IsClosing (graph : Graph) (moves : Moves) (stride : ℕ) (work : Worklist) : Type 0 where
+pub record IsClosing (Begins : ℕ → ℕ → Type 0) (graph : Graph) (moves : Moves) (stride : ℕ) (work : Worklist) : Type 0 where
   pub shaped : IsShaped work
   pub room : length graph.points * stride ≡ 64 * length work.seen.items
-  pub sound : (k : ℕ) → Has work.seen.items k → (k < length graph.points * stride) × Carried graph moves (k / stride) (k % stride)
-  pub start : (fact : ℕ) → Among moves.start fact → Has work.seen.items (0 + fact)
+  pub sound : (k : ℕ) → Has work.seen.items k → (k < length graph.points * stride) × CarriedFrom Begins graph moves (k / stride) (k % stride)
+  pub start : (point fact : ℕ) → Begins point fact → Has work.seen.items (point * stride + fact)
   pub listed : (k : ℕ) → Has work.todo.items k → Has work.seen.items k
   pub closed : (k : ℕ) → Has work.seen.items k → Has work.todo.items k ⊎ ((m : ℕ) → Next graph moves stride k m → Has work.seen.items m)
 
 -- just what is carried is seen
-pub record IsFilled (graph : Graph) (moves : Moves) (seen : List ℕ) : Type 0 where
+pub record IsFilled (Begins : ℕ → ℕ → Type 0) (graph : Graph) (moves : Moves) (seen : List ℕ) : Type 0 where
   pub room : length graph.points * stride_of moves.facts ≡ 64 * length seen
-  pub exact : (point fact : ℕ) → fact < moves.facts → Has seen (point * stride_of moves.facts + fact) ↔ Carried graph moves point fact
+  pub exact : (point fact : ℕ) → fact < moves.facts → Has seen (point * stride_of moves.facts + fact) ↔ CarriedFrom Begins graph moves point fact

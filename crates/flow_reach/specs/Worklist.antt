@@ -1,5 +1,5 @@
 -- Numbers that were seen, and those of them that still wait.
-use Rattle.std.specs.Prelude.{◌≡◌, ◌⊎◌, ◌↔◌, ◌≤◌, ◌<◌, ◌+◌, ◌*◌, ◌-◌, ◌/◌, ◌^◌, ℕ, zero, suc, List, length}
+use Rattle.std.specs.Prelude.{◌≡◌, ◌⊎◌, ◌↔◌, ◌≤◌, ◌<◌, ◌+◌, ◌*◌, ◌-◌, ◌/◌, ◌^◌, ℕ, zero, suc, length}
 use Rattle.graph_form.specs.Sets.{Among}
 use Rattle.flow_reach.specs.Bits.{bit_of, Has, InWord}
 use Rattle.flow_reach.specs.declared.worklist.Worklist.{Worklist}

@@ -4,22 +4,34 @@ ghost use Rattle.std.specs.Prelude.{◌≡◌, ◌≢◌, ◌+◌, ◌*◌, ◌<
 ghost use Rattle.std.specs.Int.{bit_at};
 ghost use Rattle.graph_form.specs.Sets.{Among};
 ghost use Rattle.flow_reach.specs.Adds.{Ascends};
-ghost use Rattle.flow_reach.specs.Spread.{At, AtEach, Kept, AddedBy, Added, Bits, Follows};
+ghost use Rattle.flow_reach.specs.Spread.{At, AtPairs, AtEach, Kept, AddedBy, Added, Bits, Follows};
 ghost use Rattle.flow_reach.specs.Worklist.{IsShaped, Grows};
 
-use crate::added::only_seconds;
 use crate::bits;
+use crate::pairs::only_seconds;
 use crate::worklist::Worklist;
 use node_tree::Memory;
 
-/// Sees these facts at a point whose facts begin at a number.
-pub fn see_facts(work: &mut Worklist, base: usize, facts: &[u32]) -> Result<(), Memory>
+// Sees these facts at a point whose facts begin at a number.
+fn see_facts(work: &mut Worklist, base: usize, facts: &[u32]) -> Result<(), Memory>
     requires shaped { IsShaped work.old }
     requires room { (fact : ℕ) → Among facts.now fact → base + fact < 64 * length work.old.seen.items }
     ensures { OnOk result (Grows (At base facts.now) work.old work.new) }
 {
     for fact in facts {
         work.see_one(base + *fact as usize)?;
+    }
+    Ok(())
+}
+
+/// Sees these pairs of a point and a fact.
+pub fn see_pairs(work: &mut Worklist, stride: usize, pairs: &[(u32, u32)]) -> Result<(), Memory>
+    requires shaped { IsShaped work.old }
+    requires room { (k : ℕ) → AtPairs stride pairs.now k → k < 64 * length work.old.seen.items }
+    ensures { OnOk result (Grows (AtPairs stride pairs.now) work.old work.new) }
+{
+    for pair in pairs {
+        work.see_one(pair.0 as usize * stride + pair.1 as usize)?;
     }
     Ok(())
 }

@@ -1,4 +1,4 @@
-use Rattle.std.proofs.Common.{arith, refl, sym, subst, ap, ◌∙◌, List, ℕ, ◌≡◌, ◌↔◌, ◌⊎◌, ◌<◌, ◌≤◌, ◌+◌, ◌*◌, length, get_or, Some, mul_comm}
+use Rattle.std.proofs.Common.{arith, refl, subst, ap, ◌∙◌, List, ℕ, ◌≡◌, ◌↔◌, ◌<◌, ◌≤◌, ◌*◌, length, Some, mul_comm}
 use Rattle.std.specs.Prelude.{slice_get}
 use Rattle.std.proofs.lemmas.Nat.{mul-add-lt}
 use Rattle.std.proofs.lemmas.Option.{slice_get_read}

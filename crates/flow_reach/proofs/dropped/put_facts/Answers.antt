@@ -1,7 +1,7 @@
-use Rattle.std.proofs.Common.{arith, refl, inl, inr, sym, subst, ◌∙◌, List, ℕ, ◌≡◌, ◌↔◌, ◌⊎◌, ◌+◌, ◌/◌, get_or, take}
+use Rattle.std.proofs.Common.{arith, subst, ◌∙◌, List, ℕ, ◌≡◌, ◌↔◌, ◌⊎◌, ◌+◌, ◌/◌, get_or, take}
 use Rattle.std.proofs.lemmas.List.{take_all}
 use Rattle.graph_form.proofs.Amongs.{among_at, among_more}
-use Rattle.flow_reach.specs.Bits.{Has, InWord}
+use Rattle.flow_reach.specs.Bits.{Has}
 use Rattle.flow_reach.specs.Spread.{At}
 use Rattle.flow_reach.proofs.Steps.{at_more, more, one_number, as_right}
 use Rattle.flow_reach.proofs.Works.{put_set}

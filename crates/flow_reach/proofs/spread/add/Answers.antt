@@ -1,4 +1,4 @@
-use Rattle.std.proofs.Common.{arith, ap, sym, ◌∙◌, ◌≡◌, ◌≢◌, ◌<◌}
+use Rattle.std.proofs.Common.{arith, ap, ◌∙◌, ◌≡◌, ◌≢◌}
 use Rattle.std.specs.Int.{bit_at}
 use Rattle.flow_reach.proofs.Grow.{grows_then, grows_as}
 use Rattle.flow_reach.proofs.Steps.{added_more, added_none, added_all}

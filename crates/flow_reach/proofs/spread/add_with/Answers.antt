@@ -1,4 +1,4 @@
-use Rattle.std.proofs.Common.{sym, subst, List, ℕ, ◌↔◌, arith}
+use Rattle.std.proofs.Common.{sym, subst, List, ℕ, ◌↔◌}
 use Rattle.flow_reach.specs.Adds.{Coded}
 use Rattle.graph_form.specs.Sets.{Among}
 use Rattle.flow_reach.proofs.Grow.{grows_as}

@@ -1,4 +1,4 @@
-use Rattle.std.proofs.Common.{arith, ◌+◌, ◌*◌, ◌↔◌, ◌⊎◌}
+use Rattle.std.proofs.Common.{arith}
 use Rattle.std.proofs.Math.Nat.{mul_assoc}
 use Rattle.flow_reach.proofs.Grow.{grows_then}
 use Rattle.flow_reach.proofs.spread.follow.Goals as goal

@@ -1,4 +1,4 @@
-use Rattle.std.proofs.Common.{arith, ◌<◌, inl, inr, refl, sym, ◌∙◌, ap, subst, List, [], ◌∷◌, ◌++◌, ℕ, ◌⊎◌, ◌↔◌, ◌≡◌, length, take, get_or, length-set}
+use Rattle.std.proofs.Common.{arith, ◌<◌, refl, sym, ◌∙◌, subst, List, ℕ, ◌⊎◌, ◌↔◌, ◌≡◌, length, take, get_or, length-set}
 use Rattle.std.specs.Global.{Vec}
 use Rattle.std.proofs.lemmas.List.{take_all}
 use Rattle.std.proofs.lemmas.Option.{slice_get_read}

@@ -1,4 +1,4 @@
-use Rattle.std.proofs.Common.{◌↔◌, ◌≡◌, ◌<◌, List, ℕ, ◌+◌, ◌*◌, ap, subst, IsTrue, arith, mul_comm}
+use Rattle.std.proofs.Common.{◌↔◌, ◌≡◌, List, ℕ, ◌+◌, ◌*◌, ap, subst, IsTrue, arith, mul_comm}
 use Rattle.std.proofs.lemmas.Nat.{mul-add-lt}
 use Rattle.flow_reach.specs.Bits.{Has, stride_of}
 use Rattle.flow_reach.specs.Reached.{Tells}

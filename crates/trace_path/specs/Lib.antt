@@ -1,0 +1,4 @@
+pub mod Along
+pub mod Fresh
+pub mod Queue
+pub mod Trace
