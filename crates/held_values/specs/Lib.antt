@@ -1,0 +1,5 @@
+pub mod Closing
+pub mod Holding
+pub mod Merged
+pub mod Slots
+pub mod Told
