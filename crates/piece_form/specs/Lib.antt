@@ -1,0 +1,5 @@
+pub mod Code
+pub mod Cut
+pub mod Identity
+pub mod Keys
+pub mod Looks
