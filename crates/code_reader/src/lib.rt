@@ -6,8 +6,10 @@
 
 mod fault;
 mod patterns;
+mod source;
 mod trees;
 
 pub use fault::PatternFault;
 pub use patterns::PatternReader;
+pub use source::SourceTree;
 pub use trees::TreeReader;

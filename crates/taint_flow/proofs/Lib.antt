@@ -1,0 +1,4 @@
+pub mod Spread
+pub mod FactLists
+pub mod CarryLists
+pub mod RowLists

