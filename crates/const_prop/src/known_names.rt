@@ -5,8 +5,12 @@ ghost use Rattle.node_tree.specs.KnownNames.{AreNames, AreInOrder};
 ghost use Rattle.node_tree.specs.declared.known.Known.{Known as a_known};
 ghost use Rattle.const_prop.specs.Constants.{AreConstants};
 
+use crate::scopes::sightings_of;
+use crate::settling::settle;
 use node_tree::{Known, List, Memory, Node};
+use point_nodes::IndexedTree;
 use std::alloc::Global;
+use unit_names::scopes_of;
 
 /// The names of a file that are known to hold a literal wherever they stand, in order of number, each once. The literal has
 /// its kind and text, and no place.
@@ -16,7 +20,11 @@ pub fn constants(alloc: Global, root: &Node) -> Result<List<Known>, Memory>
     ensures names { IfOk result (AreNames root.now) }
     ensures in_order { IfOk result AreInOrder }
 {
-    let _ = alloc;
-    let _ = root;
-    Err(Memory)
+    let Some(count) = root.count() else {
+        return Err(Memory);
+    };
+    let tree = IndexedTree::of(alloc, root)?;
+    let scopes = scopes_of(root)?;
+    let sightings = sightings_of(alloc, root, &tree, scopes.as_slice())?;
+    settle(alloc, &tree, count, &sightings)
 }

@@ -2,8 +2,9 @@
 #![tactic(auto)]
 
 mod known_names;
+mod scopes;
 mod settling;
 mod sighting;
-mod unit_tables;
+mod view;
 
 pub use known_names::constants;

@@ -6,4 +6,6 @@ mod assigned;
 #[cfg(test)]
 mod graphs;
 #[cfg(test)]
+mod known;
+#[cfg(test)]
 mod source;

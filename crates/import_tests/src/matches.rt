@@ -4,42 +4,29 @@ use code_reader::PatternReader;
 use file_open::{Opened, open_file};
 use import_names::resolve;
 use languages::Languages;
-use node_tree::{Bytes, FileView, Lang, Memory, Steps};
+use node_tree::{Bytes, Lang, Memory, Steps};
+use place_join::join_by_place;
 use shown::{parted, same};
 use std::alloc::Global;
 use std::fmt::Write;
 use std::marker::Brand;
 use std::sync::ledger::{Blank, Ledger};
 use std::test::Fail;
-use tree_match::{Leaf, match_leaf};
+use tree_match::{Leaf, LeafSet, match_leaf};
 
-// Writes where the pattern matches in a file.
-fn write_matches<L: Ledger>(
-    alloc: Global,
-    view: &FileView,
-    pattern: &str,
-    steps: &mut Steps<L>,
-    line: &mut String,
-) -> Result<(), Memory> {
-    let Ok(pattern) = Languages.read_pattern(alloc, Lang::Python, pattern) else {
-        return Ok(());
-    };
-    let leaf = match_leaf(alloc, view, &pattern, steps)?;
-    if let Leaf::Full(members) = &leaf {
-        for at in 0..members.len() {
-            if let Some((range, binding)) = members.get(at) {
-                write!(line, " {}..{}", range.from, range.to)?;
-                for bound in binding.bounds() {
-                    let (name, span) = (bound.name.as_str(), bound.span);
-                    write!(line, " {name}={}..{}", span.from, span.to)?;
-                }
-            }
+// Writes where a pattern matches, by the range and the names with theirs.
+fn write_members(set: &LeafSet, line: &mut String) -> Result<(), Memory> {
+    for (range, binding) in set.members() {
+        write!(line, " {}..{}", range.from, range.to)?;
+        for bound in binding.bounds() {
+            let (name, span) = (bound.name.as_str(), bound.span);
+            write!(line, " {name}={}..{}", span.from, span.to)?;
         }
     }
     Ok(())
 }
 
-// Where the pattern matches in a file in Python, and, behind `|`, where it does once names are replaced.
+// Where the pattern matches in a file in Python, and where it does once names are replaced.
 fn matches<L: Ledger>(
     alloc: Global,
     blank: Blank,
@@ -53,16 +40,15 @@ fn matches<L: Ledger>(
     let mut line = String::new(alloc);
     let mut steps = Steps::<L>::new(blank);
     let bytes = Bytes::from_slice(alloc, text.as_bytes())?;
+    let Ok(pattern) = Languages.read_pattern(alloc, Lang::Python, pattern) else {
+        return Ok(line);
+    };
     if let Opened::Read(view) = open_file(alloc, &Languages, Lang::Python, bytes, &mut steps)? {
-        write_matches(alloc, &view, pattern, &mut steps, &mut line)?;
-        line.push_str(" |")?;
-        write_matches(
-            alloc,
-            &resolve(alloc, &view)?,
-            pattern,
-            &mut steps,
-            &mut line,
-        )?;
+        let plain = match_leaf(alloc, &view, &pattern, &mut steps)?;
+        let further = match_leaf(alloc, &resolve(alloc, &view)?, &pattern, &mut steps)?;
+        if let Leaf::Full(set) = join_by_place(&plain, &further)? {
+            write_members(&set, &mut line)?;
+        }
     }
     Ok(line)
 }
@@ -71,10 +57,13 @@ fn matches<L: Ledger>(
 #[test]
 fn finds_imported_names(rt: HostRuntime) -> Result<(), Fail> {
     let rows = [
-        "from os import system as s\ns(c)\n ⇒ os.system($C) ⇒  | 27..31 $C=29..30",
-        "from os import system as s\ns(c)\ns = 1\n ⇒ os.system($C) ⇒  |",
-        "import numpy as np\nnp.load(x)\n ⇒ numpy.load(...) ⇒  | 19..29",
-        "import numpy as np\nnp.load(x)\n ⇒ np.load(...) ⇒  19..29 |",
+        "from os import system as s\ns(c)\n ⇒ os.system($C) ⇒  27..31 $C=29..30",
+        "from os import system as s\ns(c)\ns = 1\n ⇒ os.system($C) ⇒ ",
+        "import numpy as np\nnp.load(x)\n ⇒ numpy.load(...) ⇒  19..29",
+        "import numpy as np\nnp.load(x)\n ⇒ np.load(...) ⇒  19..29",
+        "import numpy as np\nnp.load(np.x)\n ⇒ $F($X) ⇒  19..32 $F=19..26 $X=27..31",
+        "from os import system as s\ns(c); f(s); g(c)\n ⇒ $F(...) ⇒  27..31 $F=27..28 33..37 $F=33..34 39..43 $F=39..40",
+        "from os import system as s\nos.system(b); s(c); os.system(d)\n ⇒ os.system($C) ⇒  27..39 $C=37..38 41..45 $C=43..44 47..59 $C=57..58",
     ];
     for row in &rows {
         let (text, rest) = parted(row);

@@ -3,11 +3,15 @@
 
 mod carrying;
 mod census;
+mod counting;
 mod facts;
 mod fault;
 mod find;
+mod goals;
 mod hit;
+mod least;
 mod moves;
+mod plan;
 mod rows;
 mod sets;
 mod unit;

@@ -8,10 +8,18 @@ ghost use Rattle.flow_reach.specs.Carried.{Fits};
 ghost use Rattle.taint_flow.specs.Sizes.{names_of};
 ghost use Rattle.taint_flow.specs.Traces.{TracesAreHits, AreGoals};
 
+use crate::census::Census;
+use crate::counting::census_of;
+use crate::facts::Look;
 use crate::moves::UnitMoves;
+use crate::plan::plan_of;
 use crate::sets::TaintSets;
+use flow_graph::graph_of;
+use flow_reach::fits;
 use node_tree::{Memory, Node, Span};
+use point_nodes::IndexedTree;
 use std::alloc::Global;
+use taint_form::{SpanSet, Table};
 
 /// The graph of a unit, with moves and goals: a source hits a sink at the end of a path exactly where the path carries the fact of a
 /// goal of the sink to the goal's point.
@@ -28,5 +36,25 @@ pub fn unit_moves(
     ensures goals { IfOk result AreGoals }
     ensures hits { IfOk result (TracesAreHits root.now unit sets.now source) }
 {
-    Err(Memory)
+    let tree = IndexedTree::of(alloc, root)?;
+    let graph = graph_of(root, unit)?;
+    let none = SpanSet::of(alloc, &[])?;
+    let names = census_of(alloc, &tree, unit, graph.points.as_slice(), &none)?.names;
+    let mut sources = Table::new(alloc);
+    sources.add(source)?;
+    let sanitizers = SpanSet::of(alloc, sets.sanitizers.as_slice())?;
+    let census = Census { names, sources };
+    let look = Look {
+        census: &census,
+        sanitizers: &sanitizers,
+    };
+    let plan = plan_of(alloc, &tree, unit, &graph, sets, look)?;
+    if !fits(&graph, &plan.moves) {
+        return Err(Memory);
+    }
+    Ok(UnitMoves {
+        graph,
+        moves: plan.moves,
+        goals: plan.goals,
+    })
 }
