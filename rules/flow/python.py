@@ -1,4 +1,4 @@
-"""Examples of the rules of python.yaml."""
+"""Examples of the rules of python.yaml, which are compared when semscan follows data."""
 import os
 import shlex
 

@@ -6,10 +6,8 @@
 
 mod fault;
 mod patterns;
-mod source;
 mod trees;
 
 pub use fault::PatternFault;
 pub use patterns::PatternReader;
-pub use source::SourceTree;
 pub use trees::TreeReader;

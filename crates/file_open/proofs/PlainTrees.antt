@@ -1,18 +1,14 @@
 -- The tree of a text that is only searched.
-use Rattle.std.proofs.Common.{◌≡◌, ℕ, List, [], length, sym, subst, arith}
+use Rattle.std.proofs.Common.{ℕ, List, [], length, sym, subst, arith}
 use Rattle.std.specs.Str.{IsUtf8}
-use Rattle.std.proofs.lemmas.List.Elements.{All-nil}
 use Rattle.std.proofs.lemmas.Str.{IsCharBoundary-start, IsCharBoundary-end}
 use Rattle.node_tree.specs.declared.node.Node.{Node}
 use Rattle.node_tree.specs.declared.kind.Kind.TheVariants.{Root}
 use Rattle.node_tree.specs.declared.span.Span.{Span}
-use Rattle.node_tree.specs.declared.known.Known.{Known}
 use Rattle.node_tree.specs.Span.{LiesIn}
 use Rattle.node_tree.specs.Spans.{SpansLieIn}
 use Rattle.node_tree.proofs.Nodes.{made_kids, made_span}
 use Rattle.node_tree.proofs.SpanLaws.{AllLieIn, none_lie, node_lies}
-use Rattle.node_tree.specs.KnownNames.{IsNameAt}
-use Rattle.code_reader.specs.Sources.{StandsIn}
 use Rattle.file_open.specs.Reading.{plain_tree}
 
 -- its span lies in the text
@@ -21,9 +17,3 @@ plain_lies text utf8 =
     let lies : LiesIn text (record { from = 0; to = length text }) = record { ordered = omega arith; begins = IsCharBoundary-start text utf8; ends = IsCharBoundary-end text } in
     node_lies text (plain_tree text) (subst (λ (s : Span). LiesIn text s) (sym (made_span Root [] [] (record { from = 0; to = length text }))) lies)
     (subst (λ (ns : List Node). AllLieIn text ns) (sym (made_kids Root [] [] (record { from = 0; to = length text }))) (none_lie text))
-
--- a tree in which no name is known stands where its spans lie
-pub nameless_stands : (text : List ℕ) (tree : Node) (known : List Known) → SpansLieIn text tree → known ≡ [] → StandsIn text (record { tree = tree; known = known })
-nameless_stands text tree known placed none =
-    let P : List Known → Type 0 = λ ks. StandsIn text (record { tree = tree; known = ks }) in
-    subst P (sym none) (record { placed = placed; names = All-nil (λ (k : Known). IsNameAt tree k.at); in_order = λ k few. absurd (omega (arith, few)) })

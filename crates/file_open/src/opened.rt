@@ -2,12 +2,12 @@
 
 ghost use Rattle.std.specs.Prelude.{◌≡◌, ◌+◌, ◌≤◌, length, IfOk};
 ghost use Rattle.std.specs.Str.{IsUtf8};
-ghost use Rattle.code_reader.specs.Sources.{StandsIn};
+ghost use Rattle.node_tree.specs.Spans.{SpansLieIn};
 ghost use Rattle.file_open.specs.Opening.{IsView, IsTextTree, HasOnlyTextTree, IsPlaced, IsOpened, HasOnlyTree};
 
-use crate::reading::{plain_source, tree_in};
-use code_reader::{SourceTree, TreeReader};
-use node_tree::{Bytes, FileView, Lang, MOST_BYTES, Memory, ReadFault, Steps};
+use crate::reading::{plain_tree, tree_in};
+use code_reader::TreeReader;
+use node_tree::{Bytes, FileView, Lang, List, MOST_BYTES, Memory, Node, ReadFault, Steps};
 use std::alloc::Global;
 use std::str;
 use std::sync::ledger::Ledger;
@@ -25,13 +25,13 @@ pub enum Opened {
     Read(FileView),
 }
 
-// The tree of a text, with its known names.
+// The tree of a text.
 #[derive(Drop)]
 enum TextTree {
     // The text has this one in the language.
-    Read(SourceTree),
+    Read(Node),
     // It has none. This is that of a text that is only searched.
-    Plain(SourceTree),
+    Plain(Node),
 }
 
 // The tree of a text in the language, or else the one by which it can be searched.
@@ -47,24 +47,24 @@ fn tree_of<R: TreeReader>(
     ensures placed { IfOk result (IsPlaced text.now) }
 {
     match tree_in(alloc, reader, lang, text) {
-        Ok(source) => Ok(TextTree::Read(source)),
-        Err(ReadFault::NoTree) => Ok(TextTree::Plain(plain_source(alloc, text))),
+        Ok(tree) => Ok(TextTree::Read(tree)),
+        Err(ReadFault::NoTree) => Ok(TextTree::Plain(plain_tree(alloc, text))),
         Err(ReadFault::Memory) => Err(Memory),
     }
 }
 
 // The file of these bytes and a tree.
-fn view_of(lang: Lang, bytes: Bytes, source: SourceTree) -> FileView
+fn view_of(alloc: Global, lang: Lang, bytes: Bytes, tree: Node) -> FileView
     requires utf8 { ∥ IsUtf8 bytes ∥₁ }
     requires small { length bytes ≤ MOST_BYTES }
-    requires stands { StandsIn bytes source }
-    ensures { IsView lang bytes source result }
+    requires placed { SpansLieIn bytes tree }
+    ensures { IsView lang bytes tree result }
 {
     FileView {
         lang,
         bytes,
-        tree: source.tree,
-        known: source.known,
+        tree,
+        known: List::new(alloc),
     }
 }
 
@@ -84,16 +84,15 @@ fn open_bytes<R: TreeReader>(
         Err(_) => return Ok(Opened::NotUtf8),
     };
     match tree {
-        TextTree::Read(source) => Ok(Opened::Read(view_of(lang, bytes, source))),
-        TextTree::Plain(source) => Ok(Opened::NoTree(view_of(Lang::Regex, bytes, source))),
+        TextTree::Read(tree) => Ok(Opened::Read(view_of(alloc, lang, bytes, tree))),
+        TextTree::Plain(tree) => Ok(Opened::NoTree(view_of(alloc, Lang::Regex, bytes, tree))),
     }
 }
 
 /// What the bytes of a file are in the language, by a reader of trees. TooLarge comes exactly where there are more than
 /// 1,000,000, else NotUtf8 exactly where they are no UTF-8, else NoTree exactly where the text has no tree in the language. A
 /// text of the language `Regex` always has one: a `Root` without kids that spans all of it. It is one step, whatever it answers.
-/// The bytes become those of the file, so none is copied. The file knows the names that the reader says are known to hold a
-/// literal.
+/// The bytes become those of the file, so none is copied. So far no name of a file is known to hold a literal.
 pub fn open_file<R: TreeReader, L: Ledger>(
     alloc: Global,
     reader: &R,

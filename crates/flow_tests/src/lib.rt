@@ -6,6 +6,4 @@ mod assigned;
 #[cfg(test)]
 mod graphs;
 #[cfg(test)]
-mod known;
-#[cfg(test)]
 mod source;

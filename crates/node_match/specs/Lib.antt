@@ -1,5 +1,6 @@
 pub mod Sets
 pub mod Kinds
+pub mod Kids
 pub mod Free
 pub mod Orders
 pub mod Relation
@@ -7,5 +8,4 @@ pub mod Holding
 pub mod Refused
 pub mod Fronts
 pub mod States
-pub mod Kids
 pub mod Choices

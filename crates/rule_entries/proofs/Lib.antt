@@ -4,5 +4,4 @@ pub mod Levels
 pub mod Shapes
 pub mod Lists
 pub mod Entries
-pub mod Following
 pub mod Outcomes

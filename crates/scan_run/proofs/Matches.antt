@@ -3,10 +3,11 @@ use Rattle.std.proofs.Common.{◌≡◌, ◌⊎◌, inl, inr, ℕ, ◌+◌, ◌�
 use Rattle.std.specs.Prelude.{Option, Some, None, IsSome}
 use Rattle.std.specs.List.{concat}
 use Rattle.std.specs.Io.KnownBytes.{Appends}
+use Rattle.node_tree.specs.declared.node.Node.{Node}
 use Rattle.node_tree.specs.declared.view.Pattern.{Pattern}
 use Rattle.node_tree.specs.declared.view.FileView.{FileView}
+use Rattle.node_tree.specs.declared.known.Known.{Known}
 use Rattle.node_tree.specs.declared.view.Lang.{Lang}
-use Rattle.code_reader.specs.declared.source.SourceTree.{SourceTree}
 use Rattle.pattern_read.specs.Patterns.{IsPatternOf}
 use Rattle.tree_match.specs.Members.{IsMember, KnownTree, known_tree}
 use Rattle.tree_match.proofs.Exclusion.{few_or_more, whole_once}
@@ -20,7 +21,7 @@ use Rattle.scan_run.specs.declared.status.Status.TheVariants as statuses
 use Rattle.scan_run.specs.declared.status.LimitKind.TheVariants.{Target}
 use Rattle.scan_run.specs.Status.{HasInputCause, IsOfSearch, IsOfInput}
 use Rattle.scan_run.specs.Steps.{TakesSteps}
-use Rattle.scan_run.specs.Reading.{IsFileOf, IsOnlyFile, HasNoFile, source_in}
+use Rattle.scan_run.specs.Reading.{IsFileOf, IsOnlyFile, HasNoFile}
 use Rattle.scan_run.specs.Lines.{line_of}
 use Rattle.scan_run.specs.Streams.{Tells, IsTarget, IsTooLong}
 use Rattle.scan_run.specs.Ways.{Printed, PrintedFront, PrintedSome, IsOnlyEnd}
@@ -99,16 +100,19 @@ file_small : (lang : Lang) (bytes : List ℕ) (tree : KnownTree) → IsFileOf la
 file_small lang bytes tree f = f.is_text.0
 
 pub file_read : (lang : Lang) (bytes : List ℕ) (view : FileView) → IsOpened IsTree lang bytes (opened.Read view) → IsFileOf lang bytes (known_tree view)
-file_read lang bytes view o = record { is_text = o.0; is_tree = o.1 }
+file_read lang bytes view o = record { is_text = o.0; is_tree = o.1; nothing_known = o.2.nothing_known }
 
-pub only_read : (lang : Lang) (bytes : List ℕ) (view : FileView) → HasOnlyTree IsTree lang bytes (opened.Read view) → IsOnlyFile lang bytes (known_tree view)
-only_read lang bytes view only file f = let T : SourceTree → KnownTree = λ s. record { tree = s.tree; known = s.known } in ap T (only (source_in file) f.is_tree)
+pub only_read : (lang : Lang) (bytes : List ℕ) (view : FileView) → HasOnlyTree IsTree lang bytes (opened.Read view) → view.known ≡ [] → IsOnlyFile lang bytes (known_tree view)
+only_read lang bytes view only nothing file f =
+    let T : Node → KnownTree = λ t. record { tree = t; known = file.known } in
+    let K : List Known → KnownTree = λ ks. record { tree = view.tree; known = ks } in
+    ap T (only file.tree f.is_tree) ∙ ap K (f.nothing_known ∙ sym nothing)
 
 -- bytes that are opened as no file of the language are none
 pub none_opened : (lang : Lang) (bytes : List ℕ) (o : Opened) → ((view : FileView) → o ≡ opened.Read view → ⊥) → length bytes ≤ 1000000 → IsOpened IsTree lang bytes o → HasNoFile lang bytes
 none_opened lang bytes opened.TooLarge nay small large tree f = absurd (omega arith)
 none_opened lang bytes opened.NotUtf8 nay small none tree f = none.1 f.is_text.1
-none_opened lang bytes (opened.NoTree view) nay small none tree f = none.1 (source_in tree) f.is_tree
+none_opened lang bytes (opened.NoTree view) nay small none tree f = none.1 tree.tree f.is_tree
 none_opened lang bytes (opened.Read view) nay small is tree f = nay view refl
 
 -- ---- a match

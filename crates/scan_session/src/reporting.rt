@@ -7,7 +7,7 @@ ghost use Rattle.std.specs.Str.{IsUtf8};
 ghost use Rattle.meta_bind.specs.declared.bound.Bound.{Bound as a_bound};
 ghost use Rattle.meta_bind.specs.Fills.{filled};
 ghost use Rattle.meta_bind.specs.Places.{EndsLieIn};
-ghost use Rattle.taint_judge.specs.Placed.{IsFindingPlaced};
+ghost use Rattle.part_judge.specs.Findings.{IsFindingPlaced};
 ghost use Rattle.scan_session.specs.Reports.{reported as reported_as, outcome_notices};
 ghost use Rattle.scan_session.specs.Judging.{AreNumbered, AreReported, ArePlacedHits, AreNumberedHits, judged_notices};
 

@@ -49,7 +49,8 @@ pub struct Scanner<'r, R> {
 
 impl<'r, R: TreeReader + CommentReader> Scanner<'r, R> {
     /// A scan by the rules of the rule files, which reports at most so many findings and has no file so far. Files are opened by
-    /// the reader. A rule whose id an earlier one has does not run; nor does one with a text that is refused.
+    /// the reader. A rule whose id an earlier one has does not run; nor does one with a text that is refused; nor, so far, one
+    /// that follows data.
     ///
     /// Each text of a good rule is given to `build` once, in order of rule file, entry and place. The refused ones are those
     /// that the builder's list gained in this call, whatever it answers.

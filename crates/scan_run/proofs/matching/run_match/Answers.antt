@@ -75,7 +75,7 @@ returns-clause-only g c a some =
     let is = subst (λ (l : List ℕ). IsOpened IsTree c.args.lang l (opened.Read c.in-Read.file)) c.from_vec.ensures (subst (λ (x : Opened). IsOpened IsTree c.args.lang c.from_vec.result x) c.in-Read.is c.in-Ok-open_file.ensures.opened) in
     let one = subst (λ (l : List ℕ). HasOnlyTree IsTree c.args.lang l (opened.Read c.in-Read.file)) c.from_vec.ensures (subst (λ (x : Opened). HasOnlyTree IsTree c.args.lang c.from_vec.result x) c.in-Read.is c.in-Ok-open_file.ensures.only) in
     only_search c.args.lang c.args.text.now c.in-Ok.pattern c.in-Ok.ensures.pattern _ bytes c.in-Ok-read_target.ensures.target (known_tree c.in-Read.file) (file_read c.args.lang bytes c.in-Read.file is) _ _ _
-    c.in-Ok.ensures.only (only_read c.args.lang bytes c.in-Read.file one) (c.print_members.ensures.ends a) some
+    c.in-Ok.ensures.only (only_read c.args.lang bytes c.in-Read.file one is.2.nothing_known) (c.print_members.ensures.ends a) some
 
 pub returns-clause-front_written : goal.returns-clause-front_written
 returns-clause-front_written g c e =

@@ -1,4 +1,0 @@
-pub mod Claims
-pub mod Resolved
-pub mod Pieces
-pub mod Ordered

@@ -1,4 +1,0 @@
-pub mod Spread
-pub mod FactLists
-pub mod CarryLists
-pub mod RowLists

@@ -1,4 +1,0 @@
-pub mod Bases
-pub mod Expressions
-pub mod Origins
-pub mod Tables

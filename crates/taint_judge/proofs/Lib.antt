@@ -1,4 +1,0 @@
-pub mod Each
-pub mod Gathering
-pub mod Hits
-pub mod Once

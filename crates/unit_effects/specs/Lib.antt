@@ -1,4 +1,0 @@
-pub mod Fixed
-pub mod Functions
-pub mod Numbering
-pub mod Once
