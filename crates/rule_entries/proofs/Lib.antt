@@ -4,4 +4,5 @@ pub mod Levels
 pub mod Shapes
 pub mod Lists
 pub mod Entries
+pub mod Following
 pub mod Outcomes

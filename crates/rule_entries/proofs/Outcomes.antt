@@ -27,6 +27,7 @@ use Rattle.rule_keys.specs.Heads.{id_of}
 use Rattle.rule_entries.specs.Finds.{Writes}
 use Rattle.rule_entries.specs.Rules.{IsRule, IsBad, IsOutcome, IsOutcomeIn, IsOutcomeOf, AreOutcomes, Tells, Decides, Comes, decided, fault, nothing, taken_after}
 use Rattle.rule_entries.proofs.Entries.{has_id}
+use Rattle.rule_entries.proofs.Following.{Follows, outcomes_are, outcomes_follow}
 
 abbrev pub Ids : Type 0
 Ids = BTreeSet (Bor (List ℕ))
@@ -98,8 +99,8 @@ module _ (writes : Writes) (ids : List (List ℕ)) (k : ℕ) (v : YValue) (taken
 pub record SoFar (writes : Writes) (vs : List YValue) (taken : Ids) (os : List RuleOutcome) (k : ℕ) (rest : List YValue) : Type 0 where
   pub ids : List (List ℕ)
   pub tells : Tells taken ids
-  pub makes : (more : List RuleOutcome) → AreOutcomes writes ids k rest more → AreOutcomes writes [] 0 vs (os ++ more)
-  pub only : (all : List RuleOutcome) → AreOutcomes writes [] 0 vs all → (more : List RuleOutcome) × AreOutcomes writes ids k rest more × (all ≡ os ++ more)
+  pub makes : (more : List RuleOutcome) → Follows writes ids k rest more → Follows writes [] 0 vs (os ++ more)
+  pub only : (all : List RuleOutcome) → Follows writes [] 0 vs all → (more : List RuleOutcome) × Follows writes ids k rest more × (all ≡ os ++ more)
 
 pub begins : (writes : Writes) (vs : List YValue) (taken : Ids) → Tells taken [] → SoFar writes vs taken [] 0 vs
 begins writes vs taken tells = record { ids = []; tells = tells; makes = λ more h. h; only = λ all h. (all, h, refl) }
@@ -114,15 +115,15 @@ module _ (writes : Writes) (vs : List YValue) (taken : Ids) (os : List RuleOutco
       ids = taken_after far.ids o;
       tells = h.2;
       makes = λ more m.
-          let P : List YValue → Type 0 = λ xs. AreOutcomes writes far.ids k xs (o ∷ more) in
+          let P : List YValue → Type 0 = λ xs. Follows writes far.ids k xs (o ∷ more) in
           let whole = far.makes (o ∷ more) (subst P (sym opened) (o, h.0, (more, m, refl))) in
-          subst (AreOutcomes writes [] 0 vs) (sym (append_assoc os (o ∷ []) more)) whole;
+          subst (Follows writes [] 0 vs) (sym (append_assoc os (o ∷ []) more)) whole;
       only = λ all a.
           let t = far.only all a in
-          let P : List YValue → Type 0 = λ xs. AreOutcomes writes far.ids k xs t.0 in
+          let P : List YValue → Type 0 = λ xs. Follows writes far.ids k xs t.0 in
           let u = subst P opened t.1 in
           let same : u.0 ≡ o = h.1 u.0 u.1 in
-          let Q : RuleOutcome → Type 0 = λ x. AreOutcomes writes (taken_after far.ids x) (k + 1) (drop (k + 1) vs) u.2.0 in
+          let Q : RuleOutcome → Type 0 = λ x. Follows writes (taken_after far.ids x) (k + 1) (drop (k + 1) vs) u.2.0 in
           (u.2.0, subst Q same u.2.1, t.2 ∙ ap (λ (xs : List RuleOutcome). os ++ xs) (u.2.2 ∙ ap (λ (x : RuleOutcome). x ∷ u.2.0) same) ∙ sym (append_assoc os (o ∷ []) u.2.0));
     }
 
@@ -130,10 +131,10 @@ module _ (writes : Writes) (vs : List YValue) (taken : Ids) (os : List RuleOutco
     last : SoFar writes vs taken os k []
     last = subst (λ (xs : List YValue). SoFar writes vs taken os k xs) (drop_all k vs le) far
 
-    pub found : AreOutcomes writes [] 0 vs os
-    found = subst (AreOutcomes writes [] 0 vs) (append-nil os) (last.makes [] refl)
+    pub found : AreOutcomes writes vs os
+    found = outcomes_are writes vs os (subst (Follows writes [] 0 vs) (append-nil os) (last.makes [] refl))
 
-    pub only_found : (all : List RuleOutcome) → AreOutcomes writes [] 0 vs all → os ≡ all
+    pub only_found : (all : List RuleOutcome) → AreOutcomes writes vs all → os ≡ all
     only_found all a =
-        let t = last.only all a in
+        let t = last.only all (outcomes_follow writes vs all a) in
         sym (t.2 ∙ ap (λ (xs : List RuleOutcome). os ++ xs) t.1 ∙ append-nil os)

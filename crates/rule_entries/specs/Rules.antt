@@ -1,5 +1,6 @@
 -- Rules, and what becomes of each entry.
-use Rattle.std.specs.Prelude.{◌≡◌, ℕ, ◌+◌, List, [], ◌∷◌, ◌++◌, codes, if◌then◌else◌, Option, Some, None, Result, Ok, Err, ⊤}
+use Rattle.std.specs.Prelude.{◌≡◌, ℕ, ◌+◌, List, [], ◌∷◌, ◌++◌, codes, if◌then◌else◌, Option, Some, None, Result, Ok, Err, ⊤, length, take, slice_get}
+use Rattle.std.specs.List.{flat_map}
 use Rattle.std.specs.Option.{option_and_then}
 use Rattle.std.specs.Fmt.{decimal}
 use Rattle.std.specs.Borrow.{Bor}
@@ -104,16 +105,19 @@ IsOutcomeIn writes taken k None o = o ≡ Bad (fault k [] (here WrongShape))
 abbrev pub IsOutcome : Writes → List (List ℕ) → ℕ → YValue → RuleOutcome → Type 0
 IsOutcome writes taken k v o = IsOutcomeIn writes taken k (entries_of v) o
 
--- the ids that are taken after an entry: a rule takes its id
-abbrev pub taken_after : List (List ℕ) → RuleOutcome → List (List ℕ)
-taken_after taken (Good rule) = rule.id ∷ taken
-taken_after taken (Bad f) = taken
+-- the id of a rule; an entry that is bad has none
+abbrev pub rule_id : RuleOutcome → List (List ℕ)
+rule_id (Good rule) = rule.id ∷ []
+rule_id (Bad f) = []
 
--- what becomes of the entries from a place on
-abbrev pub AreOutcomes : Writes → List (List ℕ) → ℕ → List YValue → List RuleOutcome → Type 0
-AreOutcomes writes taken k [] os = os ≡ []
-AreOutcomes writes taken k (v ∷ vs) os =
-    (o : RuleOutcome) × IsOutcome writes taken k v o × ((rest : List RuleOutcome) × AreOutcomes writes (taken_after taken o) (k + 1) vs rest × (os ≡ o ∷ rest))
+-- the ids of those that are rules
+abbrev pub rule_ids : List RuleOutcome → List (List ℕ)
+rule_ids = flat_map rule_id
+
+-- what becomes of the entries, one outcome for each: the ids of the rules before an entry are taken
+pub record AreOutcomes (writes : Writes) (vs : List YValue) (os : List RuleOutcome) : Type 0 where
+  pub size : length os ≡ length vs
+  pub each : (k : ℕ) (v : YValue) (o : RuleOutcome) → slice_get vs k ≡ Some v → slice_get os k ≡ Some o → IsOutcome writes (rule_ids (take k os)) k v o
 
 -- the entries: the items of the list that the key `rules` of a map holds
 abbrev pub entries_in : YValue → Option (List YValue)
@@ -123,7 +127,14 @@ entries_in v = option_and_then (λ es. option_and_then list_of (look (codes "rul
 pub record IsRulesOf (writes : Writes) (value : YValue) (os : List RuleOutcome) : Type 0 where
   pub entries : List YValue
   pub are_entries : entries_in value ≡ Some entries
-  pub outcomes : AreOutcomes writes [] 0 entries os
+  pub outcomes : AreOutcomes writes entries os
+
+-- ---- for private clauses
+
+-- the ids that are taken after an entry: a rule takes its id
+abbrev pub taken_after : List (List ℕ) → RuleOutcome → List (List ℕ)
+taken_after taken (Good rule) = rule.id ∷ taken
+taken_after taken (Bad f) = taken
 
 -- the set has just these ids
 abbrev pub Tells : BTreeSet (Bor (List ℕ)) → List (List ℕ) → Type 0

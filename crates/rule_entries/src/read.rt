@@ -193,8 +193,8 @@ fn outcomes<R: PatternReader>(
     reader: &R,
     items: &[YValue],
 ) -> Result<List<RuleOutcome>, Memory>
-    ensures found { IfOk result (spec.AreOutcomes (R.writes reader.now) [] 0 items.now) }
-    ensures only { (os : list an_outcome) → spec.AreOutcomes (R.writes reader.now) [] 0 items.now os →
+    ensures found { IfOk result (spec.AreOutcomes (R.writes reader.now) items.now) }
+    ensures only { (os : list an_outcome) → spec.AreOutcomes (R.writes reader.now) items.now os →
         IfOk result (λ found. found ≡ os) }
 {
     let mut taken: BTreeSet<&str> = BTreeSet::new(alloc);
