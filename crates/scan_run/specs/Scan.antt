@@ -11,7 +11,7 @@ use Rattle.rule_files.specs.declared.rule_file.RuleFile.{RuleFile}
 use Rattle.scan_session.specs.Sets.{HasMore}
 use Rattle.scan_session.specs.Reports.{reported_cmp}
 use Rattle.scan_session.specs.Running.{running}
-use Rattle.scan_session.specs.Quieted.{Grammars}
+use Rattle.scan_session.specs.Quieted.{Grammars, grammars_of}
 use Rattle.scan_session.specs.Fresh.{IsResult, IsFresh}
 use Rattle.wire_words.specs.Commands.{Task}
 use Rattle.scan_run.specs.declared.status.Status.{Status}
@@ -21,7 +21,7 @@ use Rattle.scan_run.specs.Config.{IsConfig, IsRules, ConfigEnds}
 
 -- the trees and the comments of texts in JSON, Python and C
 abbrev pub grammars : Grammars
-grammars = record { spells = IsTree; comments = AreComments }
+grammars = grammars_of IsTree AreComments
 
 -- the line of a report: its JSON text without blanks, and a line feed
 abbrev pub report_line : Report → List ℕ

@@ -19,6 +19,7 @@ use Rattle.report_form.specs.declared.report.Reported.{Reported}
 use Rattle.scan_session.specs.Sets.{IsExactly}
 use Rattle.scan_session.specs.Reports.{reported_cmp}
 use Rattle.scan_session.specs.HitOrder.{reported_total}
+use Rattle.scan_session.specs.Looking.{LeafOf}
 use Rattle.scan_session.specs.Quieted.{Comments, HasComments, IsQuietedIn, is_quieted_by, AreQuiets, AreUnquieted, unmarked}
 use Rattle.scan_session.specs.Fresh.{IsFoundIn, IsShownIn}
 use Rattle.scan_session.proofs.Orders.{tail_ascends, first_below}
@@ -157,9 +158,9 @@ module _ (comments : Comments) (lang : Lang) (text : List ℕ) where
       subst P (sym e) (record { exact = λ r. (λ k. absurd k, λ k. absurd k.0); ordered = λ up. up })
 
   -- what is found and not quieted is what is shown
-  pub shown_exactly : (rules : List Rule) (path : List ℕ) (tree : KnownTree) (found shown : List Reported) → IsExactly reported_cmp (IsFoundIn rules path lang text tree) found → AreUnquieted comments lang text found shown
-      → IsExactly reported_cmp (IsShownIn comments rules path lang text tree) shown
-  shown_exactly rules path tree found shown h u = record {
+  pub shown_exactly : (leaf_of : LeafOf) (rules : List Rule) (path : List ℕ) (tree : KnownTree) (found shown : List Reported) → IsExactly reported_cmp (IsFoundIn leaf_of rules path lang text tree) found
+      → AreUnquieted comments lang text found shown → IsExactly reported_cmp (IsShownIn leaf_of comments rules path lang text tree) shown
+  shown_exactly leaf_of rules path tree found shown h u = record {
     exact = λ r. (
       λ k. let a = (u.exact r).0 k in record { is_found = (h.exact r).0 a.0; not_quieted = a.1 },
       λ k. (u.exact r).1 ((h.exact r).1 k.is_found, k.not_quieted),

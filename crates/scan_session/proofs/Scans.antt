@@ -44,15 +44,15 @@ only_as spells path bytes lang o p e f h = let P : Lang → Type 0 = λ l. HasOn
 
 module _ (grammars : Grammars) (rules : List Rule) (path bytes : List ℕ) (o : Opened) (is : IsOpened grammars.spells (lang_at path) bytes o) (only : HasOnlyTree grammars.spells (lang_at path) bytes o) where
   abbrev Results : Reported → Type 0
-  Results r = InView o (λ lang tree. IsShownIn grammars.comments rules path lang bytes tree r)
+  Results r = InView o (λ lang tree. IsShownIn grammars.leaf_of grammars.comments rules path lang bytes tree r)
 
   abbrev Notices : Notice → Type 0
-  Notices n = InView o (λ lang tree. IsNotedIn rules path lang bytes tree n)
+  Notices n = InView o (λ lang tree. IsNotedIn grammars.leaf_of rules path lang bytes tree n)
 
   result_in : (r : Reported) → IsResultIn grammars rules (path, bytes) r ↔ Results r
   result_in r = (λ h. (h.2.0, h.2.1, shows_one grammars.spells (lang_at path) bytes o h.0 is only h.1 h.2.0 h.2.1 h.2.2, h.2.3), λ v. (o, is, v))
 
-  notice_in : (n : Notice) → IsNoticeIn grammars.spells rules (path, bytes) n ↔ (Among (opened_notices path o) n ⊎ Notices n)
+  notice_in : (n : Notice) → IsNoticeIn grammars rules (path, bytes) n ↔ (Among (opened_notices path o) n ⊎ Notices n)
   notice_in n = (
     λ h. elim h.2 [
       | inl a ↦ (let P : List Notice → Type 0 = λ ns. Among ns n in inl (subst P (notes_one grammars.spells (lang_at path) bytes path o h.0 is h.1) a))
@@ -68,8 +68,8 @@ module _ (grammars : Grammars) (rules : List Rule) (path bytes : List ℕ) (o : 
     ordered = tt;
   })
 
-  pub own_notices : ((l : Lang) (t : KnownTree) → Shows o l t → ⊥) → (old new : List Notice) → new ≡ old ++ opened_notices path o → Adds old new (IsNoticeIn grammars.spells rules (path, bytes))
-  own_notices hidden old new e = appended old new (opened_notices path o) (IsNoticeIn grammars.spells rules (path, bytes)) e (λ n. (λ a. (notice_in n).1 (inl a), λ k. elim ((notice_in n).0 k) [ inl a ↦ a | inr v ↦ absurd (hidden v.0 v.1 v.2) ]))
+  pub own_notices : ((l : Lang) (t : KnownTree) → Shows o l t → ⊥) → (old new : List Notice) → new ≡ old ++ opened_notices path o → Adds old new (IsNoticeIn grammars rules (path, bytes))
+  own_notices hidden old new e = appended old new (opened_notices path o) (IsNoticeIn grammars rules (path, bytes)) e (λ n. (λ a. (notice_in n).1 (inl a), λ k. elim ((notice_in n).0 k) [ inl a ↦ a | inr v ↦ absurd (hidden v.0 v.1 v.2) ]))
 
   -- what is shown is this
   module _ (lang : Lang) (text : List ℕ) (tree : KnownTree) (shows : Shows o lang tree) (one : (l : Lang) (t : KnownTree) → Shows o l t → (lang ≡ l) × (tree ≡ t)) (text-is : text ≡ bytes) where
@@ -84,19 +84,19 @@ module _ (grammars : Grammars) (rules : List Rule) (path bytes : List ℕ) (o : 
       λ p. let H : List ℕ → Type 0 = λ x. P lang x tree in (lang, tree, shows, subst H text-is p),
     )
 
-    pub seen_results : (results : List Reported) → IsExactly reported_cmp (IsShownIn grammars.comments rules path lang text tree) results → IsExactly reported_cmp (IsResultIn grammars rules (path, bytes)) results
+    pub seen_results : (results : List Reported) → IsExactly reported_cmp (IsShownIn grammars.leaf_of grammars.comments rules path lang text tree) results → IsExactly reported_cmp (IsResultIn grammars rules (path, bytes)) results
     seen_results results h = record {
       exact = λ r.
-          let s = seen (λ l x t. IsShownIn grammars.comments rules path l x t r) in
+          let s = seen (λ l x t. IsShownIn grammars.leaf_of grammars.comments rules path l x t r) in
           (λ k. (result_in r).1 (s.1 ((h.exact r).0 k)), λ k. (h.exact r).1 (s.0 ((result_in r).0 k)));
       ordered = h.ordered;
     }
 
-    pub seen_notices : (old mid new : List Notice) → mid ≡ old ++ opened_notices path o → Adds mid new (IsNotedIn rules path lang text tree) → Adds old new (IsNoticeIn grammars.spells rules (path, bytes))
+    pub seen_notices : (old mid new : List Notice) → mid ≡ old ++ opened_notices path o → Adds mid new (IsNotedIn grammars.leaf_of rules path lang text tree) → Adds old new (IsNoticeIn grammars rules (path, bytes))
     seen_notices old mid new e adds =
-        adds_both old mid new (Among (opened_notices path o)) (IsNotedIn rules path lang text tree) (IsNoticeIn grammars.spells rules (path, bytes)) (appended old mid (opened_notices path o) (Among (opened_notices path o)) e (λ n. (λ a. a, λ a. a))) adds
+        adds_both old mid new (Among (opened_notices path o)) (IsNotedIn grammars.leaf_of rules path lang text tree) (IsNoticeIn grammars rules (path, bytes)) (appended old mid (opened_notices path o) (Among (opened_notices path o)) e (λ n. (λ a. a, λ a. a))) adds
         (λ n.
-        let s = seen (λ l x t. IsNotedIn rules path l x t n) in
+        let s = seen (λ l x t. IsNotedIn grammars.leaf_of rules path l x t n) in
         (λ h. (notice_in n).1 (elim h [ inl a ↦ inl a | inr k ↦ inr (s.1 k) ]), λ h. elim ((notice_in n).0 h) [ inl a ↦ inl a | inr v ↦ inr (s.0 v) ]))
 
 -- ---- all files
@@ -141,7 +141,7 @@ still_more grammars rules most files more results h = record {
 
 module _ (grammars : Grammars) (rules : List Rule) (before : List Notice) (most : ℕ) (files : List File) (f : File) (up : IsAscending file_cmp (files ++ f ∷ []))
     (old new : List Notice) (results found results' : List Reported)
-    (far : AreAll grammars rules before most files results old) (finds : IsExactly reported_cmp (IsResultIn grammars rules f) found) (adds : Adds old new (IsNoticeIn grammars.spells rules f)) (results-are : results' ≡ results ++ found) where
+    (far : AreAll grammars rules before most files results old) (finds : IsExactly reported_cmp (IsResultIn grammars rules f) found) (adds : Adds old new (IsNoticeIn grammars rules f)) (results-are : results' ≡ results ++ found) where
   earlier : (x y : Reported) → Among results x → Among found y → reported_cmp x y ≡ Less
   earlier x y h k =
       let a = (far.findings.exact x).0 h in
@@ -168,7 +168,7 @@ module _ (grammars : Grammars) (rules : List Rule) (before : List Notice) (most 
     | inr few ↦ inl (record {
       few = few;
       findings = more_results;
-      noted = adds_both before old new (IsFileNotice grammars.spells rules files) (IsNoticeIn grammars.spells rules f) (IsFileNotice grammars.spells rules (files ++ f ∷ [])) far.noted adds (λ n. one_file (λ g x. IsNoticeIn grammars.spells rules g x) files f n);
+      noted = adds_both before old new (IsFileNotice grammars rules files) (IsNoticeIn grammars rules f) (IsFileNotice grammars rules (files ++ f ∷ [])) far.noted adds (λ n. one_file (λ g x. IsNoticeIn grammars rules g x) files f n);
     })
   ]
 
@@ -193,11 +193,11 @@ module _ {R : Type 0} (grammars : Grammars) (refused : List (List ℕ)) (rule_fi
   apart rules e = let P : List Rule → Type 0 = AreApart in subst P (sym (e ∙ h.rules)) (are_apart refused (stated rule_files))
 
   pub found_more : (f : File) (rules : List Rule) (new : List Notice) (found results' : List Reported) → IsAscending file_cmp (files ++ f ∷ []) → rules ≡ s.running.items → (s.most < length s.results → ⊥)
-      → IsExactly reported_cmp (IsResultIn grammars rules f) found → Adds s.notices.items new (IsNoticeIn grammars.spells rules f) → results' ≡ s.results ++ found
+      → IsExactly reported_cmp (IsResultIn grammars rules f) found → Adds s.notices.items new (IsNoticeIn grammars rules f) → results' ≡ s.results ++ found
       → AreAll grammars (running refused rule_files) (rule_notices refused rule_files) most (files ++ f ∷ []) results' new ⊎ AreTooMany grammars (running refused rule_files) most (files ++ f ∷ []) results'
   found_more f rules new found results' up e few finds adds put =
       let P : List Rule → Type 0 = λ rs. IsExactly reported_cmp (IsResultIn grammars rs f) found in
-      let Q : List Rule → Type 0 = λ rs. Adds s.notices.items new (IsNoticeIn grammars.spells rs f) in
+      let Q : List Rule → Type 0 = λ rs. Adds s.notices.items new (IsNoticeIn grammars rs f) in
       one_more grammars (running refused rule_files) (rule_notices refused rule_files) most files f up s.notices.items new s.results found results' (whole few) (subst P (e ∙ h.rules) finds) (subst Q (e ∙ h.rules) adds) put
 
 -- ---- scans of some files after others

@@ -13,7 +13,6 @@ use Rattle.tree_match.specs.Members.{KnownTree, known_tree}
 use Rattle.file_open.specs.declared.opened.Opened.{Opened}
 use Rattle.file_open.specs.declared.opened.Opened.TheVariants as opened
 use Rattle.part_judge.specs.declared.outcome.Outcome.{Outcome}
-use Rattle.file_open.specs.Reading.{Spells}
 use Rattle.file_open.specs.Opening.{IsOpened}
 use Rattle.part_judge.specs.Findings.{findings_of}
 use Rattle.report_form.specs.declared.notice.Notice.{Notice}
@@ -24,7 +23,7 @@ use Rattle.rule_files.specs.declared.rule_file.RuleFile.{RuleFile}
 use Rattle.scan_session.specs.Sets.{IsExactly}
 use Rattle.scan_session.specs.Notes.{notice, notice_cmp}
 use Rattle.scan_session.specs.Running.{running, rule_notices}
-use Rattle.scan_session.specs.Looking.{RuleFinds}
+use Rattle.scan_session.specs.Looking.{LeafOf, RuleFinds}
 use Rattle.scan_session.specs.Quieted.{Comments, Grammars, IsQuietedIn}
 use Rattle.scan_session.specs.Reports.{reported, reported_cmp, outcome_notices}
 
@@ -54,26 +53,26 @@ opened_notices path (opened.NoTree view) = notice path [] kinds.NoTree [] ∷ []
 opened_notices path (opened.Read view) = []
 
 -- a finding of one of the rules, in the file at a path, which is a text of that language with that tree
-pub record IsFoundIn (rules : List Rule) (path : List ℕ) (lang : Lang) (text : List ℕ) (tree : KnownTree) (r : Reported) : Type 0 where
+pub record IsFoundIn (leaf_of : LeafOf) (rules : List Rule) (path : List ℕ) (lang : Lang) (text : List ℕ) (tree : KnownTree) (r : Reported) : Type 0 where
   pub rule : Rule
   pub runs : Among rules rule
   pub outcome : Outcome
-  pub finds : RuleFinds path lang text tree rule outcome
+  pub finds : RuleFinds leaf_of path lang text tree rule outcome
   pub finding : Finding
   pub found : Among (findings_of outcome) finding
   pub is : r ≡ reported path text rule finding
 
 -- such a finding that no comment of the file quiets
-pub record IsShownIn (comments : Comments) (rules : List Rule) (path : List ℕ) (lang : Lang) (text : List ℕ) (tree : KnownTree) (r : Reported) : Type 0 where
-  pub is_found : IsFoundIn rules path lang text tree r
+pub record IsShownIn (leaf_of : LeafOf) (comments : Comments) (rules : List Rule) (path : List ℕ) (lang : Lang) (text : List ℕ) (tree : KnownTree) (r : Reported) : Type 0 where
+  pub is_found : IsFoundIn leaf_of rules path lang text tree r
   pub not_quieted : IsQuietedIn comments lang text r → ⊥
 
 -- a notice of what one of the rules finds there
-pub record IsNotedIn (rules : List Rule) (path : List ℕ) (lang : Lang) (text : List ℕ) (tree : KnownTree) (n : Notice) : Type 0 where
+pub record IsNotedIn (leaf_of : LeafOf) (rules : List Rule) (path : List ℕ) (lang : Lang) (text : List ℕ) (tree : KnownTree) (n : Notice) : Type 0 where
   pub rule : Rule
   pub runs : Among rules rule
   pub outcome : Outcome
-  pub finds : RuleFinds path lang text tree rule outcome
+  pub finds : RuleFinds leaf_of path lang text tree rule outcome
   pub told : Among (outcome_notices path rule.id outcome) n
 
 -- what holds of the language and the tree of a file that is opened so and can be looked at
@@ -83,23 +82,23 @@ InView o P = (lang : Lang) × (tree : KnownTree) × Shows o lang tree × P lang 
 -- a finding of one of the rules in a file that no comment there quiets
 abbrev pub IsResultIn : Grammars → List Rule → File → Reported → Type 0
 IsResultIn grammars rules file r =
-    (o : Opened) × IsOpened grammars.spells (lang_at file.0) file.1 o × InView o (λ lang tree. IsShownIn grammars.comments rules file.0 lang file.1 tree r)
+    (o : Opened) × IsOpened grammars.spells (lang_at file.0) file.1 o × InView o (λ lang tree. IsShownIn grammars.leaf_of grammars.comments rules file.0 lang file.1 tree r)
 
 -- a notice of a file: how it is opened, or what one of the rules finds there
-abbrev pub IsNoticeIn : Spells → List Rule → File → Notice → Type 0
-IsNoticeIn spells rules file n =
-    (o : Opened) × IsOpened spells (lang_at file.0) file.1 o × (Among (opened_notices file.0 o) n ⊎ InView o (λ lang tree. IsNotedIn rules file.0 lang file.1 tree n))
+abbrev pub IsNoticeIn : Grammars → List Rule → File → Notice → Type 0
+IsNoticeIn grammars rules file n =
+    (o : Opened) × IsOpened grammars.spells (lang_at file.0) file.1 o × (Among (opened_notices file.0 o) n ⊎ InView o (λ lang tree. IsNotedIn grammars.leaf_of rules file.0 lang file.1 tree n))
 
 -- one in one of the files
 abbrev pub IsResult : Grammars → List Rule → List File → Reported → Type 0
 IsResult grammars rules files r = (file : File) × Among files file × IsResultIn grammars rules file r
 
 -- a notice of one of the files
-abbrev pub IsFileNotice : Spells → List Rule → List File → Notice → Type 0
-IsFileNotice spells rules files n = (file : File) × Among files file × IsNoticeIn spells rules file n
+abbrev pub IsFileNotice : Grammars → List Rule → List File → Notice → Type 0
+IsFileNotice grammars rules files n = (file : File) × Among files file × IsNoticeIn grammars rules file n
 
 -- The findings of the rules that run where these texts are refused, without those that comments quiet, and the notices of rule
 -- files and files, each in order and each once.
 pub record IsFresh (grammars : Grammars) (refused : List (List ℕ)) (files : List File) (rule_files : List RuleFile) (report : Report) : Type 0 where
   pub results : IsExactly reported_cmp (IsResult grammars (running refused rule_files) files) report.results
-  pub notices : IsExactly notice_cmp (λ n. Among (rule_notices refused rule_files) n ⊎ IsFileNotice grammars.spells (running refused rule_files) files n) report.notices
+  pub notices : IsExactly notice_cmp (λ n. Among (rule_notices refused rule_files) n ⊎ IsFileNotice grammars (running refused rule_files) files n) report.notices

@@ -11,18 +11,18 @@ use Rattle.part_judge.specs.Findings.{findings_of, IsFindingPlaced}
 use Rattle.report_form.specs.declared.notice.Notice.{Notice}
 use Rattle.report_form.specs.declared.report.Reported.{Reported}
 use Rattle.scan_session.specs.declared.looking.Judged.{Judged}
-use Rattle.scan_session.specs.Looking.{Allows, LooksAt, PartFindsIn, RuleFinds}
+use Rattle.scan_session.specs.Looking.{Allows, LooksAt, PartFindsIn, RuleFinds, in_tree, own_leaf}
 use Rattle.scan_session.specs.Reports.{reported, outcome_notices}
 use Rattle.scan_session.specs.Hits.{Hit}
 
 -- the part finds this and nothing else
 pub record PartJudges (texts : List (List ℕ)) (text : List ℕ) (tree : KnownTree) (part : Part) (outcome : Outcome) : Type 0 where
-  pub finds : PartFindsIn texts text tree part outcome
-  pub only : (o : Outcome) → PartFindsIn texts text tree part o → o ≡ outcome
+  pub finds : PartFindsIn in_tree texts text tree part outcome
+  pub only : (o : Outcome) → PartFindsIn in_tree texts text tree part o → o ≡ outcome
 
 -- what a part of the rule with that number and these regular expressions finds, if it looks at the file
 abbrev pub PartAdds : List (List ℕ) → Lang → List ℕ → KnownTree → ℕ → Part → Judged → Type 0
-PartAdds texts lang text tree number part x = LooksAt part lang × (x.number ≡ number) × PartFindsIn texts text tree part x.found
+PartAdds texts lang text tree number part x = LooksAt part lang × (x.number ≡ number) × PartFindsIn in_tree texts text tree part x.found
 
 -- what one of the parts of that rule finds, which looks at the file
 pub record RuleJudges (texts : List (List ℕ)) (lang : Lang) (text : List ℕ) (tree : KnownTree) (number : ℕ) (parts : List Part) (x : Judged) : Type 0 where
@@ -30,7 +30,7 @@ pub record RuleJudges (texts : List (List ℕ)) (lang : Lang) (text : List ℕ) 
   pub part : Part
   pub has : Among parts part
   pub looks : LooksAt part lang
-  pub finds : PartFindsIn texts text tree part x.found
+  pub finds : PartFindsIn in_tree texts text tree part x.found
 
 -- what the rule with that number finds, if its globs allow the path
 abbrev pub RuleAdds : List ℕ → Lang → List ℕ → KnownTree → ℕ → Rule → Judged → Type 0
@@ -40,7 +40,7 @@ RuleAdds path lang text tree number rule x = Allows rule path × RuleJudges rule
 pub record IsJudged (path : List ℕ) (lang : Lang) (text : List ℕ) (tree : KnownTree) (rules : List Rule) (x : Judged) : Type 0 where
   pub rule : Rule
   pub at : slice_get rules x.number ≡ Some rule
-  pub finds : RuleFinds path lang text tree rule x.found
+  pub finds : RuleFinds own_leaf path lang text tree rule x.found
 
 -- all that was found stands at places of the text
 abbrev pub AreAllPlaced : List ℕ → List Judged → Type 0

@@ -27,23 +27,38 @@ pub record Allows (rule : Rule) (path : List ℕ) : Type 0 where
   pub included : (rule.include ≡ []) ⊎ SomeMatches rule.include path
   pub not_excluded : SomeMatches rule.exclude path → ⊥
 
+-- which members patterns have in the file with a tree
+abbrev pub LeafIn : Type 1
+LeafIn = KnownTree → Pattern → Leaf → Type 0
+
+-- the same in each language
+abbrev pub LeafOf : Type 1
+LeafOf = Lang → LeafIn
+
+-- the members that a pattern has in the tree itself
+abbrev pub in_tree : LeafIn
+in_tree tree p leaf = IsLeaf (IsMember p tree) leaf
+
+abbrev pub own_leaf : LeafOf
+own_leaf lang = in_tree
+
 -- for each pattern its members in the file with that tree
-abbrev pub AreLeaves : KnownTree → List Pattern → List Leaf → Type 0
-AreLeaves tree [] leaves = leaves ≡ []
-AreLeaves tree (p ∷ ps) leaves = (leaf : Leaf) × IsLeaf (IsMember p tree) leaf × ((rest : List Leaf) × AreLeaves tree ps rest × (leaves ≡ leaf ∷ rest))
+abbrev pub AreLeaves : LeafIn → KnownTree → List Pattern → List Leaf → Type 0
+AreLeaves leaf_in tree [] leaves = leaves ≡ []
+AreLeaves leaf_in tree (p ∷ ps) leaves = (leaf : Leaf) × leaf_in tree p leaf × ((rest : List Leaf) × AreLeaves leaf_in tree ps rest × (leaves ≡ leaf ∷ rest))
 
 -- a part in a language looks at files of that language; one of the language `Regex` looks at all
 abbrev pub LooksAt : Part → Lang → Type 0
 LooksAt part lang = (part.lang ≡ lang) ⊎ (part.lang ≡ Regex)
 
 -- what a part of a rule with these regular expressions finds in a text with that tree
-abbrev pub PartFindsIn : List (List ℕ) → List ℕ → KnownTree → Part → Outcome → Type 0
-PartFindsIn texts text tree part outcome = (leaves : List Leaf) × AreLeaves tree part.patterns leaves × PartFinds leaves texts text (Some part) outcome
+abbrev pub PartFindsIn : LeafIn → List (List ℕ) → List ℕ → KnownTree → Part → Outcome → Type 0
+PartFindsIn leaf_in texts text tree part outcome = (leaves : List Leaf) × AreLeaves leaf_in tree part.patterns leaves × PartFinds leaves texts text (Some part) outcome
 
 -- what some part of a rule finds in the file at a path, a text of that language with that tree
-pub record RuleFinds (path : List ℕ) (lang : Lang) (text : List ℕ) (tree : KnownTree) (rule : Rule) (outcome : Outcome) : Type 0 where
+pub record RuleFinds (leaf_of : LeafOf) (path : List ℕ) (lang : Lang) (text : List ℕ) (tree : KnownTree) (rule : Rule) (outcome : Outcome) : Type 0 where
   pub allows : Allows rule path
   pub part : Part
   pub has : Among rule.parts part
   pub looks : LooksAt part lang
-  pub finds : PartFindsIn rule.texts text tree part outcome
+  pub finds : PartFindsIn (leaf_of lang) rule.texts text tree part outcome

@@ -10,19 +10,22 @@ use Rattle.quieting.specs.declared.quiet.Quiet.{Quiet}
 use Rattle.quieting.specs.Quieting.{quiets_of}
 use Rattle.quieting.specs.Lines.{is_quieted}
 use Rattle.report_form.specs.declared.report.Reported.{Reported}
+use Rattle.scan_session.specs.Looking.{LeafOf, own_leaf}
 use Rattle.scan_session.specs.Reports.{reported_cmp}
 
 -- which texts of a language have which comments
 abbrev pub Comments : Type 1
 Comments = Lang → List ℕ → List Span → Type 0
 
--- which trees and which comments texts have
+-- which trees and which comments texts have, and which members patterns have in files with these trees
 pub record Grammars : Type 1 where
   pub spells : Spells
   pub comments : Comments
+  pub leaf_of : LeafOf
 
+-- those where patterns are looked for in the trees themselves
 abbrev pub grammars_of : Spells → Comments → Grammars
-grammars_of spells comments = record { spells = spells; comments = comments }
+grammars_of spells comments = record { spells = spells; comments = comments; leaf_of = own_leaf }
 
 -- a file in the language with this text has these comments; one in another language than Python and C has none
 abbrev pub HasComments : Comments → Lang → List ℕ → List Span → Type 0

@@ -17,7 +17,7 @@ use Rattle.scan_session.specs.Fresh.{File, file_cmp, IsResult, IsFileNotice}
 pub record AreAll (grammars : Grammars) (rules : List Rule) (before : List Notice) (most : ℕ) (files : List File) (results : List Reported) (notices : List Notice) : Type 0 where
   pub few : length results ≤ most
   pub findings : IsExactly reported_cmp (IsResult grammars rules files) results
-  pub noted : Adds before notices (IsFileNotice grammars.spells rules files)
+  pub noted : Adds before notices (IsFileNotice grammars rules files)
 
 -- too many findings, as the rules have more than that in the files
 pub record AreTooMany (grammars : Grammars) (rules : List Rule) (most : ℕ) (files : List File) (results : List Reported) : Type 0 where

@@ -6,7 +6,7 @@ ghost use Rattle.tree_match.specs.Members.{known_tree};
 ghost use Rattle.tree_match.specs.Placed.{IsLeafPlaced};
 ghost use Rattle.part_judge.specs.Findings.{findings_of, IsFindingPlaced};
 ghost use Rattle.rule_form.specs.declared.rule.Part.{Part as a_part};
-ghost use Rattle.scan_session.specs.Looking.{GlobMatches, SomeMatches, Allows, AreLeaves, LooksAt};
+ghost use Rattle.scan_session.specs.Looking.{GlobMatches, SomeMatches, Allows, AreLeaves, LooksAt, in_tree};
 ghost use Rattle.scan_session.specs.declared.looking.Judged.{Judged as a_judged};
 ghost use Rattle.scan_session.specs.Judging.{PartJudges, PartAdds, RuleJudges, RuleAdds, IsJudged, AreAllPlaced};
 
@@ -69,7 +69,7 @@ fn leaves_of<L: Ledger>(
     patterns: &[Pattern],
     steps: &mut Steps<L>,
 ) -> Result<List<Leaf>, Memory>
-    ensures leaves { IfOk result (AreLeaves (known_tree view.now) patterns.now) }
+    ensures leaves { IfOk result (AreLeaves in_tree (known_tree view.now) patterns.now) }
     ensures placed { IfOk result (λ leaves. All (λ leaf. IsLeafPlaced view.now.bytes leaf) leaves) }
 {
     let mut leaves = List::new(alloc);

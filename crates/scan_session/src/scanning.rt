@@ -6,6 +6,7 @@ ghost use Rattle.tree_match.specs.Members.{known_tree};
 ghost use Rattle.scan_session.specs.Sets.{IsExactly};
 ghost use Rattle.scan_session.specs.Judging.{AreApart};
 ghost use Rattle.scan_session.specs.Reports.{reported_cmp};
+ghost use Rattle.scan_session.specs.Looking.{own_leaf};
 ghost use Rattle.scan_session.specs.Quieted.{grammars_of};
 ghost use Rattle.scan_session.specs.Fresh.{IsResultIn, IsFoundIn, IsShownIn, IsNotedIn, IsNoticeIn};
 
@@ -35,8 +36,8 @@ fn scan_view<L: Ledger>(
     steps: &mut Steps<L>,
     notices: &mut Vec<Noted>,
 ) -> Result<List<Reported>, Memory>
-    ensures results { AreApart running.now → IfOk result (IsExactly reported_cmp (IsFoundIn running.now path.now view.now.lang view.now.bytes (known_tree view.now))) }
-    ensures notices { OnOk result (Adds notices.old.items notices.new.items (IsNotedIn running.now path.now view.now.lang view.now.bytes (known_tree view.now))) }
+    ensures results { AreApart running.now → IfOk result (IsExactly reported_cmp (IsFoundIn own_leaf running.now path.now view.now.lang view.now.bytes (known_tree view.now))) }
+    ensures notices { OnOk result (Adds notices.old.items notices.new.items (IsNotedIn own_leaf running.now path.now view.now.lang view.now.bytes (known_tree view.now))) }
 {
     let ready = ReadyFile::of(alloc, view)?;
     let judged = judge_all(alloc, path, &ready, running, steps)?;
@@ -57,8 +58,8 @@ fn show_view<R: CommentReader, L: Ledger>(
     steps: &mut Steps<L>,
     notices: &mut Vec<Noted>,
 ) -> Result<List<Reported>, Memory>
-    ensures results { AreApart running.now → IfOk result (IsExactly reported_cmp (IsShownIn (R.comments reader.now) running.now path.now view.now.lang view.now.bytes (known_tree view.now))) }
-    ensures notices { OnOk result (Adds notices.old.items notices.new.items (IsNotedIn running.now path.now view.now.lang view.now.bytes (known_tree view.now))) }
+    ensures results { AreApart running.now → IfOk result (IsExactly reported_cmp (IsShownIn own_leaf (R.comments reader.now) running.now path.now view.now.lang view.now.bytes (known_tree view.now))) }
+    ensures notices { OnOk result (Adds notices.old.items notices.new.items (IsNotedIn own_leaf running.now path.now view.now.lang view.now.bytes (known_tree view.now))) }
 {
     let found = scan_view(alloc, path, view, running, steps, notices)?;
     without_quieted(alloc, reader, view, found)
@@ -76,7 +77,7 @@ pub fn scan_file<R: TreeReader + CommentReader, L: Ledger>(
     notices: &mut Vec<Noted>,
 ) -> Result<List<Reported>, Memory>
     ensures results { AreApart running.now → IfOk result (IsExactly reported_cmp (IsResultIn (grammars_of (R.spells reader.now) (R.comments reader.now)) running.now (path.now, bytes))) }
-    ensures notices { OnOk result (Adds notices.old.items notices.new.items (IsNoticeIn (R.spells reader.now) running.now (path.now, bytes))) }
+    ensures notices { OnOk result (Adds notices.old.items notices.new.items (IsNoticeIn (grammars_of (R.spells reader.now) (R.comments reader.now)) running.now (path.now, bytes))) }
 {
     let lang = lang_of(path).unwrap_or(Lang::Regex);
     let opened = open_file(alloc, reader, lang, bytes, steps)?;

@@ -8,7 +8,7 @@ use Rattle.node_tree.specs.declared.view.Pattern.{Pattern}
 use Rattle.rule_form.specs.declared.rule.Part.{Part}
 use Rattle.rule_form.specs.declared.rule.Rule.{Rule}
 use Rattle.tree_match.specs.Members.{known_tree}
-use Rattle.scan_session.specs.Looking.{AreLeaves}
+use Rattle.scan_session.specs.Looking.{AreLeaves, in_tree}
 use Rattle.scan_session.proofs.Members.{read_there}
 use Rattle.scan_session.proofs.Judged.{part_judges, part_finds, part_only}
 use Rattle.scan_session.proofs.looking.judge_part.Goals as goal
@@ -21,7 +21,7 @@ returns-clause-finds g c p at =
     let rule = c.rule-rule.ensures in
     let same = read_there c.as_slice.result.now parts c.args.part c.index-as_slice-part.result p (c.as_slice.ensures ∙ ap (λ (r : Rule). r.parts) rule) c.index-as_slice-part.is at in
     let number : c.in-Ok.number ≡ c.args.part = grind arith in
-    let P : List Pattern → Type 0 = λ ps. AreLeaves (known_tree v) ps c.in_ok-leaves.leaves in
+    let P : List Pattern → Type 0 = λ ps. AreLeaves in_tree (known_tree v) ps c.in_ok-leaves.leaves in
     let are = subst P (c.as_slice-2.ensures ∙ ap (λ (q : Part). q.patterns) (sym c.index-as_slice-part.is ∙ same)) c.in_ok-leaves.ensures.leaves in
     let text = c.view.result.now.bytes in
     let J : List ℕ → Type 0 = λ b. IfOk c.judge.result (PartJudges texts b (known_tree v) p) in

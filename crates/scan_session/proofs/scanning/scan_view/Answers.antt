@@ -10,6 +10,7 @@ use Rattle.scan_session.specs.Hits.{Hit, hit_cmp}
 use Rattle.scan_session.specs.Reports.{reported_cmp}
 use Rattle.scan_session.specs.Sets.{IsExactly}
 use Rattle.scan_session.specs.Judging.{IsJudged, AreAllPlaced, AreReported, judged_notices}
+use Rattle.scan_session.specs.Looking.{own_leaf}
 use Rattle.scan_session.specs.Fresh.{IsFoundIn, IsNotedIn}
 use Rattle.scan_session.proofs.Members.{appended, on_ok}
 use Rattle.scan_session.proofs.Hits.{found_all, shown_all, numbered, hits_numbered, hits_placed, results_exactly, noted_exactly, if_reported}
@@ -60,7 +61,7 @@ returns-clause-results g c apart =
     let whole = shown_all rules found c.in_ok-unsorted.unsorted.items c.in_ok-rows.rows.items shown c.as_slice.ensures.value c.in_ok-rows.ensures.same c.in_ok-unsorted.ensures in
     let P : List Hit → Type 0 = IsAscending hit_cmp in
     let up = subst P (sym c.as_slice.ensures.value) c.in_ok-rows.ensures.ordered in
-    if_reported (AreReported path v.bytes rules shown) (IsExactly reported_cmp (IsFoundIn rules path v.lang v.bytes (known_tree v))) c.report_rows.result (λ rs are. results_exactly path v.lang v.bytes (known_tree v) rules found all shown whole apart rs are up) c.report_rows.ensures
+    if_reported (AreReported path v.bytes rules shown) (IsExactly reported_cmp (IsFoundIn own_leaf rules path v.lang v.bytes (known_tree v))) c.report_rows.result (λ rs are. results_exactly path v.lang v.bytes (known_tree v) rules found all shown whole apart rs are up) c.report_rows.ensures
 
 pub returns-clause-notices : goal.returns-clause-notices
 returns-clause-notices g c =
@@ -71,4 +72,4 @@ returns-clause-notices g c =
     let all = found_all path v.lang v.bytes (known_tree v) rules c.in_ok-judged.judged.items found c.as_slice-found.ensures.value (subst (Found path rules c.in_ok-judged.judged.items) c.in_ok-ready.ensures c.in_ok-judged.ensures.judged) in
     let old = c.args.notices.now.items in
     let new = c.note_judged.new.notices.items in
-    on_ok (Adds old new (IsNotedIn rules path v.lang v.bytes (known_tree v))) c.report_rows.result (appended old new (flat_map (judged_notices path rules) found) (IsNotedIn rules path v.lang v.bytes (known_tree v)) c.in_ok-note_judged.ensures (noted_exactly path v.lang v.bytes (known_tree v) rules found all))
+    on_ok (Adds old new (IsNotedIn own_leaf rules path v.lang v.bytes (known_tree v))) c.report_rows.result (appended old new (flat_map (judged_notices path rules) found) (IsNotedIn own_leaf rules path v.lang v.bytes (known_tree v)) c.in_ok-note_judged.ensures (noted_exactly path v.lang v.bytes (known_tree v) rules found all))
