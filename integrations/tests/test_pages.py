@@ -23,7 +23,9 @@ ROWS = [  # the language, the severity, what else a rule says, and the kind and 
      ('BadComparison', 'rules.0.patterns.1.metavariable-comparison.comparison')),
 ]
 MATCHES = [  # the pattern, the code, and the lines that are found
-    ('f(a=1, b=2)', 'f(a=1, b=2)\nf(b=2, a=1)\n', [1]),
+    ('f(a=1, b=2)', 'f(a=1, b=2)\nf(b=2, a=1)\nf(a=1)\n', [1, 2]),
+    ('f($...A, a=1, b=2)', 'f(a=1, b=2)\nf(b=2, a=1)\n', [1]),
+    ('{a: 1, b: 2}', 'x = {a: 1, b: 2}\nx = {b: 2, a: 1}\n', [1]),
     ('f(a)', 'f(a)\nf(a, b)\n', [1]),
     ('$X == None', 'x == None\nNone == x\n', [1]),
     ('os.system(...)', 'from os import system\nsystem(x)\nos.system(x)\n', [3]),

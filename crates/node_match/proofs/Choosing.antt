@@ -1,5 +1,5 @@
 -- Steps of a choice.
-use Rattle.std.proofs.Common.{◌≡◌, ◌⊎◌, inl, inr, ◌↔◌, ℕ, zero, suc, ◌+◌, ◌≤◌, ◌<◌, List, [], ◌∷◌, ◌++◌, length, drop, get_or, set, refl, sym, ap, ◌∙◌, subst, arith, add-one, cond, Bool, true, false}
+use Rattle.std.proofs.Common.{◌≡◌, ◌⊎◌, inl, inr, ◌↔◌, ℕ, zero, suc, ◌+◌, ◌≤◌, ◌<◌, List, [], ◌∷◌, ◌++◌, length, drop, get_or, set, refl, sym, ap, ◌∙◌, subst, arith, add-one, cond, Bool, true, false, not}
 use Rattle.std.specs.Prelude.{remove, ◌||◌}
 use Rattle.std.specs.List.{AllClonesOf}
 use Rattle.std.proofs.lemmas.List.{drop_all, get_or_default, get_or-map, length-map}
@@ -14,7 +14,7 @@ use Rattle.node_pool.specs.Spots.{seen, all_seen}
 use Rattle.meta_bind.specs.declared.bound.Bound.{Bound}
 use Rattle.node_match.specs.Sets.{Among, Adds, AddsUpTo}
 use Rattle.node_match.specs.declared.order.Order.TheVariants.{Fixed, Any}
-use Rattle.node_match.specs.Orders.{order_of, is_dots, some_is, has_dots, asked_of}
+use Rattle.node_match.specs.Orders.{order_of, is_dots, is_named, some_is, has_dots, asked_of, named_of, choosers, chooses}
 use Rattle.node_match.specs.Relation.{Matches, MatchesKids, MatchesChoice, in_order, choosing, no_choice, choice}
 use Rattle.node_match.specs.Choices.{untaken, all_taken, Chosen, TakesAt, TakesFrom, Picked}
 use Rattle.node_match.proofs.Sets.{among_more, among_at}
@@ -50,6 +50,27 @@ or_first false b e = refl
 or_second : (a b : Bool) → (a || b) ≡ false → b ≡ false
 or_second true b e = absurd cc
 or_second false b e = e
+
+-- a pattern that chooses, and one that doesn't
+pub chooser_one : (named : Bool) (p : Node) (ps : List Node) → chooses named p ≡ true → choosers named (p ∷ ps) ≡ p ∷ choosers named ps
+chooser_one true p ps so = ap (λ (t : Bool). cond t (p ∷ named_of ps) (named_of ps)) so
+chooser_one false p ps so = asked_one p ps (at (is_dots p) so)
+  where
+    at : (t : Bool) → not t ≡ true → t ≡ false
+    at true e = absurd cc
+    at false e = refl
+
+pub chooser_none : (named : Bool) (p : Node) (ps : List Node) → chooses named p ≡ false → choosers named (p ∷ ps) ≡ choosers named ps
+chooser_none true p ps so = ap (λ (t : Bool). cond t (p ∷ named_of ps) (named_of ps)) so
+chooser_none false p ps so = asked_dots p ps (at (is_dots p) so)
+  where
+    at : (t : Bool) → not t ≡ false → t ≡ true
+    at true e = refl
+    at false e = absurd cc
+
+no_choosers : (named : Bool) → choosers named [] ≡ []
+no_choosers true = refl
+no_choosers false = refl
 
 -- without dots all choose
 pub asked_all : (ps : List Node) → has_dots ps ≡ false → asked_of ps ≡ ps
@@ -142,20 +163,20 @@ among_removed (m ∷ ns) (suc k) n (inr a) = inr (among_removed ns k n a)
 module _ (C : List Known) where
   -- ---- how kids match
 
-  pub chosen_kids : (p : Node) (n : Numbered) (b c : List Bound) → order_of p ≡ Any → Chosen C (has_dots (kids_of p)) (kids_of p) (kids_at n) b c ↔ MatchesKids C p n b c
+  pub chosen_kids : (p : Node) (n : Numbered) (b c : List Bound) → order_of p ≡ Any → Chosen C false (has_dots (kids_of p)) (kids_of p) (kids_at n) b c ↔ MatchesKids C p n b c
   chosen_kids p n b c any = (λ (rest, ends, x). choosing any ends x, λ x. to c x)
     where
-      to : (c : List Bound) → MatchesKids C p n b c → Chosen C (has_dots (kids_of p)) (kids_of p) (kids_at n) b c
+      to : (c : List Bound) → MatchesKids C p n b c → Chosen C false (has_dots (kids_of p)) (kids_of p) (kids_at n) b c
       to c (in_order fixed x) = absurd (let e : Any ≡ Fixed = sym any ∙ fixed in cc)
       to c (choosing {rest = rest} _ ends x) = (rest, ends, x)
 
   -- ---- what chooses and what is chosen, written otherwise
 
-  pub chosen_as : (f g : Bool) (ps qs : List Node) (ns ms : List Numbered) (b c : List Bound) → f ≡ g → asked_of ps ≡ asked_of qs → ns ≡ ms → Chosen C f ps ns b c ↔ Chosen C g qs ms b c
-  chosen_as f g ps qs ns ms b c loose asked left =
-      let P : List Node → Type 0 = λ xs. (rest : List Numbered) → MatchesChoice C (asked_of ps) ns rest b c ↔ MatchesChoice C xs ms rest b c in
-      let Q : List Numbered → Type 0 = λ xs. (rest : List Numbered) → MatchesChoice C (asked_of ps) ns rest b c ↔ MatchesChoice C (asked_of ps) xs rest b c in
-      let same : (rest : List Numbered) → MatchesChoice C (asked_of ps) ns rest b c ↔ MatchesChoice C (asked_of qs) ms rest b c = subst P asked (subst Q left (λ rest. (λ x. x, λ x. x))) in
+  pub chosen_as : (named f g : Bool) (ps qs : List Node) (ns ms : List Numbered) (b c : List Bound) → f ≡ g → choosers named ps ≡ choosers named qs → ns ≡ ms → Chosen C named f ps ns b c ↔ Chosen C named g qs ms b c
+  chosen_as named f g ps qs ns ms b c loose asked left =
+      let P : List Node → Type 0 = λ xs. (rest : List Numbered) → MatchesChoice C (choosers named ps) ns rest b c ↔ MatchesChoice C xs ms rest b c in
+      let Q : List Numbered → Type 0 = λ xs. (rest : List Numbered) → MatchesChoice C (choosers named ps) ns rest b c ↔ MatchesChoice C (choosers named ps) xs rest b c in
+      let same : (rest : List Numbered) → MatchesChoice C (choosers named ps) ns rest b c ↔ MatchesChoice C (choosers named qs) ms rest b c = subst P asked (subst Q left (λ rest. (λ x. x, λ x. x))) in
       (λ (rest, ends, x). (rest, (λ shut. ends (loose ∙ shut)), (same rest).0 x), λ (rest, ends, x). (rest, (λ shut. ends (sym loose ∙ shut)), (same rest).1 x))
 
   -- ---- the end
@@ -163,54 +184,64 @@ module _ (C : List Known) where
   ended : (ns rest : List Numbered) (b c : List Bound) → MatchesChoice C [] ns rest b c → (ns ≡ rest) × (b ≡ c)
   ended ns _ b _ no_choice = (refl, refl)
 
-  pub ends_loose : (f : Bool) (ns : List Numbered) (b t c : List Bound) → t ≡ b → f ≡ true → (t ≡ c) ↔ Chosen C f [] ns b c
-  ends_loose f ns b t c is loose = (
-    λ e. let P : List Bound → Type 0 = λ x. MatchesChoice C [] ns ns b x in (ns, λ shut. absurd (let x : true ≡ false = sym loose ∙ shut in cc), subst P (sym is ∙ e) no_choice),
-    λ (rest, _, x). is ∙ (ended ns rest b c x).1,
-  )
+  -- the end, whichever patterns chose
+  abbrev End : Bool → List Node → List Numbered → List Bound → List Bound → Type 0
+  End f qs ns b c = (rest : List Numbered) × (f ≡ false → rest ≡ []) × MatchesChoice C qs ns rest b c
 
-  pub ends_shut : (f : Bool) (ns : List Numbered) (b t c : List Bound) → t ≡ b → ns ≡ [] → (t ≡ c) ↔ Chosen C f [] ns b c
-  ends_shut f ns b t c is empty = (
-    λ e. let P : List Bound → Type 0 = λ x. MatchesChoice C [] ns ns b x in (ns, λ _. empty, subst P (sym is ∙ e) no_choice),
-    λ (rest, _, x). is ∙ (ended ns rest b c x).1,
-  )
+  pub ends_loose : (named f : Bool) (ns : List Numbered) (b t c : List Bound) → t ≡ b → f ≡ true → (t ≡ c) ↔ Chosen C named f [] ns b c
+  ends_loose named f ns b t c is loose =
+      let Q : List Node → Type 0 = λ qs. (t ≡ c) ↔ End f qs ns b c in
+      subst Q (sym (no_choosers named)) (
+        λ e. let P : List Bound → Type 0 = λ x. MatchesChoice C [] ns ns b x in (ns, λ shut. absurd (let x : true ≡ false = sym loose ∙ shut in cc), subst P (sym is ∙ e) no_choice),
+        λ (rest, _, x). is ∙ (ended ns rest b c x).1,
+      )
 
-  pub not_ended : (f : Bool) (ns : List Numbered) (b c : List Bound) → f ≡ false → (ns ≡ [] → ⊥) → Chosen C f [] ns b c → ⊥
-  not_ended f ns b c shut some (rest, ends, x) = some ((ended ns rest b c x).0 ∙ ends shut)
+  pub ends_shut : (named f : Bool) (ns : List Numbered) (b t c : List Bound) → t ≡ b → ns ≡ [] → (t ≡ c) ↔ Chosen C named f [] ns b c
+  ends_shut named f ns b t c is empty =
+      let Q : List Node → Type 0 = λ qs. (t ≡ c) ↔ End f qs ns b c in
+      subst Q (sym (no_choosers named)) (
+        λ e. let P : List Bound → Type 0 = λ x. MatchesChoice C [] ns ns b x in (ns, λ _. empty, subst P (sym is ∙ e) no_choice),
+        λ (rest, _, x). is ∙ (ended ns rest b c x).1,
+      )
+
+  pub not_ended : (named f : Bool) (ns : List Numbered) (b c : List Bound) → f ≡ false → (ns ≡ [] → ⊥) → Chosen C named f [] ns b c → ⊥
+  not_ended named f ns b c shut some goes =
+      let Q : List Node → Type 0 = λ qs. End f qs ns b c → ⊥ in
+      subst Q (sym (no_choosers named)) (λ (rest, ends, x). some ((ended ns rest b c x).0 ∙ ends shut)) goes
 
   -- ---- one pattern
 
-  module _ (f : Bool) (p : Node) (ps : List Node) (ts : List Bool) (ns : List Numbered) (many : length ts ≡ length ns) (b c : List Bound) where
-    first_chosen : (rest : List Numbered) → MatchesChoice C (p ∷ asked_of ps) (untaken ts ns) rest b c
-        → (j : ℕ) × (j < length ns) × (get_or ts j true ≡ false) × (n : Numbered) × (n ≡ get_or ns j n) × (d : List Bound) × Matches C p n b d × MatchesChoice C (asked_of ps) (untaken (set ts j true) ns) rest d c
+  module _ (named f : Bool) (p : Node) (ps : List Node) (ts : List Bool) (ns : List Numbered) (many : length ts ≡ length ns) (b c : List Bound) where
+    first_chosen : (rest : List Numbered) → MatchesChoice C (p ∷ choosers named ps) (untaken ts ns) rest b c
+        → (j : ℕ) × (j < length ns) × (get_or ts j true ≡ false) × (n : Numbered) × (n ≡ get_or ns j n) × (d : List Bound) × Matches C p n b d × MatchesChoice C (choosers named ps) (untaken (set ts j true) ns) rest d c
     first_chosen rest x = at (untaken ts ns) refl x
       where
-        at : (ms : List Numbered) → untaken ts ns ≡ ms → MatchesChoice C (p ∷ asked_of ps) ms rest b c
-            → (j : ℕ) × (j < length ns) × (get_or ts j true ≡ false) × (n : Numbered) × (n ≡ get_or ns j n) × (d : List Bound) × Matches C p n b d × MatchesChoice C (asked_of ps) (untaken (set ts j true) ns) rest d c
+        at : (ms : List Numbered) → untaken ts ns ≡ ms → MatchesChoice C (p ∷ choosers named ps) ms rest b c
+            → (j : ℕ) × (j < length ns) × (get_or ts j true ≡ false) × (n : Numbered) × (n ≡ get_or ns j n) × (d : List Bound) × Matches C p n b d × MatchesChoice C (choosers named ps) (untaken (set ts j true) ns) rest d c
         at ms e (choice {c = d} k n lt is x y) =
             let P : List Numbered → Type 0 = λ xs. k < length xs in
             let Q : List Numbered → Type 0 = λ xs. n ≡ get_or xs k n in
             let (j, within, free, here, left) = place_all ts ns k n many (subst P (sym e) lt) (subst Q (sym e) is) in
-            let R : List Numbered → Type 0 = λ xs. MatchesChoice C (asked_of ps) xs rest d c in
+            let R : List Numbered → Type 0 = λ xs. MatchesChoice C (choosers named ps) xs rest d c in
             (j, within, free, n, here, d, x, subst R (ap (λ (xs : List Numbered). remove xs k) (sym e) ∙ left) y)
 
-    pub takes : is_dots p ≡ false → TakesFrom C f 0 p ps ts ns b c ↔ Chosen C f (p ∷ ps) (untaken ts ns) b c
-    takes not = (
+    pub takes : chooses named p ≡ true → TakesFrom C named f 0 p ps ts ns b c ↔ Chosen C named f (p ∷ ps) (untaken ts ns) b c
+    takes so = (
       λ (j, _, lt, (free, n, is, d, x, (rest, ends, y))).
           let (k, within, here, left) = place_left ts ns j n many lt free is in
-          let P : List Numbered → Type 0 = λ xs. MatchesChoice C (asked_of ps) xs rest d c in
+          let P : List Numbered → Type 0 = λ xs. MatchesChoice C (choosers named ps) xs rest d c in
           let Q : List Node → Type 0 = λ qs. MatchesChoice C qs (untaken ts ns) rest b c in
-          (rest, ends, subst Q (sym (asked_one p ps not)) (choice k n within here x (subst P (sym left) y))),
+          (rest, ends, subst Q (sym (chooser_one named p ps so)) (choice k n within here x (subst P (sym left) y))),
       λ (rest, ends, x).
           let Q : List Node → Type 0 = λ qs. MatchesChoice C qs (untaken ts ns) rest b c in
-          let (j, lt, free, n, is, d, y, z) = first_chosen rest (subst Q (asked_one p ps not) x) in
+          let (j, lt, free, n, is, d, y, z) = first_chosen rest (subst Q (chooser_one named p ps so) x) in
           (j, omega arith, lt, (free, n, is, d, y, (rest, ends, z))),
     )
 
-    pub take_more : (k : ℕ) → k < length ns → TakesFrom C f k p ps ts ns b c ↔ (TakesAt C f k p ps ts ns b c ⊎ TakesFrom C f (k + 1) p ps ts ns b c)
+    pub take_more : (k : ℕ) → k < length ns → TakesFrom C named f k p ps ts ns b c ↔ (TakesAt C named f k p ps ts ns b c ⊎ TakesFrom C named f (k + 1) p ps ts ns b c)
     take_more k lt = (
       λ (j, le, within, x). elim (split j le) [
-        | inl e ↦ (let P : ℕ → Type 0 = λ i. TakesAt C f i p ps ts ns b c in inl (subst P e x))
+        | inl e ↦ (let P : ℕ → Type 0 = λ i. TakesAt C named f i p ps ts ns b c in inl (subst P e x))
         | inr more ↦ inr (j, more, within, x)
       ],
       λ r. elim r [ inl x ↦ (k, omega arith, lt, x) | inr (j, more, within, x) ↦ (j, omega arith, within, x) ],
@@ -219,16 +250,16 @@ module _ (C : List Known) where
         split : (j : ℕ) → k ≤ j → (j ≡ k) ⊎ (k + 1 ≤ j)
         split j le = elim (eq-or-lt_of_le le) [ inl e ↦ inl (sym e) | inr more ↦ inr (omega arith) ]
 
-    pub none_takes : (k : ℕ) → length ns ≤ k → TakesFrom C f k p ps ts ns b c → ⊥
+    pub none_takes : (k : ℕ) → length ns ≤ k → TakesFrom C named f k p ps ts ns b c → ⊥
     none_takes k le (j, more, within, x) = absurd (omega arith)
 
     -- a node that is taken is taken by no other
-    pub taken_once : (k : ℕ) → get_or ts k true ≡ true → TakesAt C f k p ps ts ns b c → ⊥
+    pub taken_once : (k : ℕ) → get_or ts k true ≡ true → TakesAt C named f k p ps ts ns b c → ⊥
     taken_once k gone x = let e : true ≡ false = sym gone ∙ x.0 in cc
 
     -- the bindings with which the first pattern takes a node
     pub picked_at : (k : ℕ) (n : Numbered) (old found : List (List Bound)) → k < length ns → n ≡ get_or ns k n → get_or ts k true ≡ false → old ≡ [] → Adds old found (λ d. Matches C p n b d)
-        → Picked C f ps (untaken (set ts k true) ns) found c ↔ TakesAt C f k p ps ts ns b c
+        → Picked C named f ps (untaken (set ts k true) ns) found c ↔ TakesAt C named f k p ps ts ns b c
     picked_at k n old found lt is free empty adds = (
       λ (d, among, x). elim ((adds d).0 among) [ inl a ↦ (let R : List (List Bound) → Type 0 = λ xs. Among xs d in absurd (subst R empty a)) | inr m ↦ (free, n, is, d, m, x) ],
       λ (_, m, m-is, d, x, y).
@@ -239,16 +270,16 @@ module _ (C : List Known) where
 
   -- ---- bindings one by one
 
-  pub picked_last : (f : Bool) (ps : List Node) (ns : List Numbered) (old new : List (List Bound)) (last c : List Bound) → old ≡ new ++ last ∷ [] → Picked C f ps ns old c ↔ (Chosen C f ps ns last c ⊎ Picked C f ps ns new c)
-  picked_last f ps ns old new last c e =
-      let P : List (List Bound) → Type 0 = λ found. Picked C f ps ns found c ↔ (Chosen C f ps ns last c ⊎ Picked C f ps ns new c) in
+  pub picked_last : (named f : Bool) (ps : List Node) (ns : List Numbered) (old new : List (List Bound)) (last c : List Bound) → old ≡ new ++ last ∷ [] → Picked C named f ps ns old c ↔ (Chosen C named f ps ns last c ⊎ Picked C named f ps ns new c)
+  picked_last named f ps ns old new last c e =
+      let P : List (List Bound) → Type 0 = λ found. Picked C named f ps ns found c ↔ (Chosen C named f ps ns last c ⊎ Picked C named f ps ns new c) in
       subst P (sym e) (
-        λ (d, among, goes). elim ((among_more new last d).0 among) [ inl a ↦ inr (d, a, goes) | inr is ↦ let Q : List Bound → Type 0 = λ x. Chosen C f ps ns x c in inl (subst Q (sym is) goes) ],
+        λ (d, among, goes). elim ((among_more new last d).0 among) [ inl a ↦ inr (d, a, goes) | inr is ↦ let Q : List Bound → Type 0 = λ x. Chosen C named f ps ns x c in inl (subst Q (sym is) goes) ],
         λ a. elim a [ inl goes ↦ (last, (among_more new last last).1 (inr refl), goes) | inr (d, among, goes) ↦ (d, (among_more new last d).1 (inl among), goes) ],
       )
 
-  pub none_picked : (f : Bool) (ps : List Node) (ns : List Numbered) (found : List (List Bound)) (c : List Bound) → found ≡ [] → Picked C f ps ns found c → ⊥
-  none_picked f ps ns found c e (d, among, goes) = let P : List (List Bound) → Type 0 = λ xs. Among xs d in subst P e among
+  pub none_picked : (named f : Bool) (ps : List Node) (ns : List Numbered) (found : List (List Bound)) (c : List Bound) → found ≡ [] → Picked C named f ps ns found c → ⊥
+  none_picked named f ps ns found c e (d, among, goes) = let P : List (List Bound) → Type 0 = λ xs. Among xs d in subst P e among
 
   -- ---- what a choice needs
 
@@ -278,19 +309,19 @@ pub seen_at : (refs : List Spot) (i : ℕ) (r : Spot) → i < length refs → r 
 seen_at refs i r lt is = let f : Spot → Numbered = seen in ap f is ∙ sym (get_or-map f refs i r (seen r) lt)
 
 -- the patterns that choose from one on
-pub asked_from : (ps : List Node) (i : ℕ) (p : Node) → i < length ps → p ≡ get_or ps i p → asked_of (drop i ps) ≡ asked_of (p ∷ drop (i + 1) ps)
-asked_from ps i p lt is = ap asked_of (patterns_from ps i p lt is)
+pub choosers_from : (named : Bool) (ps : List Node) (i : ℕ) (p : Node) → i < length ps → p ≡ get_or ps i p → choosers named (drop i ps) ≡ choosers named (p ∷ drop (i + 1) ps)
+choosers_from named ps i p lt is = ap (choosers named) (patterns_from ps i p lt is)
 
 module _ (C : List Known) where
   -- the nodes that are left, written otherwise
-  pub picked_as : (f : Bool) (ps : List Node) (ns ms : List Numbered) (found : List (List Bound)) (c : List Bound) → ns ≡ ms → Picked C f ps ns found c ↔ Picked C f ps ms found c
-  picked_as f ps ns ms found c e = let P : List Numbered → Type 0 = λ xs. Picked C f ps ns found c ↔ Picked C f ps xs found c in subst P e (λ x. x, λ x. x)
+  pub picked_as : (named f : Bool) (ps : List Node) (ns ms : List Numbered) (found : List (List Bound)) (c : List Bound) → ns ≡ ms → Picked C named f ps ns found c ↔ Picked C named f ps ms found c
+  picked_as named f ps ns ms found c e = let P : List Numbered → Type 0 = λ xs. Picked C named f ps ns found c ↔ Picked C named f ps xs found c in subst P e (λ x. x, λ x. x)
 
   -- the members by a choice with some marks, written by equal marks
-  pub takes_as : (most : ℕ) (old new : List (List Bound)) (f : Bool) (k : ℕ) (p : Node) (ps : List Node) (ts us : List Bool) (ns : List Numbered) (b : List Bound) → ts ≡ us
-      → AddsUpTo most old new (λ c. TakesAt C f k p ps ts ns b c) → AddsUpTo most old new (λ c. TakesAt C f k p ps us ns b c)
-  takes_as most old new f k p ps ts us ns b e adds = let P : List Bool → Type 0 = λ xs. AddsUpTo most old new (λ c. TakesAt C f k p ps xs ns b c) in subst P e adds
+  pub takes_as : (most : ℕ) (old new : List (List Bound)) (named f : Bool) (k : ℕ) (p : Node) (ps : List Node) (ts us : List Bool) (ns : List Numbered) (b : List Bound) → ts ≡ us
+      → AddsUpTo most old new (λ c. TakesAt C named f k p ps ts ns b c) → AddsUpTo most old new (λ c. TakesAt C named f k p ps us ns b c)
+  takes_as most old new named f k p ps ts us ns b e adds = let P : List Bool → Type 0 = λ xs. AddsUpTo most old new (λ c. TakesAt C named f k p ps xs ns b c) in subst P e adds
 
-  pub chosen_at : (most : ℕ) (old new : List (List Bound)) (f : Bool) (ps : List Node) (ts us : List Bool) (ns : List Numbered) (b : List Bound) → ts ≡ us
-      → AddsUpTo most old new (λ c. Chosen C f ps (untaken ts ns) b c) → AddsUpTo most old new (λ c. Chosen C f ps (untaken us ns) b c)
-  chosen_at most old new f ps ts us ns b e adds = let P : List Bool → Type 0 = λ xs. AddsUpTo most old new (λ c. Chosen C f ps (untaken xs ns) b c) in subst P e adds
+  pub chosen_at : (most : ℕ) (old new : List (List Bound)) (named f : Bool) (ps : List Node) (ts us : List Bool) (ns : List Numbered) (b : List Bound) → ts ≡ us
+      → AddsUpTo most old new (λ c. Chosen C named f ps (untaken ts ns) b c) → AddsUpTo most old new (λ c. Chosen C named f ps (untaken us ns) b c)
+  chosen_at most old new named f ps ts us ns b e adds = let P : List Bool → Type 0 = λ xs. AddsUpTo most old new (λ c. Chosen C named f ps (untaken xs ns) b c) in subst P e adds

@@ -15,8 +15,9 @@ use Rattle.std.specs.Prelude.{Some}
 use Rattle.node_match.specs.Free.{Part, parts_of}
 use Rattle.node_match.specs.declared.order.Order.TheVariants.{Fixed, Any}
 use Rattle.node_match.specs.Orders.{order_of}
-use Rattle.node_match.specs.Relation.{Matches, MatchesKids, MatchesList, in_order, choosing, same_node, known_literal, known_string, wildcard, metavariable, some_string, deep, Binds, IsString, wild}
+use Rattle.node_match.specs.Relation.{Matches, MatchesKid, by_itself, as_arguments, MatchesKids, MatchesList, in_order, choosing, same_node, known_literal, known_string, wildcard, metavariable, some_string, deep, Binds, IsString, wild}
 use Rattle.node_match.specs.Holding.{HoldsString, Same, Held}
+use Rattle.node_match.proofs.Arguments.{arguments_one}
 use Rattle.node_match.specs.Fronts.{End, Leads, head_front, dots_front, named_dots_front}
 use Rattle.node_match.specs.States.{Goes, Runs, Heads}
 use Rattle.node_tree.specs.declared.known.Known.{Known}
@@ -138,11 +139,15 @@ module _ (C : List Known) where
   no_one p n b _ (known_string _ r _ _) = let P : Role → Type 0 = IsOne in subst P (sym r) tt
   no_one p n b c (deep _ _ r _ _ _ _) = let P : Role → Type 0 = IsOne in subst P (sym r) tt
 
-  pub no_dots : (p : Node) (n : Numbered) (b c : List Bound) → role_of (kind_of p) ≡ roles.Dots → Matches C p n b c → ⊥
-  no_dots p n b c role x = let P : Role → Type 0 = IsOne in subst P role (no_one p n b c x)
+  kid_one : (h : Numbered) (p : Node) (n : Numbered) (b c : List Bound) → MatchesKid C h p n b c → IsOne (role_of (kind_of p))
+  kid_one h p n b c (by_itself _ x) = no_one p n b c x
+  kid_one h p n b c (as_arguments are _) = arguments_one (kind_of h.node) p are
 
-  pub no_meta_dots : (p : Node) (n : Numbered) (b c : List Bound) → role_of (kind_of p) ≡ roles.MetaDots → Matches C p n b c → ⊥
-  no_meta_dots p n b c role x = let P : Role → Type 0 = IsOne in subst P role (no_one p n b c x)
+  pub no_dots : (h : Numbered) (p : Node) (n : Numbered) (b c : List Bound) → role_of (kind_of p) ≡ roles.Dots → MatchesKid C h p n b c → ⊥
+  no_dots h p n b c role x = let P : Role → Type 0 = IsOne in subst P role (kid_one h p n b c x)
+
+  pub no_meta_dots : (h : Numbered) (p : Node) (n : Numbered) (b c : List Bound) → role_of (kind_of p) ≡ roles.MetaDots → MatchesKid C h p n b c → ⊥
+  no_meta_dots h p n b c role x = let P : Role → Type 0 = IsOne in subst P role (kid_one h p n b c x)
 
 -- ---- how kids match
 
@@ -173,7 +178,7 @@ module _ (C : List Known) where
   after_dots h p ps ns b c role = (λ (k, x). dots_front k role x, λ x. to ns c x)
     where
       to : (ns : List Numbered) (c : End) → Leads C h (Some p ∷ ps) ns b c → Goes C true h ps ns b c
-      to (n ∷ ns) c (head_front x y) = absurd (no_dots C p n b _ role x)
+      to (n ∷ ns) c (head_front x y) = absurd (no_dots C h p n b _ role x)
       to ns c (dots_front k _ x) = (k, x)
       to ns c (named_dots_front k r x y) = absurd (let e = sym role ∙ r in cc)
 
@@ -181,7 +186,7 @@ module _ (C : List Known) where
   after_run h p ps ns b c role = (λ (k, le, d, x, y). named_dots_front k role x y, λ x. to ns c x)
     where
       to : (ns : List Numbered) (c : End) → Leads C h (Some p ∷ ps) ns b c → Runs C 0 h p ps ns b c
-      to (n ∷ ns) c (head_front x y) = absurd (no_meta_dots C p n b _ role x)
+      to (n ∷ ns) c (head_front x y) = absurd (no_meta_dots C h p n b _ role x)
       to ns c (dots_front k r x) = absurd (let e = sym role ∙ r in cc)
       to ns c (named_dots_front {c = d} k _ x y) = (k, omega arith, d, x, y)
 

@@ -1,10 +1,14 @@
 pub mod Sets
 pub mod FrontLaws
+pub mod Arguments
 pub mod Inversion
 pub mod Choosing
+pub mod Calls
+pub mod SteadyLaws
 pub mod Counted
 pub mod Steps
 pub mod Parts
 pub mod Numbering
+pub mod Halving
 pub mod Refused
 pub mod Refusals

@@ -11,6 +11,9 @@ use Rattle.node_pool.specs.declared.spot.Spot.{Spot}
 use Rattle.node_tree.specs.Numbers.{Numbered, count_of, siblings, kids_at, pre_at, numbered}
 use Rattle.node_pool.specs.Spots.{seen, all_seen}
 use Rattle.node_match.specs.Sets.{Among}
+use Rattle.node_match.specs.declared.holder.Holder.{Holder}
+use Rattle.node_match.specs.States.{Line, line_of}
+use Rattle.node_match.specs.Kids.{AreKids, line}
 use Rattle.node_match.specs.Relation.{nodes_of, held_at}
 
 siblings_nodes : (at : ℕ) (ns : List Node) → nodes_of (siblings at ns) ≡ ns
@@ -52,6 +55,10 @@ kid_is h kids at s are lt is = ap seen is ∙ sym (get_or-map seen kids at s (se
 pub as_many : (h : Numbered) (kids : List Spot) → all_seen kids ≡ kids_at h → length kids ≡ length (kids_at h)
 as_many h kids are = sym (length-map kids seen) ∙ ap length are
 
+-- the line of all kids
+pub whole_line : (holder : Holder) → AreKids holder.kids.now (seen holder.spot) → line holder ≡ line_of (seen holder.spot)
+whole_line holder kin = ap (λ (ks : List Numbered). record { holder = seen holder.spot; kids = ks }) kin.are
+
 numbered_many : (at : ℕ) (ns : List Node) → length (numbered at ns) ≡ length ns
 numbered_many at [] = refl
 numbered_many at (n ∷ ns) = ap suc (numbered_many (at + 1) ns)
@@ -65,19 +72,5 @@ one_further xs i m lt is = drop-cons xs i m lt ∙ ap (λ (y : Numbered). y ∷ 
 
 -- ---- what names are known to hold
 
-held_first : (k : Known) (ks : List Known) (at : ℕ) (t : Bool) → nat_eq k.at at ≡ t → held_at (k ∷ ks) at ≡ (if t then Some k.literal else held_at ks at)
+pub held_first : (k : Known) (ks : List Known) (at : ℕ) (t : Bool) → nat_eq k.at at ≡ t → held_at (k ∷ ks) at ≡ (if t then Some k.literal else held_at ks at)
 held_first k ks at t e = ap (λ (b : Bool). if b then Some k.literal else held_at ks at) e
-
-pub held_here : (ks : List Known) (i : ℕ) (k : Known) (at : ℕ) (W : Option Node) → i < length ks → k ≡ get_or ks i k → k.at ≡ at → held_at (drop i ks) at ≡ W → Some k.literal ≡ W
-held_here ks i k at W lt is e inv =
-    let o : drop i ks ≡ k ∷ drop (i + 1) ks = drop-cons ks i k lt ∙ ap (λ (y : Known). y ∷ drop (suc i) ks) (sym is) ∙ ap (λ (j : ℕ). k ∷ drop j ks) (sym (add-one i)) in
-    sym (held_first k (drop (i + 1) ks) at true (eq-eqb k.at at e)) ∙ sym (ap (λ (xs : List Known). held_at xs at) o) ∙ inv
-
-pub held_later : (ks : List Known) (i : ℕ) (k : Known) (at : ℕ) (W : Option Node) → i < length ks → k ≡ get_or ks i k → (k.at ≡ at → ⊥) → held_at (drop i ks) at ≡ W → held_at (drop (i + 1) ks) at ≡ W
-held_later ks i k at W lt is ne inv =
-    let o : drop i ks ≡ k ∷ drop (i + 1) ks = drop-cons ks i k lt ∙ ap (λ (y : Known). y ∷ drop (suc i) ks) (sym is) ∙ ap (λ (j : ℕ). k ∷ drop j ks) (sym (add-one i)) in
-    let no-eq : nat_eq k.at at ≡ false = grind (arith, nat_tests, ne) in
-    sym (held_first k (drop (i + 1) ks) at false no-eq) ∙ sym (ap (λ (xs : List Known). held_at xs at) o) ∙ inv
-
-pub held_nowhere : (ks : List Known) (i at : ℕ) (W : Option Node) → length ks ≤ i → held_at (drop i ks) at ≡ W → None ≡ W
-held_nowhere ks i at W le inv = sym (ap (λ (xs : List Known). held_at xs at) (drop_all i ks le)) ∙ inv

@@ -124,3 +124,17 @@ adds_again {X} most old mid new P Q All first few part second same = record {
   where
     sound : (x : X) → Among new x → Among old x ⊎ All x
     sound x h = elim (second.sound x h) [ inl a ↦ elim (first.sound x a) [ inl b ↦ inl b | inr p ↦ inr (part x p) ] | inr q ↦ inr ((same x).0 q) ]
+
+-- all that is left to add is one item, and it is there
+pub adds_settled : {X : Type 0} (most : ℕ) (old mid new : List X) (P Left All : X → Type 0) (one : X) → AddsUpTo most mid new P → ((x : X) → (Among mid x ⊎ Left x) ↔ (Among old x ⊎ All x)) → ((x : X) → P x → Left x)
+    → ((x : X) → Left x → one ≡ x) → ((x : X) → All x → one ≡ x) → Among new one → AddsUpTo most old new All
+adds_settled {X} most old mid new P Left All one adds gathers part left all there = record {
+  sound = sound;
+  whole = λ few x. (sound x, λ h. elim h [ inl o ↦ elim ((gathers x).1 (inl o)) [ inl m ↦ (adds.whole few x).1 (inl m) | inr l ↦ is_there x (left x l) ] | inr a ↦ is_there x (all x a) ]);
+}
+  where
+    sound : (x : X) → Among new x → Among old x ⊎ All x
+    sound x h = elim (adds.sound x h) [ inl a ↦ (gathers x).0 (inl a) | inr p ↦ (gathers x).0 (inr (part x p)) ]
+
+    is_there : (x : X) → one ≡ x → Among new x
+    is_there x e = let Q : X → Type 0 = λ y. Among new y in subst Q e there

@@ -6,10 +6,10 @@ use Rattle.meta_bind.specs.declared.bound.Bound.{Bound}
 use Rattle.node_match.specs.declared.state.State.{State}
 use Rattle.node_match.specs.Sets.{Among, Adds}
 use Rattle.node_match.specs.Free.{Part}
-use Rattle.node_match.specs.Relation.{Matches, MatchesList, Binds, fresh, again, bound_by, run_span, end_of, nodes_of}
+use Rattle.node_match.specs.Relation.{MatchesKid, MatchesList, Binds, fresh, again, bound_by, run_span, end_of, nodes_of}
 use Rattle.node_match.specs.Fronts.{End, Leads, MatchesFront, no_part_front, free_front}
 use Rattle.node_match.proofs.FrontLaws.{whole_front}
-use Rattle.node_match.specs.States.{AnyFrom, From, Goes, Runs, RunOf, Entered, Heads, IsCovered}
+use Rattle.node_match.specs.States.{Line, AnyFrom, From, Goes, Runs, RunOf, Entered, Heads, IsCovered}
 use Rattle.std.specs.Prelude.{Option, None, Some}
 use Rattle.std.proofs.lemmas.List.{drop_all, take_all, drop-drop}
 use Rattle.std.proofs.Math.Seq.{drop-cons}
@@ -22,19 +22,19 @@ use Rattle.node_tree.specs.Numbers.{Numbered, kids_at}
 
 module _ (C : List Known) where
   -- one state more
-  pub put_from : (h : Numbered) (old new : List State) (s : State) → Adds old new (λ t. s ≡ t) → (ps : List Part) (c : End) → AnyFrom C h ps new c ↔ (AnyFrom C h ps old c ⊎ From C h ps s c)
+  pub put_from : (h : Line) (old new : List State) (s : State) → Adds old new (λ t. s ≡ t) → (ps : List Part) (c : End) → AnyFrom C h ps new c ↔ (AnyFrom C h ps old c ⊎ From C h ps s c)
   put_from h old new s adds ps c = (
     λ (t, among, goes). elim ((adds t).0 among) [ inl a ↦ inl (t, a, goes) | inr e ↦ let P : State → Type 0 = λ u. From C h ps u c in inr (subst P (sym e) goes) ],
     λ a. elim a [ inl (t, among, goes) ↦ (t, (adds t).1 (inl among), goes) | inr goes ↦ (s, (adds s).1 (inr refl), goes) ],
   )
 
   -- the last of the bindings that are left
-  pub entered_last : (h : Numbered) (ps : List Part) (at : ℕ) (old new : List (List Bound)) (last : List Bound) (c : End) → old ≡ new ++ last ∷ []
-      → Entered C h ps at old c ↔ (Leads C h ps (drop at (kids_at h)) last c ⊎ Entered C h ps at new c)
+  pub entered_last : (h : Line) (ps : List Part) (at : ℕ) (old new : List (List Bound)) (last : List Bound) (c : End) → old ≡ new ++ last ∷ []
+      → Entered C h ps at old c ↔ (Leads C h.holder ps (drop at h.kids) last c ⊎ Entered C h ps at new c)
   entered_last h ps at old new last c e =
-      let P : List (List Bound) → Type 0 = λ found. Entered C h ps at found c ↔ (Leads C h ps (drop at (kids_at h)) last c ⊎ Entered C h ps at new c) in
+      let P : List (List Bound) → Type 0 = λ found. Entered C h ps at found c ↔ (Leads C h.holder ps (drop at h.kids) last c ⊎ Entered C h ps at new c) in
       subst P (sym e) (
-        λ (d, among, goes). elim ((among_more new last d).0 among) [ inl a ↦ inr (d, a, goes) | inr is ↦ let Q : List Bound → Type 0 = λ x. Leads C h ps (drop at (kids_at h)) x c in inl (subst Q (sym is) goes) ],
+        λ (d, among, goes). elim ((among_more new last d).0 among) [ inl a ↦ inr (d, a, goes) | inr is ↦ let Q : List Bound → Type 0 = λ x. Leads C h.holder ps (drop at h.kids) x c in inl (subst Q (sym is) goes) ],
         λ a. elim a [ inl goes ↦ (last, (among_more new last last).1 (inr refl), goes) | inr (d, among, goes) ↦ (d, (among_more new last d).1 (inl among), goes) ],
       )
 
@@ -102,7 +102,7 @@ module _ (C : List Known) where
   not_end h ns at b c lt goes = let e = ap length ((ends h (drop at ns) [] b c goes).0) in absurd (omega (arith, e, length-drop at ns))
 
   -- the first state, and those that are left
-  pub first_state : (h : Numbered) (ps : List Part) (states : List State) (i : ℕ) (s : State) (c : End) → i < length states → s ≡ get_or states i s
+  pub first_state : (h : Line) (ps : List Part) (states : List State) (i : ℕ) (s : State) (c : End) → i < length states → s ≡ get_or states i s
       → AnyFrom C h ps (drop i states) c ↔ (From C h ps s c ⊎ AnyFrom C h ps (drop (i + 1) states) c)
   first_state h ps states i s c lt is =
       let o : drop i states ≡ s ∷ drop (i + 1) states = drop-cons states i s lt ∙ ap (λ y. y ∷ drop (suc i) states) (sym is) ∙ ap (λ j. s ∷ drop j states) (sym (add-one i)) in
@@ -112,27 +112,27 @@ module _ (C : List Known) where
         λ x. elim x [ inl goes ↦ (s, inl refl, goes) | inr (t, a, goes) ↦ (t, inr a, goes) ],
       )
 
-  pub no_state : (h : Numbered) (ps : List Part) (states : List State) (i : ℕ) (c : End) → length states ≤ i → AnyFrom C h ps (drop i states) c → ⊥
+  pub no_state : (h : Line) (ps : List Part) (states : List State) (i : ℕ) (c : End) → length states ≤ i → AnyFrom C h ps (drop i states) c → ⊥
   no_state h ps states i c le (t, among, goes) = let P : List State → Type 0 = λ ss. Among ss t in subst P (drop_all i states le) among
 
-  pub state_ends : (h : Numbered) (s : State) (t : List Bound) → t ≡ s.trail → s.floating ≡ true → (x : List Bound) → (t ≡ x) ↔ From C h [] s ([], x)
+  pub state_ends : (h : Line) (s : State) (t : List Bound) → t ≡ s.trail → s.floating ≡ true → (x : List Bound) → (t ≡ x) ↔ From C h [] s ([], x)
   state_ends h s t is floats x =
-      let P : Bool → Type 0 = λ f. (t ≡ x) ↔ Goes C f h [] (drop s.at (kids_at h)) s.trail ([], x) in
-      let Q : List Bound → Type 0 = λ b. (b ≡ x) ↔ Goes C true h [] (drop s.at (kids_at h)) s.trail ([], x) in
-      subst P (sym floats) (subst Q (sym is) (ends_floating h (drop s.at (kids_at h)) s.trail x))
+      let P : Bool → Type 0 = λ f. (t ≡ x) ↔ Goes C f h.holder [] (drop s.at h.kids) s.trail ([], x) in
+      let Q : List Bound → Type 0 = λ b. (b ≡ x) ↔ Goes C true h.holder [] (drop s.at h.kids) s.trail ([], x) in
+      subst P (sym floats) (subst Q (sym is) (ends_floating h.holder (drop s.at h.kids) s.trail x))
 
-  pub state_ends_here : (h : Numbered) (s : State) (t : List Bound) → t ≡ s.trail → s.floating ≡ false → length (kids_at h) ≤ s.at → (x : List Bound) → (t ≡ x) ↔ From C h [] s ([], x)
+  pub state_ends_here : (h : Line) (s : State) (t : List Bound) → t ≡ s.trail → s.floating ≡ false → length h.kids ≤ s.at → (x : List Bound) → (t ≡ x) ↔ From C h [] s ([], x)
   state_ends_here h s t is stays le x =
-      let P : Bool → Type 0 = λ f. (t ≡ x) ↔ Goes C f h [] (drop s.at (kids_at h)) s.trail ([], x) in
-      let Q : List Bound → Type 0 = λ b. (b ≡ x) ↔ Leads C h [] (drop s.at (kids_at h)) s.trail ([], x) in
-      subst P (sym stays) (subst Q (sym is) (ends_here h (kids_at h) s.at s.trail x le))
+      let P : Bool → Type 0 = λ f. (t ≡ x) ↔ Goes C f h.holder [] (drop s.at h.kids) s.trail ([], x) in
+      let Q : List Bound → Type 0 = λ b. (b ≡ x) ↔ Leads C h.holder [] (drop s.at h.kids) s.trail ([], x) in
+      subst P (sym stays) (subst Q (sym is) (ends_here h.holder h.kids s.at s.trail x le))
 
-  pub state_goes_on : (h : Numbered) (s : State) → s.floating ≡ false → s.at < length (kids_at h) → (x : List Bound) → From C h [] s ([], x) → ⊥
+  pub state_goes_on : (h : Line) (s : State) → s.floating ≡ false → s.at < length h.kids → (x : List Bound) → From C h [] s ([], x) → ⊥
   state_goes_on h s stays lt x goes =
-      let P : Bool → Type 0 = λ f. Goes C f h [] (drop s.at (kids_at h)) s.trail ([], x) in
-      not_end h (kids_at h) s.at s.trail x lt (subst P stays goes)
+      let P : Bool → Type 0 = λ f. Goes C f h.holder [] (drop s.at h.kids) s.trail ([], x) in
+      not_end h.holder h.kids s.at s.trail x lt (subst P stays goes)
 
-  pub no_entered : (h : Numbered) (ps : List Part) (at : ℕ) (found : List (List Bound)) (c : End) → found ≡ [] → Entered C h ps at found c → ⊥
+  pub no_entered : (h : Line) (ps : List Part) (at : ℕ) (found : List (List Bound)) (c : End) → found ≡ [] → Entered C h ps at found c → ⊥
   no_entered h ps at found c e (d, among, goes) = let P : List (List Bound) → Type 0 = λ xs. Among xs d in subst P e among
 
 -- ---- runs
@@ -184,79 +184,79 @@ same_binding h name ns b t binds c = (λ e. (binds c).1 (ap Some e), λ x. let e
 -- ---- what a state leads to
 
 module _ (C : List Known) where
-  pub floating_from : (h : Numbered) (ps : List Part) (s : State) (start : ℕ) (c : End) → s.floating ≡ true → drop start (kids_at h) ≡ drop s.at (kids_at h)
-      → Goes C true h ps (drop start (kids_at h)) s.trail c ↔ From C h ps s c
+  pub floating_from : (h : Line) (ps : List Part) (s : State) (start : ℕ) (c : End) → s.floating ≡ true → drop start h.kids ≡ drop s.at h.kids
+      → Goes C true h.holder ps (drop start h.kids) s.trail c ↔ From C h ps s c
   floating_from h ps s start c floats e =
-      let P : Bool → Type 0 = λ f. Goes C true h ps (drop start (kids_at h)) s.trail c ↔ Goes C f h ps (drop s.at (kids_at h)) s.trail c in
-      let Q : List Numbered → Type 0 = λ ms. Goes C true h ps (drop start (kids_at h)) s.trail c ↔ Goes C true h ps ms s.trail c in
+      let P : Bool → Type 0 = λ f. Goes C true h.holder ps (drop start h.kids) s.trail c ↔ Goes C f h.holder ps (drop s.at h.kids) s.trail c in
+      let Q : List Numbered → Type 0 = λ ms. Goes C true h.holder ps (drop start h.kids) s.trail c ↔ Goes C true h.holder ps ms s.trail c in
       subst P (sym floats) (subst Q e (λ x. x, λ x. x))
 
-  pub staying_from : (h : Numbered) (ps : List Part) (s : State) (start : ℕ) (c : End) → s.floating ≡ false → drop start (kids_at h) ≡ drop s.at (kids_at h)
-      → Leads C h ps (drop start (kids_at h)) s.trail c ↔ From C h ps s c
+  pub staying_from : (h : Line) (ps : List Part) (s : State) (start : ℕ) (c : End) → s.floating ≡ false → drop start h.kids ≡ drop s.at h.kids
+      → Leads C h.holder ps (drop start h.kids) s.trail c ↔ From C h ps s c
   staying_from h ps s start c stays e =
-      let P : Bool → Type 0 = λ f. Leads C h ps (drop start (kids_at h)) s.trail c ↔ Goes C f h ps (drop s.at (kids_at h)) s.trail c in
-      let Q : List Numbered → Type 0 = λ ms. Leads C h ps (drop start (kids_at h)) s.trail c ↔ Leads C h ps ms s.trail c in
+      let P : Bool → Type 0 = λ f. Leads C h.holder ps (drop start h.kids) s.trail c ↔ Goes C f h.holder ps (drop s.at h.kids) s.trail c in
+      let Q : List Numbered → Type 0 = λ ms. Leads C h.holder ps (drop start h.kids) s.trail c ↔ Leads C h.holder ps ms s.trail c in
       subst P (sym stays) (subst Q e (λ x. x, λ x. x))
 
   pub goes_at : (h : Numbered) (ps : List Part) (ns ms : List Numbered) (b : List Bound) (c : End) → ns ≡ ms → Goes C true h ps ns b c ↔ Goes C true h ps ms b c
   goes_at h ps ns ms b c e = let P : List Numbered → Type 0 = λ xs. Goes C true h ps ns b c ↔ Goes C true h ps xs b c in subst P e (λ x. x, λ x. x)
 
   -- the bindings found at one kid
-  pub entered_heads : (h : Numbered) (q : Node) (ps : List Part) (kids : List Numbered) (at : ℕ) (kid : Numbered) (old found : List (List Bound)) (b : List Bound) (c : End) → kids ≡ kids_at h → at < length kids → kid ≡ get_or kids at kid
-      → old ≡ [] → Adds old found (λ d. Matches C q kid b d) → Entered C h ps (at + 1) found c ↔ Heads C h q ps (drop at (kids_at h)) b c
+  pub entered_heads : (h : Line) (q : Node) (ps : List Part) (kids : List Numbered) (at : ℕ) (kid : Numbered) (old found : List (List Bound)) (b : List Bound) (c : End) → kids ≡ h.kids → at < length kids → kid ≡ get_or kids at kid
+      → old ≡ [] → Adds old found (λ d. MatchesKid C h.holder q kid b d) → Entered C h ps (at + 1) found c ↔ Heads C h.holder q ps (drop at h.kids) b c
   entered_heads h q ps kids at kid old found b c e lt is none adds =
-      let o : drop at (kids_at h) ≡ kid ∷ drop (at + 1) (kids_at h) =
+      let o : drop at h.kids ≡ kid ∷ drop (at + 1) h.kids =
       ap (drop at) (sym e) ∙ drop-cons kids at kid lt ∙ ap (λ (y : Numbered). y ∷ drop (suc at) kids) (sym is) ∙ ap (λ (j : ℕ). kid ∷ drop j kids) (sym (add-one at)) ∙ ap (λ (ks : List Numbered). kid ∷ drop (at + 1) ks) e in
-      let P : List Numbered → Type 0 = λ ms. Entered C h ps (at + 1) found c ↔ Heads C h q ps ms b c in
+      let P : List Numbered → Type 0 = λ ms. Entered C h ps (at + 1) found c ↔ Heads C h.holder q ps ms b c in
       subst P (sym o) (
         λ (d, among, goes). elim ((adds d).0 among) [ inl a ↦ (let R : List (List Bound) → Type 0 = λ xs. Among xs d in absurd (subst R none a)) | inr m ↦ (d, m, goes) ],
         λ (d, m, goes). (d, (adds d).1 (inr m), goes),
       )
 
   -- the one state that a list of kids begins with
-  pub begins : (h : Numbered) (ps : List Part) (states : List State) (s : State) (b : List Bound) (c : End) → states ≡ s ∷ [] → s.at ≡ 0 → s.floating ≡ false → s.trail ≡ b
-      → AnyFrom C h ps states c ↔ Leads C h ps (kids_at h) b c
+  pub begins : (h : Line) (ps : List Part) (states : List State) (s : State) (b : List Bound) (c : End) → states ≡ s ∷ [] → s.at ≡ 0 → s.floating ≡ false → s.trail ≡ b
+      → AnyFrom C h ps states c ↔ Leads C h.holder ps h.kids b c
   begins h ps states s b c is at stays trail =
-      let P : List State → Type 0 = λ xs. AnyFrom C h ps xs c ↔ Leads C h ps (kids_at h) b c in
-      let A : ℕ → Type 0 = λ i. Goes C s.floating h ps (drop i (kids_at h)) s.trail c ↔ Leads C h ps (kids_at h) b c in
-      let F : Bool → Type 0 = λ f. Goes C f h ps (kids_at h) s.trail c ↔ Leads C h ps (kids_at h) b c in
-      let T : List Bound → Type 0 = λ x. Leads C h ps (kids_at h) x c ↔ Leads C h ps (kids_at h) b c in
-      let whole : From C h ps s c ↔ Leads C h ps (kids_at h) b c = subst A (sym at) (subst F (sym stays) (subst T (sym trail) (λ x. x, λ x. x))) in
+      let P : List State → Type 0 = λ xs. AnyFrom C h ps xs c ↔ Leads C h.holder ps h.kids b c in
+      let A : ℕ → Type 0 = λ i. Goes C s.floating h.holder ps (drop i h.kids) s.trail c ↔ Leads C h.holder ps h.kids b c in
+      let F : Bool → Type 0 = λ f. Goes C f h.holder ps h.kids s.trail c ↔ Leads C h.holder ps h.kids b c in
+      let T : List Bound → Type 0 = λ x. Leads C h.holder ps h.kids x c ↔ Leads C h.holder ps h.kids b c in
+      let whole : From C h ps s c ↔ Leads C h.holder ps h.kids b c = subst A (sym at) (subst F (sym stays) (subst T (sym trail) (λ x. x, λ x. x))) in
       subst P (sym is) (
         λ (t, among, goes). elim among [ inl e ↦ (let R : State → Type 0 = λ u. From C h ps u c in whole.0 (subst R (sym e) goes)) | inr a ↦ absurd a ],
         λ x. (s, inl refl, whole.1 x),
       )
 
   -- a step by the part at a place of some parts
-  pub part_steps : (h : Numbered) (q : Part) (parts : List Part) (i : ℕ) (old new : List State) (c : End) → drop i parts ≡ q ∷ drop (i + 1) parts
+  pub part_steps : (h : Line) (q : Part) (parts : List Part) (i : ℕ) (old new : List State) (c : End) → drop i parts ≡ q ∷ drop (i + 1) parts
       → AnyFrom C h (drop (i + 1) parts) new c ↔ AnyFrom C h (q ∷ drop (i + 1) parts) old c → AnyFrom C h (drop (i + 1) parts) new c ↔ AnyFrom C h (drop i parts) old c
   part_steps h q parts i old new c here steps = let P : List Part → Type 0 = λ ps. AnyFrom C h (drop (i + 1) parts) new c ↔ AnyFrom C h ps old c in subst P (sym here) steps
 
-  pub last_part : (h : Numbered) (parts : List Part) (i : ℕ) (states : List State) (b c : List Bound) → length parts ≤ i
-      → AnyFrom C h (drop i parts) states ([], c) ↔ Leads C h parts (kids_at h) b ([], c) → AnyFrom C h [] states ([], c) ↔ MatchesList C h parts (kids_at h) b c
+  pub last_part : (h : Line) (parts : List Part) (i : ℕ) (states : List State) (b c : List Bound) → length parts ≤ i
+      → AnyFrom C h (drop i parts) states ([], c) ↔ Leads C h.holder parts h.kids b ([], c) → AnyFrom C h [] states ([], c) ↔ MatchesList C h.holder parts h.kids b c
   last_part h parts i states b c le inv =
-      let P : List Part → Type 0 = λ qs. AnyFrom C h qs states ([], c) ↔ Leads C h parts (kids_at h) b ([], c) in
-      let whole = whole_front C h parts (kids_at h) b c in
+      let P : List Part → Type 0 = λ qs. AnyFrom C h qs states ([], c) ↔ Leads C h.holder parts h.kids b ([], c) in
+      let whole = whole_front C h.holder parts h.kids b c in
       let all = subst P (drop_all i parts le) inv in
       (λ x. whole.0 (all.0 x), λ y. all.1 (whole.1 y))
 
-  pub from_none : (h : Numbered) (ps : List Part) (states : List State) (W : Type 0) (c : End) → states ≡ [] → (AnyFrom C h ps states c ⊎ W) ↔ W
+  pub from_none : (h : Line) (ps : List Part) (states : List State) (W : Type 0) (c : End) → states ≡ [] → (AnyFrom C h ps states c ⊎ W) ↔ W
   from_none h ps states W c e =
       (λ a. elim a [ inl (s, among, x) ↦ (let P : List State → Type 0 = λ ss. Among ss s in absurd (subst P e among)) | inr w ↦ w ], λ w. inr w)
 
   -- a floating state leads to what a later one with its binding leads to
-  pub covered : (h : Numbered) (ps : List Part) (states : List State) (at : ℕ) (b : List Bound) (c : End) → IsCovered states at b → AnyFrom C h ps states c ↔ (AnyFrom C h ps states c ⊎ Goes C true h ps (drop at (kids_at h)) b c)
+  pub covered : (h : Line) (ps : List Part) (states : List State) (at : ℕ) (b : List Bound) (c : End) → IsCovered states at b → AnyFrom C h ps states c ↔ (AnyFrom C h ps states c ⊎ Goes C true h.holder ps (drop at h.kids) b c)
   covered h ps states at b c (s, among, floats, before, trail) = (λ a. inl a, λ x. elim x [ inl a ↦ a | inr (k, goes) ↦ (s, among, from k goes) ])
     where
-      from : (k : ℕ) → Leads C h ps (drop k (drop at (kids_at h))) b c → From C h ps s c
+      from : (k : ℕ) → Leads C h.holder ps (drop k (drop at h.kids)) b c → From C h ps s c
       from k goes =
           let e : at + k ≡ s.at + (at - s.at + k) = omega arith in
-          let P : List Numbered → Type 0 = λ ms. Leads C h ps ms b c in
-          let F : Bool → Type 0 = λ f. Goes C f h ps (drop s.at (kids_at h)) s.trail c in
-          let T : List Bound → Type 0 = λ t. Goes C true h ps (drop s.at (kids_at h)) t c in
+          let P : List Numbered → Type 0 = λ ms. Leads C h.holder ps ms b c in
+          let F : Bool → Type 0 = λ f. Goes C f h.holder ps (drop s.at h.kids) s.trail c in
+          let T : List Bound → Type 0 = λ t. Goes C true h.holder ps (drop s.at h.kids) t c in
           subst F (sym floats) (subst T (sym trail) (
             at - s.at + k,
-            subst P (drop-drop k at (kids_at h) ∙ ap (λ j. drop j (kids_at h)) e ∙ sym (drop-drop (at - s.at + k) s.at (kids_at h))) goes,
+            subst P (drop-drop k at h.kids ∙ ap (λ j. drop j h.kids) e ∙ sym (drop-drop (at - s.at + k) s.at h.kids)) goes,
           ))
 
 -- ---- a free part

@@ -1,6 +1,5 @@
 pub mod Sets
 pub mod Kinds
-pub mod Kids
 pub mod Free
 pub mod Orders
 pub mod Relation
@@ -8,4 +7,6 @@ pub mod Holding
 pub mod Refused
 pub mod Fronts
 pub mod States
+pub mod Kids
 pub mod Choices
+pub mod Steady

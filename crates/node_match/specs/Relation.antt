@@ -14,7 +14,7 @@ use Rattle.node_tree.specs.Kinds.{is_expression, is_term, is_literal}
 use Rattle.node_match.specs.Kinds.{role_of}
 use Rattle.node_match.specs.Free.{Part, parts_of, HasText}
 use Rattle.node_match.specs.declared.order.Order.TheVariants.{Fixed, Any}
-use Rattle.node_match.specs.Orders.{order_of, has_dots, asked_of}
+use Rattle.node_match.specs.Orders.{order_of, has_dots, asked_of, is_arguments, named_of, unnamed_of, named_at, unnamed_at, all_asked}
 
 -- the end of the last of these nodes
 abbrev pub end_of : Node → List Node → ℕ
@@ -90,11 +90,22 @@ mutual
     no_choice : {ns : List Numbered} {b : List Bound} → MatchesChoice C [] ns ns b b
     choice : {p : Node} {ps : List Node} {ns rest : List Numbered} {b c d : List Bound} (k : ℕ) (n : Numbered) → k < length ns → n ≡ slice_index_or ns k n → Matches C p n b c → MatchesChoice C ps (remove ns k) rest c d → MatchesChoice C (p ∷ ps) ns rest b d
 
+  -- the arguments of a call: first those without a name match in order, and then those with one by choosing; without `...` no
+  -- argument with a name is left over
+  pub data MatchesArguments (C : List Known) : Node → Numbered → List Bound → List Bound → Type 0 where
+    arguments : {p : Node} {n : Numbered} {rest : List Numbered} {b c d : List Bound} → kind_of p ≡ kind_of n.node → HasText p n.node → MatchesList C n (all_asked (unnamed_of (kids_of p))) (unnamed_at (kids_at n)) b c
+        → (has_dots (kids_of p) ≡ false → rest ≡ []) → MatchesChoice C (named_of (kids_of p)) (named_at (kids_at n)) rest c d → MatchesArguments C p n b d
+
+  -- a pattern matches a kid of the holder
+  pub data MatchesKid (C : List Known) : Numbered → Node → Numbered → List Bound → List Bound → Type 0 where
+    by_itself : {h : Numbered} {p : Node} {n : Numbered} {b c : List Bound} → is_arguments (kind_of h.node) p ≡ false → Matches C p n b c → MatchesKid C h p n b c
+    as_arguments : {h : Numbered} {p : Node} {n : Numbered} {b c : List Bound} → is_arguments (kind_of h.node) p ≡ true → MatchesArguments C p n b c → MatchesKid C h p n b c
+
   -- parts match the nodes ns, all of them and in order, where ns are kids of the holder
   pub data MatchesList (C : List Known) : Numbered → List Part → List Numbered → List Bound → List Bound → Type 0 where
     both_empty : {h : Numbered} {b : List Bound} → MatchesList C h [] [] b b
     -- the first matches the first, and the rest the rest
-    head_and_rest : {h : Numbered} {p : Node} {n : Numbered} {ps : List Part} {ns : List Numbered} {b c d : List Bound} → Matches C p n b c → MatchesList C h ps ns c d → MatchesList C h (Some p ∷ ps) (n ∷ ns) b d
+    head_and_rest : {h : Numbered} {p : Node} {n : Numbered} {ps : List Part} {ns : List Numbered} {b c d : List Bound} → MatchesKid C h p n b c → MatchesList C h ps ns c d → MatchesList C h (Some p ∷ ps) (n ∷ ns) b d
     -- a free part takes any node
     free_and_rest : {h n : Numbered} {ps : List Part} {ns : List Numbered} {b c : List Bound} → MatchesList C h ps ns b c → MatchesList C h (None ∷ ps) (n ∷ ns) b c
     -- `...` takes any nodes at the front

@@ -4,18 +4,22 @@
 mod asked;
 mod choice;
 mod class;
+mod constants;
 mod free;
 mod holder;
 mod known;
 mod list;
+mod named;
 mod order;
 mod refusal;
 mod search;
 mod state;
+mod steady;
 mod taken;
 
-pub use asked::order_of;
+pub use asked::{has_names, is_arguments, order_of};
 pub use class::{Role, is_alike, is_one, role_of};
+pub use constants::Constants;
 pub use free::{is_free, is_text_free, part_at};
 pub use holder::Holder;
 pub use list::{alone, count_kids, finish, part_of, place, span_of_run};

@@ -3,7 +3,7 @@
 ghost use Rattle.std.specs.Prelude.{◌≡◌, ◌↔◌, ◌≤◌, ◌<◌, ◌+◌, List as list, [], ◌∷◌, length, take, drop, OnOk, IfOk, IsTrue, true, false, None, Some};
 ghost use Rattle.node_tree.specs.Tree.{kids_of, kind_of};
 ghost use Rattle.node_tree.specs.declared.known.Known.{Known as known};
-ghost use Rattle.node_tree.specs.Numbers.{Numbered, kids_at};
+ghost use Rattle.node_tree.specs.Numbers.{kids_at};
 ghost use Rattle.node_pool.specs.Spots.{seen};
 ghost use Rattle.meta_bind.specs.declared.bound.Bound.{Bound as bound};
 ghost use Rattle.node_match.specs.Sets.{Among, Adds};
@@ -12,7 +12,7 @@ ghost use Rattle.node_match.specs.Free.{Part};
 ghost use Rattle.node_match.specs.Relation.{Binds, run_span};
 ghost use Rattle.node_match.specs.declared.class.Role.TheVariants.{MetaDots};
 ghost use Rattle.node_match.specs.Fronts.{End, Leads};
-ghost use Rattle.node_match.specs.States.{AnyFrom, AddsFrom, Steps, From, Goes, Runs, RunOf, Entered, IsCovered};
+ghost use Rattle.node_match.specs.States.{Line, line_of, AnyFrom, AddsFrom, Steps, From, Goes, Runs, RunOf, Entered, IsCovered};
 ghost use Rattle.node_match.specs.declared.state.State.{State as state};
 
 use crate::state::State;
@@ -47,7 +47,7 @@ pub fn alone<'t>(alloc: Global, state: State<'t>) -> Result<List<State<'t>>, Mem
 
 /// The one state in which a list of kids begins.
 pub fn start<'t>(alloc: Global, trail: &Trail<'t>) -> Result<List<State<'t>>, Memory>
-    ensures { IfOk result (λ states. (k : list known) (h : Numbered) (ps : list Part) (c : End) → AnyFrom k h ps states c ↔ Leads k h ps (kids_at h) trail.now c) }
+    ensures { IfOk result (λ states. (k : list known) (l : Line) (ps : list Part) (c : End) → AnyFrom k l ps states c ↔ Leads k l.holder ps l.kids trail.now c) }
 {
     let states = alone(
         alloc,
@@ -60,8 +60,8 @@ pub fn start<'t>(alloc: Global, trail: &Trail<'t>) -> Result<List<State<'t>>, Me
     Ok(states)
 }
 
-// Whether the last binding is this one.
-fn is_last<'t>(trails: &[Trail<'t>], trail: &Trail<'t>) -> bool
+/// Whether the last binding is this one.
+pub fn is_last<'t>(trails: &[Trail<'t>], trail: &Trail<'t>) -> bool
     ensures { IsTrue result → Among trails.now trail.now }
 {
     if trails.is_empty() {
@@ -101,7 +101,7 @@ fn is_covered<'t>(states: &[State<'t>], at: usize, trail: &Trail<'t>) -> bool
 
 /// Adds a floating state, where the last one doesn't lead to all that it would lead to.
 pub fn float<'t>(states: &mut List<State<'t>>, at: usize, trail: &Trail<'t>) -> Result<(), Memory>
-    ensures { OnOk result ((k : list known) (h : Numbered) → AddsFrom k h states.old states.new (λ ps c. Goes k true h ps (drop at (kids_at h)) trail.now c)) }
+    ensures { OnOk result ((k : list known) (l : Line) → AddsFrom k l states.old states.new (λ ps c. Goes k true l.holder ps (drop at l.kids) trail.now c)) }
 {
     if is_covered(states.as_slice(), at, trail) {
         return Ok(());
@@ -123,7 +123,7 @@ pub fn enter<'t>(
     at: usize,
     mut found: List<Trail<'t>>,
 ) -> Result<(), Memory>
-    ensures { OnOk result ((k : list known) (h : Numbered) → AddsFrom k h states.old states.new (λ ps c. Entered k h ps at found.entry c)) }
+    ensures { OnOk result ((k : list known) (l : Line) → AddsFrom k l states.old states.new (λ ps c. Entered k l ps at found.entry c)) }
 {
     while let Some(trail) = found.pop() {
         put(
@@ -138,15 +138,11 @@ pub fn enter<'t>(
     Ok(())
 }
 
-// Adds the state after a kid of which nothing is asked.
-fn pass<'t>(
-    holder: Spot<'_, 't>,
-    state: &State<'t>,
-    next: &mut List<State<'t>>,
-) -> Result<(), Memory>
-    ensures { OnOk result ((k : list known) → AddsFrom k (seen holder.entry) next.old next.new (λ ps c. From k (seen holder.entry) (None ∷ ps) state.now c)) }
+// Adds the state after a kid of which nothing is asked, where there are so many kids.
+fn pass<'t>(end: usize, state: &State<'t>, next: &mut List<State<'t>>) -> Result<(), Memory>
+    ensures { OnOk result ((k : list known) (l : Line) → length l.kids ≡ end → AddsFrom k l next.old next.new (λ ps c. From k l (None ∷ ps) state.now c)) }
 {
-    if state.at < count_kids(holder) {
+    if state.at < end {
         put(
             next,
             State {
@@ -159,49 +155,45 @@ fn pass<'t>(
     Ok(())
 }
 
-/// Where a kid of which nothing is asked leads from these states.
+/// Where a kid of which nothing is asked leads from these states, where there are so many kids.
 pub fn skip<'t>(
     alloc: Global,
-    holder: Spot<'_, 't>,
+    end: usize,
     states: &List<State<'t>>,
 ) -> Result<List<State<'t>>, Memory>
-    ensures { IfOk result (λ next. (k : list known) → Steps k (seen holder.entry) None states.now next) }
+    ensures { IfOk result (λ next. (k : list known) (l : Line) → length l.kids ≡ end → Steps k l None states.now next) }
 {
     let mut next = List::new(alloc);
     for state in states.as_slice() {
-        pass(holder, state, &mut next)?;
+        pass(end, state, &mut next)?;
     }
     Ok(next)
 }
 
 // Adds the binding of the state, where it may end here.
-fn finish_one<'t>(
-    holder: Spot<'_, 't>,
-    state: &State<'t>,
-    out: &mut List<Trail<'t>>,
-) -> Result<(), Memory>
-    ensures { OnOk result ((k : list known) → Adds out.old out.new (λ c. From k (seen holder.entry) [] state.now ([], c))) }
+fn finish_one<'t>(end: usize, state: &State<'t>, out: &mut List<Trail<'t>>) -> Result<(), Memory>
+    ensures { OnOk result ((k : list known) (l : Line) → length l.kids ≡ end → Adds out.old out.new (λ c. From k l [] state.now ([], c))) }
 {
     if state.floating {
         put_trail(out, state.trail.copy()?)?;
         return Ok(());
     }
-    if count_kids(holder) <= state.at {
+    if end <= state.at {
         put_trail(out, state.trail.copy()?)?;
     }
     Ok(())
 }
 
-/// Adds the bindings of the states that may end here.
+/// Adds the bindings of the states that may end where there are so many kids.
 pub fn finish<'t>(
-    holder: Spot<'_, 't>,
+    end: usize,
     states: &List<State<'t>>,
     out: &mut List<Trail<'t>>,
 ) -> Result<(), Memory>
-    ensures { OnOk result ((k : list known) → Adds out.old out.new (λ c. AnyFrom k (seen holder.entry) [] states.now ([], c))) }
+    ensures { OnOk result ((k : list known) (l : Line) → length l.kids ≡ end → Adds out.old out.new (λ c. AnyFrom k l [] states.now ([], c))) }
 {
     for state in states.as_slice() {
-        finish_one(holder, state, out)?;
+        finish_one(end, state, out)?;
     }
     Ok(())
 }
@@ -264,7 +256,7 @@ fn run_at<'t>(
     states: &mut List<State<'t>>,
 ) -> Result<(), Memory>
     requires { at + size ≤ length (kids_at (seen holder)) }
-    ensures { OnOk result ((k : list known) → AddsFrom k (seen holder.entry) states.old states.new (λ ps c. RunOf k size (seen holder.entry) pattern.now ps (drop at (kids_at (seen holder.entry))) trail.now c)) }
+    ensures { OnOk result ((k : list known) → AddsFrom k (line_of (seen holder.entry)) states.old states.new (λ ps c. RunOf k size (seen holder.entry) pattern.now ps (drop at (kids_at (seen holder.entry))) trail.now c)) }
 {
     let run = part_of(holder.node.kids.as_slice(), at, size);
     if let Some(trail) = bound_run(holder.node, pattern.text.as_str(), run, trail)? {
@@ -289,7 +281,7 @@ pub fn runs_at<'t>(
     states: &mut List<State<'t>>,
 ) -> Result<(), Memory>
     requires { at ≤ length (kids_at (seen holder)) }
-    ensures { OnOk result ((k : list known) → AddsFrom k (seen holder.entry) states.old states.new (λ ps c. Runs k 0 (seen holder.entry) pattern.now ps (drop at (kids_at (seen holder.entry))) trail.now c)) }
+    ensures { OnOk result ((k : list known) → AddsFrom k (line_of (seen holder.entry)) states.old states.new (λ ps c. Runs k 0 (seen holder.entry) pattern.now ps (drop at (kids_at (seen holder.entry))) trail.now c)) }
 {
     let most = count_kids(holder) - at;
     for size in 0..most {
@@ -316,7 +308,7 @@ pub fn runs<'t>(
     next: &mut List<State<'t>>,
 ) -> Result<(), Memory>
     requires { role (kind_of pattern.now) ≡ MetaDots }
-    ensures { OnOk result ((k : list known) → AddsFrom k (seen holder.entry) next.old next.new (λ ps c. From k (seen holder.entry) (Some pattern.now ∷ ps) state.now c)) }
+    ensures { OnOk result ((k : list known) → AddsFrom k (line_of (seen holder.entry)) next.old next.new (λ ps c. From k (line_of (seen holder.entry)) (Some pattern.now ∷ ps) state.now c)) }
 {
     let end = count_kids(holder);
     let start = place(holder, state.at);

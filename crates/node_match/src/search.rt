@@ -1,51 +1,54 @@
 //! The search for the bindings that a pattern may take a binding to.
 
-ghost use Rattle.std.specs.Prelude.{◌≡◌, ◌↔◌, ◌<◌, ◌≤◌, ◌+◌, ◌∷◌, length, drop, slice_index_or, OnOk, IfOk, Some};
+ghost use Rattle.std.specs.Prelude.{List as list, ◌≡◌, ◌↔◌, ◌<◌, ◌≤◌, ◌+◌, ◌∷◌, length, drop, slice_index_or, OnOk, IfOk, Some, true, false};
 ghost use Rattle.node_tree.specs.declared.node.Node.{Node as node};
 ghost use Rattle.node_tree.specs.Tree.{kids_of, kind_of};
-ghost use Rattle.node_tree.specs.Numbers.{kids_at};
+ghost use Rattle.node_tree.specs.Numbers.{Numbered as numbered, kids_at};
 ghost use Rattle.node_pool.specs.Spots.{seen};
 ghost use Rattle.node_match.specs.Sets.{Adds, AddsUpTo};
 ghost use Rattle.node_match.specs.Kinds.{role_of as role, IsOne};
 ghost use Rattle.node_match.specs.Free.{parts_of};
-ghost use Rattle.node_match.specs.Relation.{Matches, MatchesKids};
+ghost use Rattle.node_match.specs.Relation.{Matches, MatchesKids, MatchesKid, MatchesArguments};
 ghost use Rattle.node_match.specs.Fronts.{End};
-ghost use Rattle.node_match.specs.States.{AnyFrom, AddsFrom, From, Heads};
+ghost use Rattle.node_match.specs.States.{line_of, AnyFrom, AddsFrom, From, Heads, Steps};
 ghost use Rattle.node_match.specs.Choices.{untaken, Chosen, Picked, TakesAt};
-ghost use Rattle.node_match.specs.Orders.{order_of as order};
+ghost use Rattle.node_match.specs.Orders.{order_of as order, is_run, has_dots as dots_in, has_runs, unnamed_of, named_at, all_asked};
 ghost use Rattle.node_match.specs.declared.order.Order.TheVariants.{Fixed, Any};
-ghost use Rattle.node_match.specs.declared.class.Role.TheVariants.{Meta, Deep, StrAny};
+ghost use Rattle.node_match.specs.declared.class.Role.TheVariants.{Meta, MetaDots, Deep, StrAny};
 ghost use Rattle.node_match.specs.Holding.{Same, Held};
-ghost use Rattle.node_match.specs.Kids.{AreKids};
+ghost use Rattle.node_match.specs.Kids.{AreKids, line};
 ghost use Rattle.node_pool.specs.Spots.{all_seen};
 
-use crate::asked::{has_dots, is_dots, order_of};
+use crate::asked::{chooses, has_dots, is_arguments, is_named, order_of};
 use crate::choice::Choice;
 use crate::class::{Role, is_alike, is_string, is_wild, role_of};
+use crate::constants::Constants;
 use crate::free::is_free;
 use crate::holder::Holder;
 use crate::known::{holds_same, holds_string};
 use crate::list::{bound_run, enter, finish, float, put_trail, runs, skip, start};
+use crate::named::kids_that;
 use crate::order::Order;
 use crate::refusal::{LOOK, are_kids_refused};
 use crate::state::State;
+use crate::steady::{are_steady, is_settled};
 use crate::taken::{mark, settle};
 use meta_bind::Trail;
 use node_pool::Spot;
-use node_tree::{Known, List, Memory, Node};
+use node_tree::{Kind, List, Memory, Node};
 use std::alloc::Global;
 use std::slice;
 
 // Adds what a metavariable takes the binding to.
 fn meta<'t>(
-    known: &[Known],
+    known: Constants<'_>,
     pattern: &'t Node,
     spot: Spot<'_, 't>,
     trail: &Trail<'t>,
     out: &mut List<Trail<'t>>,
 ) -> Result<(), Memory>
     requires { role (kind_of pattern.now) ≡ Meta }
-    ensures { OnOk result (Adds out.old out.new (λ c. Matches known.now pattern.now (seen spot.entry) trail.now c)) }
+    ensures { OnOk result (Adds out.old out.new (λ c. Matches known.entry.names.now pattern.now (seen spot.entry) trail.now c)) }
 {
     if !spot.node.kind.is_term() {
         return Ok(());
@@ -69,13 +72,13 @@ fn meta<'t>(
 #[cycle(search)]
 pub fn relate<'t>(
     alloc: Global,
-    known: &[Known],
+    known: Constants<'_>,
     pattern: &'t Node,
     spot: Spot<'_, 't>,
     trail: &Trail<'t>,
     out: &mut List<Trail<'t>>,
 ) -> Result<(), Memory>
-    ensures { OnOk result (Adds out.old out.new (λ c. Matches known.now pattern.now (seen spot.entry) trail.now c)) }
+    ensures { OnOk result (Adds out.old out.new (λ c. Matches known.entry.names.now pattern.now (seen spot.entry) trail.now c)) }
 {
     match role_of(pattern.kind) {
         Role::Plain => {
@@ -95,13 +98,13 @@ pub fn relate<'t>(
 #[cycle(search)]
 fn same<'t>(
     alloc: Global,
-    known: &[Known],
+    known: Constants<'_>,
     pattern: &'t Node,
     spot: Spot<'_, 't>,
     trail: &Trail<'t>,
     out: &mut List<Trail<'t>>,
 ) -> Result<(), Memory>
-    ensures { OnOk result (Adds out.old out.new (λ c. Same known.now pattern.now (seen spot.entry) trail.now c)) }
+    ensures { OnOk result (Adds out.old out.new (λ c. Same known.entry.names.now pattern.now (seen spot.entry) trail.now c)) }
 {
     if !is_alike(pattern, spot.node) {
         return Ok(());
@@ -121,13 +124,13 @@ fn same<'t>(
 
 // A name that is known to hold the same literal.
 fn held<'t>(
-    known: &[Known],
+    known: Constants<'_>,
     pattern: &Node,
     spot: Spot<'_, 't>,
     trail: &Trail<'t>,
     out: &mut List<Trail<'t>>,
 ) -> Result<(), Memory>
-    ensures { OnOk result (Adds out.old out.new (λ c. Held known.now pattern.now (seen spot.entry) trail.now c)) }
+    ensures { OnOk result (Adds out.old out.new (λ c. Held known.entry.names.now pattern.now (seen spot.entry) trail.now c)) }
 {
     if holds_same(known, pattern, spot) {
         put_trail(out, trail.copy()?)?;
@@ -137,14 +140,14 @@ fn held<'t>(
 
 // Strings, and names that are known to hold one.
 fn any_string<'t>(
-    known: &[Known],
+    known: Constants<'_>,
     pattern: &Node,
     spot: Spot<'_, 't>,
     trail: &Trail<'t>,
     out: &mut List<Trail<'t>>,
 ) -> Result<(), Memory>
     requires { role (kind_of pattern.now) ≡ StrAny }
-    ensures { OnOk result (Adds out.old out.new (λ c. Matches known.now pattern.now (seen spot.entry) trail.now c)) }
+    ensures { OnOk result (Adds out.old out.new (λ c. Matches known.entry.names.now pattern.now (seen spot.entry) trail.now c)) }
 {
     if is_string(spot.node) {
         put_trail(out, trail.copy()?)?;
@@ -160,14 +163,14 @@ fn any_string<'t>(
 #[cycle(search)]
 fn deep<'t>(
     alloc: Global,
-    known: &[Known],
+    known: Constants<'_>,
     pattern: &'t Node,
     spot: Spot<'_, 't>,
     trail: &Trail<'t>,
     out: &mut List<Trail<'t>>,
 ) -> Result<(), Memory>
     requires role { role (kind_of pattern.now) ≡ Deep }
-    ensures { OnOk result (Adds out.old out.new (λ c. Matches known.now pattern.now (seen spot.entry) trail.now c)) }
+    ensures { OnOk result (Adds out.old out.new (λ c. Matches known.entry.names.now pattern.now (seen spot.entry) trail.now c)) }
 {
     if !spot.node.kind.is_expression() {
         return Ok(());
@@ -186,14 +189,14 @@ fn deep<'t>(
 #[cycle(search)]
 fn kids<'t>(
     alloc: Global,
-    known: &[Known],
+    known: Constants<'_>,
     pattern: &'t Node,
     spot: Spot<'_, 't>,
     trail: &Trail<'t>,
     out: &mut List<Trail<'t>>,
 ) -> Result<(), Memory>
     requires fixed { order pattern.now ≡ Fixed }
-    ensures { OnOk result (Adds out.old out.new (λ c. MatchesKids known.now pattern.now (seen spot.entry) trail.now c)) }
+    ensures { OnOk result (Adds out.old out.new (λ c. MatchesKids known.entry.names.now pattern.now (seen spot.entry) trail.now c)) }
 {
     let list = spot.kids(alloc)?;
     let holder = Holder {
@@ -204,7 +207,7 @@ fn kids<'t>(
     for at in 0..pattern.kids.len() {
         states = step_at(alloc, known, pattern, at, holder, &states)?;
     }
-    finish(spot, &states, out)?;
+    finish(list.len(), &states, out)?;
     Ok(())
 }
 
@@ -212,7 +215,7 @@ fn kids<'t>(
 #[cycle(search)]
 pub fn step_at<'t>(
     alloc: Global,
-    known: &[Known],
+    known: Constants<'_>,
     pattern: &'t Node,
     at: usize,
     holder: Holder<'_, '_, 't>,
@@ -220,16 +223,32 @@ pub fn step_at<'t>(
 ) -> Result<List<State<'t>>, Memory>
     requires within { at < length (kids_of pattern.now) }
     requires kin { AreKids holder.kids.now (seen holder.spot) }
-    ensures { IfOk result (λ next. (c : End) → AnyFrom known.now (seen holder.entry.spot) (drop (at + 1) (parts_of pattern.now)) next c ↔ AnyFrom known.now (seen holder.entry.spot) (drop at (parts_of pattern.now)) states.now c) }
+    ensures { IfOk result (λ next. (c : End) → AnyFrom known.entry.names.now (line_of (seen holder.entry.spot)) (drop (at + 1) (parts_of pattern.now)) next c ↔ AnyFrom known.entry.names.now (line_of (seen holder.entry.spot)) (drop at (parts_of pattern.now)) states.now c) }
 {
     let kid = &pattern.kids.as_slice()[at];
     if is_free(pattern.kind, at, kid) {
-        let next = skip(alloc, holder.spot, states)?;
+        let next = skip(alloc, holder.kids.len(), states)?;
         return Ok(next);
     }
+    let next = step(alloc, known, kid, holder, states)?;
+    Ok(next)
+}
+
+// Where one pattern leads from these states.
+#[cycle(search)]
+fn step<'t>(
+    alloc: Global,
+    known: Constants<'_>,
+    pattern: &'t Node,
+    holder: Holder<'_, '_, 't>,
+    states: &List<State<'t>>,
+) -> Result<List<State<'t>>, Memory>
+    requires kin { role (kind_of pattern.now) ≡ MetaDots → AreKids holder.kids.now (seen holder.spot) }
+    ensures { IfOk result (λ next. Steps known.entry.names.now (line holder.entry) (Some pattern.now) states.now next) }
+{
     let mut next = List::new(alloc);
     for state in states.as_slice() {
-        advance(alloc, known, kid, holder, state, &mut next)?;
+        advance(alloc, known, pattern, holder, state, &mut next)?;
     }
     Ok(next)
 }
@@ -238,14 +257,14 @@ pub fn step_at<'t>(
 #[cycle(search)]
 fn advance<'t>(
     alloc: Global,
-    known: &[Known],
+    known: Constants<'_>,
     pattern: &'t Node,
     holder: Holder<'_, '_, 't>,
     state: &State<'t>,
     next: &mut List<State<'t>>,
 ) -> Result<(), Memory>
-    requires kin { AreKids holder.kids.now (seen holder.spot) }
-    ensures { OnOk result (AddsFrom known.now (seen holder.entry.spot) next.old next.new (λ ps c. From known.now (seen holder.entry.spot) (Some pattern.now ∷ ps) state.now c)) }
+    requires kin { role (kind_of pattern.now) ≡ MetaDots → AreKids holder.kids.now (seen holder.spot) }
+    ensures { OnOk result (AddsFrom known.entry.names.now (line holder.entry) next.old next.new (λ ps c. From known.entry.names.now (line holder.entry) (Some pattern.now ∷ ps) state.now c)) }
 {
     match role_of(pattern.kind) {
         Role::Dots => float(next, state.at, &state.trail)?,
@@ -259,15 +278,14 @@ fn advance<'t>(
 #[cycle(search)]
 fn items<'t>(
     alloc: Global,
-    known: &[Known],
+    known: Constants<'_>,
     pattern: &'t Node,
     holder: Holder<'_, '_, 't>,
     state: &State<'t>,
     next: &mut List<State<'t>>,
 ) -> Result<(), Memory>
     requires one { IsOne (role (kind_of pattern.now)) }
-    requires kin { AreKids holder.kids.now (seen holder.spot) }
-    ensures { OnOk result (AddsFrom known.now (seen holder.entry.spot) next.old next.new (λ ps c. From known.now (seen holder.entry.spot) (Some pattern.now ∷ ps) state.now c)) }
+    ensures { OnOk result (AddsFrom known.entry.names.now (line holder.entry) next.old next.new (λ ps c. From known.entry.names.now (line holder.entry) (Some pattern.now ∷ ps) state.now c)) }
 {
     let end = holder.kids.len();
     if state.floating {
@@ -286,7 +304,7 @@ fn items<'t>(
 #[cycle(search)]
 fn item_at<'t>(
     alloc: Global,
-    known: &[Known],
+    known: Constants<'_>,
     pattern: &'t Node,
     holder: Holder<'_, '_, 't>,
     at: usize,
@@ -294,12 +312,119 @@ fn item_at<'t>(
     next: &mut List<State<'t>>,
 ) -> Result<(), Memory>
     requires within { at < length holder.kids.now }
-    requires kin { AreKids holder.kids.now (seen holder.spot) }
-    ensures { OnOk result (AddsFrom known.now (seen holder.entry.spot) next.old next.new (λ ps c. Heads known.now (seen holder.entry.spot) pattern.now ps (drop at (kids_at (seen holder.entry.spot))) trail.now c)) }
+    ensures { OnOk result (AddsFrom known.entry.names.now (line holder.entry) next.old next.new (λ ps c. Heads known.entry.names.now (seen holder.entry.spot) pattern.now ps (drop at (all_seen holder.entry.kids.now)) trail.now c)) }
 {
     let mut found = List::new(alloc);
-    relate(alloc, known, pattern, holder.kids[at], trail, &mut found)?;
+    let kind = holder.spot.node.kind;
+    relate_kid(
+        alloc,
+        known,
+        pattern,
+        kind,
+        holder.kids[at],
+        trail,
+        &mut found,
+    )?;
     enter(next, at + 1, found)?;
+    Ok(())
+}
+
+// Adds the bindings that the pattern may take the binding to at a kid of a holder of that kind.
+#[cycle(search)]
+fn relate_kid<'t>(
+    alloc: Global,
+    known: Constants<'_>,
+    pattern: &'t Node,
+    holder: Kind,
+    spot: Spot<'_, 't>,
+    trail: &Trail<'t>,
+    out: &mut List<Trail<'t>>,
+) -> Result<(), Memory>
+    ensures { OnOk result ((h : numbered) → kind_of h.node ≡ holder → Adds out.old out.new (λ c. MatchesKid known.entry.names.now h pattern.now (seen spot.entry) trail.now c)) }
+{
+    if is_arguments(holder, pattern) {
+        arguments(alloc, known, pattern, spot, trail, out)?;
+        return Ok(());
+    }
+    relate(alloc, known, pattern, spot, trail, out)?;
+    Ok(())
+}
+
+// The arguments of a call: those without a name in order, then those with one by choosing.
+#[cycle(search)]
+fn arguments<'t>(
+    alloc: Global,
+    known: Constants<'_>,
+    pattern: &'t Node,
+    spot: Spot<'_, 't>,
+    trail: &Trail<'t>,
+    out: &mut List<Trail<'t>>,
+) -> Result<(), Memory>
+    requires unrun { has_runs (kids_of pattern.now) ≡ false }
+    ensures { OnOk result (Adds out.old out.new (λ c. MatchesArguments known.entry.names.now pattern.now (seen spot.entry) trail.now c)) }
+{
+    if !is_alike(pattern, spot.node) {
+        return Ok(());
+    }
+    let list = kids_that(alloc, spot, false)?;
+    let holder = Holder {
+        spot,
+        kids: list.as_slice(),
+    };
+    let mut states = start(alloc, trail)?;
+    for kid in pattern.kids.as_slice() {
+        states = step_unnamed(alloc, known, kid, holder, states)?;
+    }
+    let mut found = List::new(alloc);
+    finish(list.len(), &states, &mut found)?;
+    name(alloc, known, pattern, spot, found, out)?;
+    Ok(())
+}
+
+// Where an argument leads from these states, if it has no name.
+#[cycle(search)]
+fn step_unnamed<'t>(
+    alloc: Global,
+    known: Constants<'_>,
+    pattern: &'t Node,
+    holder: Holder<'_, '_, 't>,
+    states: List<State<'t>>,
+) -> Result<List<State<'t>>, Memory>
+    requires unrun { is_run pattern.now ≡ false }
+    ensures { IfOk result (λ next. (ps : list node) (c : End) → AnyFrom known.entry.names.now (line holder.entry) (all_asked (unnamed_of ps)) next c ↔ AnyFrom known.entry.names.now (line holder.entry) (all_asked (unnamed_of (pattern.now ∷ ps))) states.entry c) }
+{
+    if is_named(pattern) {
+        return Ok(states);
+    }
+    let next = step(alloc, known, pattern, holder, &states)?;
+    Ok(next)
+}
+
+// Adds the bindings that the arguments with a name may take one of these bindings to.
+#[cycle(search)]
+fn name<'t>(
+    alloc: Global,
+    known: Constants<'_>,
+    pattern: &'t Node,
+    spot: Spot<'_, 't>,
+    found: List<Trail<'t>>,
+    out: &mut List<Trail<'t>>,
+) -> Result<(), Memory>
+    ensures { OnOk result (Adds out.old out.new (λ c. Picked known.entry.names.now true (dots_in (kids_of pattern.now)) (kids_of pattern.now) (named_at (kids_at (seen spot.entry))) found.entry c)) }
+{
+    let list = kids_that(alloc, spot, true)?;
+    let patterns = pattern.kids.as_slice();
+    let choice = Choice {
+        known,
+        patterns,
+        nodes: list.as_slice(),
+        named: true,
+        loose: has_dots(patterns),
+        most: usize::MAX,
+    };
+    let mut taken = vec![in alloc; false; list.len()]?;
+    go_on(alloc, choice, 0, &mut taken, found, out)?;
+    let _room = out.len();
     Ok(())
 }
 
@@ -308,7 +433,7 @@ fn item_at<'t>(
 #[cycle(search)]
 pub fn choose_kids<'t>(
     alloc: Global,
-    known: &[Known],
+    known: Constants<'_>,
     pattern: &'t Node,
     spot: Spot<'_, 't>,
     trail: &Trail<'t>,
@@ -316,7 +441,7 @@ pub fn choose_kids<'t>(
     out: &mut List<Trail<'t>>,
 ) -> Result<(), Memory>
     requires any { order pattern.now ≡ Any }
-    ensures { OnOk result (AddsUpTo most out.old out.new (λ c. MatchesKids known.now pattern.now (seen spot.entry) trail.now c)) }
+    ensures { OnOk result (AddsUpTo most out.old out.new (λ c. MatchesKids known.entry.names.now pattern.now (seen spot.entry) trail.now c)) }
 {
     let list = spot.kids(alloc)?;
     let patterns = pattern.kids.as_slice();
@@ -324,6 +449,7 @@ pub fn choose_kids<'t>(
         known,
         patterns,
         nodes: list.as_slice(),
+        named: false,
         loose: has_dots(patterns),
         most,
     };
@@ -346,20 +472,24 @@ fn choose<'t>(
     requires size { length taken.old.items ≡ length choice.nodes.now }
     requires within { from ≤ length choice.patterns.now }
     ensures kept { OnOk result (taken.new.items ≡ taken.old.items) }
-    ensures added { OnOk result (AddsUpTo choice.entry.most out.old out.new (λ c. Chosen choice.entry.known.now choice.entry.loose (drop from choice.entry.patterns.now) (untaken taken.old.items (all_seen choice.entry.nodes.now)) trail.now c)) }
+    ensures added { OnOk result (AddsUpTo choice.entry.most out.old out.new (λ c. Chosen choice.entry.known.names.now choice.entry.named choice.entry.loose (drop from choice.entry.patterns.now) (untaken taken.old.items (all_seen choice.entry.nodes.now)) trail.now c)) }
 {
     let patterns = choice.patterns;
     if patterns.len() <= from {
         settle(choice, taken.as_slice(), trail, out)?;
         return Ok(());
     }
-    if is_dots(&patterns[from]) {
+    if !chooses(choice.named, &patterns[from]) {
         choose(alloc, choice, from + 1, taken, trail, out)?;
         return Ok(());
     }
+    let steady = are_steady(patterns, from, trail)?;
     for at in 0..choice.nodes.len() {
         take(alloc, choice, from, at, taken, trail, out)?;
         if out.len() > choice.most {
+            return Ok(());
+        }
+        if is_settled(steady, out.as_slice(), trail) {
             return Ok(());
         }
     }
@@ -381,7 +511,7 @@ fn take<'t>(
     requires part { from < length choice.patterns.now }
     requires within { at < length choice.nodes.now }
     ensures kept { OnOk result (taken.new.items ≡ taken.old.items) }
-    ensures added { OnOk result ((p : node) → p ≡ slice_index_or choice.entry.patterns.now from p → AddsUpTo choice.entry.most out.old out.new (λ c. TakesAt choice.entry.known.now choice.entry.loose at p (drop (from + 1) choice.entry.patterns.now) taken.old.items (all_seen choice.entry.nodes.now) trail.now c)) }
+    ensures added { OnOk result ((p : node) → p ≡ slice_index_or choice.entry.patterns.now from p → AddsUpTo choice.entry.most out.old out.new (λ c. TakesAt choice.entry.known.names.now choice.entry.named choice.entry.loose at p (drop (from + 1) choice.entry.patterns.now) taken.old.items (all_seen choice.entry.nodes.now) trail.now c)) }
 {
     if taken[at] {
         return Ok(());
@@ -415,7 +545,7 @@ fn go_on<'t>(
     requires size { length taken.old.items ≡ length choice.nodes.now }
     requires within { from ≤ length choice.patterns.now }
     ensures kept { OnOk result (taken.new.items ≡ taken.old.items) }
-    ensures added { OnOk result (AddsUpTo choice.entry.most out.old out.new (λ c. Picked choice.entry.known.now choice.entry.loose (drop from choice.entry.patterns.now) (untaken taken.old.items (all_seen choice.entry.nodes.now)) found.entry c)) }
+    ensures added { OnOk result (AddsUpTo choice.entry.most out.old out.new (λ c. Picked choice.entry.known.names.now choice.entry.named choice.entry.loose (drop from choice.entry.patterns.now) (untaken taken.old.items (all_seen choice.entry.nodes.now)) found.entry c)) }
 {
     while let Some(trail) = found.pop() {
         choose(alloc, choice, from, taken, &trail, out)?;

@@ -38,7 +38,7 @@ pub fn settle<'t>(
     out: &mut List<Trail<'t>>,
 ) -> Result<(), Memory>
     requires size { length taken.now ≡ length choice.nodes.now }
-    ensures { OnOk result (Adds out.old out.new (λ c. Chosen choice.entry.known.now choice.entry.loose [] (untaken taken.now (all_seen choice.entry.nodes.now)) trail.now c)) }
+    ensures { OnOk result (Adds out.old out.new (λ c. Chosen choice.entry.known.names.now choice.entry.named choice.entry.loose [] (untaken taken.now (all_seen choice.entry.nodes.now)) trail.now c)) }
 {
     if choice.loose {
         put_trail(out, trail.copy()?)?;

@@ -1,8 +1,10 @@
 -- What a pattern needs stands in each tree that it matches.
 use Rattle.std.proofs.Common.{◌≡◌, ◌⊎◌, inl, inr, ℕ, zero, suc, ◌<◌, List, [], ◌∷◌, ◌++◌, length, take, drop, get_or, arith, refl, sym, ap, ◌∙◌, subst}
-use Rattle.std.specs.Prelude.{None, Some, true, false, filter, Bool, cond, set}
+use Rattle.std.specs.Prelude.{None, Some, true, false, filter, Bool, cond, set, not}
 use Rattle.std.proofs.lemmas.List.Concat.{flat_map-cons}
 use Rattle.node_tree.specs.declared.node.Node.{Node}
+use Rattle.node_tree.specs.declared.kind.Kind.{Kind}
+use Rattle.node_tree.specs.declared.kind.Kind.TheVariants as kinds
 use Rattle.node_tree.specs.declared.view.Shape.{Shape}
 use Rattle.node_tree.specs.declared.view.Shape.TheVariants.{Expr, Run}
 use Rattle.node_tree.specs.Tree.{kind_of, text_of, kids_of, pre_of, pre_all}
@@ -14,11 +16,12 @@ use Rattle.node_match.specs.declared.class.Role.{Role}
 use Rattle.node_match.specs.declared.class.Role.TheVariants as roles
 use Rattle.node_match.specs.Sets.{Among}
 use Rattle.node_match.specs.Kinds.{role_of, IsOne}
-use Rattle.node_match.specs.Free.{Part, parts_of}
-use Rattle.node_match.specs.Relation.{Matches, MatchesKids, in_order, choosing, MatchesList, both_empty, head_and_rest, free_and_rest, dots, named_dots, Holds, held_at, same_node, known_literal, known_string, wildcard, metavariable, some_string, deep}
-use Rattle.node_match.specs.Orders.{is_dots, is_dots_role, asked_of}
+use Rattle.node_match.specs.Free.{Part, parts_of, HasText, IsTextFree}
+use Rattle.node_match.specs.Relation.{Matches, MatchesKids, in_order, choosing, MatchesArguments, MatchesKid, by_itself, as_arguments, MatchesList, both_empty, head_and_rest, free_and_rest, dots, named_dots, Holds, held_at, same_node, known_literal, known_string, wildcard, metavariable, some_string, deep}
+use Rattle.node_match.specs.Orders.{is_dots, is_dots_role, asked_of, is_list, is_named, named_of, unnamed_of, named_at, unnamed_at, all_asked}
 use Rattle.node_match.proofs.Inversion.{plain_cases, Somewhere}
 use Rattle.node_match.proofs.Choosing.{choice_meets, asked_among}
+use Rattle.node_match.proofs.Arguments.{arguments_listed, arguments_alike, arguments_parted, among_named, among_unnamed, among_asked, among_part}
 use Rattle.node_match.proofs.Parts.{part_kid}
 use Rattle.tree_match.proofs.Pres.{pre_nodes}
 use Rattle.node_match.proofs.Numbering.{kids_nodes, among_nodes}
@@ -115,13 +118,25 @@ spot_filter f (x ∷ xs) n h = at (f x) (λ a. spot_filter f xs n a) h
 
 -- ---- matches
 
+-- a pattern matches a node, or the arguments of a call
+abbrev pub Meets : List Known → Node → Numbered → List Bound → List Bound → Type 0
+Meets C q n b c = Matches C q n b c ⊎ ((is_list (kind_of q) ≡ true) × MatchesArguments C q n b c)
+
+kid_meets : (C : List Known) (h : Numbered) (q : Node) (n : Numbered) (b c : List Bound) → MatchesKid C h q n b c → Meets C q n b c
+kid_meets C h q n b c (by_itself _ x) = inl x
+kid_meets C h q n b c (as_arguments are x) = inr (arguments_listed (kind_of h.node) q are, x)
+
+list_plain : (k : Kind) → is_list k ≡ true → role_of k ≡ roles.Plain
+list_plain kinds.List e = refl
+list_plain _ e = absurd (let f : false ≡ true = e in cc)
+
 -- a part that takes one node is met by one of them
 record Met (C : List Known) (q : Node) (ns : List Numbered) : Type 0 where
   node : Numbered
   among : Among ns node
   before : List Bound
   after : List Bound
-  matches : Matches C q node before after
+  matches : Meets C q node before after
 
 met_in : (C : List Known) (q : Node) (ms ns : List Numbered) → ((n : Numbered) → Among ms n → Among ns n) → Met C q ms → Met C q ns
 met_in C q ms ns part x = record { node = x.node; among = part x.node x.among; before = x.before; after = x.after; matches = x.matches }
@@ -143,9 +158,9 @@ not_one p q r e role isnt one =
 part_met : (C : List Known) (h : Numbered) (q : Node) (ps : List Part) (ns : List Numbered) (b c : List Bound) → IsOne (role_of (kind_of q)) → Among ps (Some q) → MatchesList C h ps ns b c → Met C q ns
 part_met C h q _ _ b _ one a both_empty = absurd a
 part_met C h q (Some p ∷ ps) (n ∷ ns) b c one (inl e) (head_and_rest {c = d} x y) =
-    let P : Node → Type 0 = λ z. Matches C z n b d in
+    let P : Node → Type 0 = λ z. Meets C z n b d in
     let f : p ≡ q = cc in
-    record { node = n; among = inl refl; before = b; after = d; matches = subst P f x }
+    record { node = n; among = inl refl; before = b; after = d; matches = subst P f (kid_meets C h p n b d x) }
 part_met C h q (Some p ∷ ps) (n ∷ ns) b c one (inr a) (head_and_rest x y) = met_next C q n ns (part_met C h q ps ns _ c one a y)
 part_met C h q (None ∷ ps) (n ∷ ns) b c one (inl e) (free_and_rest y) = absurd cc
 part_met C h q (None ∷ ps) (n ∷ ns) b c one (inr a) (free_and_rest y) = met_next C q n ns (part_met C h q ps ns b c one a y)
@@ -169,7 +184,21 @@ kids_met : (C : List Known) (p : Node) (n : Numbered) (q : Node) (b c : List Bou
 kids_met C p n q b c one a (in_order _ x) = part_met C n q (parts_of p) (kids_at n) b c one a x
 kids_met C p n q b c one a (choosing {rest = rest} _ _ x) =
     let (m, among, d, e, y) = choice_meets C q (asked_of (kids_of p)) (kids_at n) rest b c (asked_among (kids_of p) q (one_asks q one) (part_kid p q a)) x in
-    record { node = m; among = among; before = d; after = e; matches = y }
+    record { node = m; among = among; before = d; after = e; matches = inl y }
+
+-- the same of the arguments of a call
+arguments_met : (C : List Known) (p : Node) (n : Numbered) (q : Node) (b c : List Bound) → IsOne (role_of (kind_of q)) → Among (kids_of p) q → MatchesArguments C p n b c → Met C q (kids_at n)
+arguments_met C p n q b c one a x = by (is_named q) refl
+  where
+    by : (t : Bool) → is_named q ≡ t → Met C q (kids_at n)
+    by true so =
+        let (d, y, (rest, ends, z)) = arguments_parted C p n b c x in
+        let (m, among, e, g, w) = choice_meets C q (named_of (kids_of p)) (named_at (kids_at n)) rest d c (among_named (kids_of p) q so a) z in
+        record { node = m; among = among_part (λ (k : Numbered). is_named k.node) (kids_at n) m among; before = e; after = g; matches = inl w }
+    by false none =
+        let (d, y, z) = arguments_parted C p n b c x in
+        met_in C q (unnamed_at (kids_at n)) (kids_at n) (λ m h. among_part (λ (k : Numbered). not (is_named k.node)) (kids_at n) m h)
+        (part_met C n q (all_asked (unnamed_of (kids_of p))) (unnamed_at (kids_at n)) b d one (among_asked (unnamed_of (kids_of p)) q (among_unnamed (kids_of p) q none a)) y)
 
 module _ (fixed : Bool) where
   needs_one : (q : Node) (w : Word) → Needs fixed q w → IsOne (role_of (kind_of q))
@@ -198,30 +227,42 @@ deep_cases C p n b role q one _ (some_string r _) = absurd (let e = sym role ∙
 deep_cases C p n b role q one _ (known_string _ r _ _) = absurd (let e = sym role ∙ r in cc)
 deep_cases C p n b role q one c (deep q' m _ is _ among x) = let e : q' ≡ q = (let f = sym is ∙ one in cc) in let P : Node → Type 0 = λ y. Matches C y m b c in (m, among, subst P e x)
 
+word_here : (p : Node) (n : Numbered) → (IsTextFree p → ⊥) → kind_of p ≡ kind_of n.node → HasText p n.node → Has (pre_of n.node) (word_of p)
+word_here p n text kinds texts = elim texts [ inl e ↦ (n.node, self_in n.node, words_are p n.node kinds e) | inr f ↦ absurd (text f) ]
+
 module _ (C : List Known) (fixed : Bool) (none : fixed ≡ true → C ≡ []) where
-  pub needed : (p : Node) (w : Word) → Needs fixed p w → (n : Numbered) (b c : List Bound) → Matches C p n b c → Has (pre_of n.node) w
-  needed p _ (own role text literal) n b c x =
+  pub met_needs : (p : Node) (w : Word) → Needs fixed p w → (n : Numbered) (b c : List Bound) → Meets C p n b c → Has (pre_of n.node) w
+  met_needs p _ (own role text literal) n b c (inl x) =
       elim (plain_cases C p n b role c x) [
-        | inl (kinds, texts, y) ↦ elim texts [ inl e ↦ (n.node, self_in n.node, words_are p n.node kinds e) | inr f ↦ absurd (text f) ]
+        | inl (kinds, texts, y) ↦ word_here p n text kinds texts
         | inr ((l, is, h, e), _) ↦ absurd (nothing_held C n l (none (literal is)) h)
       ]
-  needed p w (below {q = q} role literal a x) n b c y =
+  met_needs p _ (own role text literal) n b c (inr (_, x)) = let alike = arguments_alike C p n b c x in word_here p n text alike.0 alike.1
+  met_needs p w (below {q = q} role literal a x) n b c (inl y) =
       elim (plain_cases C p n b role c y) [
         | inl (kinds, texts, z) ↦ (let met = kids_met C p n q b c (needs_one fixed q w x) a z in
-            let k = needed q w x met.node met.before met.after met.matches in
+            let k = met_needs q w x met.node met.before met.after met.matches in
             (k.0, in_kid n.node met.node.node k.0 (among_kids n met.node met.among) k.1, k.2))
         | inr ((l, is, h, e), _) ↦ absurd (literal is)
       ]
-  needed p w (inside {q = q} role one x) n b c y =
+  met_needs p w (below {q = q} role literal a x) n b c (inr (_, y)) =
+      let met = arguments_met C p n q b c (needs_one fixed q w x) (part_kid p q a) y in
+      let k = met_needs q w x met.node met.before met.after met.matches in
+      (k.0, in_kid n.node met.node.node k.0 (among_kids n met.node met.among) k.1, k.2)
+  met_needs p w (inside {q = q} role one x) n b c (inl y) =
       let (m, among, z) = (deep_cases C p n b role q one c y) in
-      has_in n.node m.node w (among_pre n m among) (needed q w x m b c z)
+      has_in n.node m.node w (among_pre n m among) (met_needs q w x m b c (inl z))
+  met_needs p w (inside {q = q} role one x) n b c (inr (listed, y)) = absurd (let e : roles.Plain ≡ roles.Deep = sym (list_plain (kind_of p) listed) ∙ role in cc)
+
+  pub needed : (p : Node) (w : Word) → Needs fixed p w → (n : Numbered) (b c : List Bound) → Matches C p n b c → Has (pre_of n.node) w
+  needed p w needs n b c x = met_needs p w needs n b c (inl x)
 
   -- a tree with a member has each word that the pattern needs
   pub member_needs : (shape : Shape) (p tree : Node) (w : Word) (m : Member) → NeedsOf fixed shape p w → MemberOf C shape p tree m → Has (pre_of tree) w
   member_needs Expr p tree w m needs (n, among, (stands, range, x)) = has_in tree n.node w (among_pre (root_of tree) n among) (needed p w needs n [] m.1 x)
   member_needs Run p tree w m (q, part, needs) (h, among, r) =
       let met = part_met C h q (parts_of p) (kids_between h r.from r.end) [] m.1 (needs_one fixed q w needs) part r.matches in
-      let k = needed q w needs met.node met.before met.after met.matches in
+      let k = met_needs q w needs met.node met.before met.after met.matches in
       let kid = spot_drop r.from (kids_at h) met.node (spot_take _ (drop r.from (kids_at h)) met.node met.among) in
       let block = among_pre (root_of tree) h (spot_filter (λ (z : Numbered). is_block (kind_of z.node)) (pre_at (root_of tree)) h among) in
       (k.0, in_below tree h.node k.0 block (in_kid h.node met.node.node k.0 (among_kids h met.node kid) k.1), k.2)

@@ -1,5 +1,5 @@
 -- The members of a pattern stand at places of the file's text.
-use Rattle.std.proofs.Common.{◌≡◌, ℕ, suc, List, [], ◌∷◌, ◌++◌, ◌⊎◌, inl, inr, ◌-◌, take, drop, map, refl, sym, subst, Bool, true, false, cond}
+use Rattle.std.proofs.Common.{◌≡◌, ℕ, suc, List, [], ◌∷◌, ◌++◌, ◌⊎◌, inl, inr, ◌-◌, take, drop, map, refl, sym, subst, Bool, true, false, cond, not}
 use Rattle.std.specs.Prelude.{remove, All, None, Some, Result, Ok, Err, IfOk}
 use Rattle.std.specs.Ordering.{is_lt}
 use Rattle.std.specs.Str.{IsCharBoundary}
@@ -23,8 +23,8 @@ use Rattle.tree_match.specs.declared.leaf.Leaf.{Leaf}
 use Rattle.tree_match.specs.declared.leaf.Leaf.TheVariants.{Full, Crowded}
 use Rattle.node_match.specs.Sets.{Among}
 use Rattle.node_match.specs.Free.{Part, parts_of}
-use Rattle.node_match.specs.Orders.{asked_of}
-use Rattle.node_match.specs.Relation.{end_of, run_span, bound_by, Binds, fresh, again, Matches, same_node, known_literal, known_string, wildcard, metavariable, some_string, deep, nodes_of, MatchesKids, in_order, choosing, MatchesChoice, no_choice, choice, MatchesList, both_empty, head_and_rest, free_and_rest, dots, named_dots}
+use Rattle.node_match.specs.Orders.{asked_of, is_named, named_of, unnamed_of, named_at, unnamed_at, all_asked}
+use Rattle.node_match.specs.Relation.{end_of, run_span, bound_by, Binds, fresh, again, Matches, same_node, known_literal, known_string, wildcard, metavariable, some_string, deep, nodes_of, MatchesKids, in_order, choosing, MatchesArguments, arguments, MatchesKid, by_itself, as_arguments, MatchesChoice, no_choice, choice, MatchesList, both_empty, head_and_rest, free_and_rest, dots, named_dots}
 use Rattle.node_tree.specs.Numbers.{root_of}
 use Rattle.tree_match.specs.Members.{Member, MemberAt, MemberRun, MemberOf, IsMember, KnownTree, kids_between, range_of, blocks_at, known_to}
 use Rattle.node_tree.specs.declared.known.Known.{Known}
@@ -181,10 +181,20 @@ module _ (text : List ℕ) where
         choice_bound C ps (remove ns k) rest d c y (All-append LiesAt (take k ns) (drop (suc k) ns) (All-take LiesAt k ns kids) (All-drop LiesAt (suc k) ns kids))
         (one_bound C p n b d x (all_among LiesAt ns n kids (among_at ns k n lt is)) all)
 
+    kid_bound : (C : List Known) (h : Numbered) (p : Node) (n : Numbered) (b c : List Bound) → MatchesKid C h p n b c → Lies n.node → AreBound b → AreBound c
+    kid_bound C h p n b c (by_itself _ x) lies all = one_bound C p n b c x lies all
+    kid_bound C h p n b c (as_arguments _ x) lies all = arguments_bound C p n b c x lies all
+
+    arguments_bound : (C : List Known) (p : Node) (n : Numbered) (b d : List Bound) → MatchesArguments C p n b d → Lies n.node → AreBound b → AreBound d
+    arguments_bound C p n b d (arguments {rest = rest} {c = c} _ _ x _ y) lies all =
+        let kids = kids_lie_at n lies in
+        choice_bound C (named_of (kids_of p)) (named_at (kids_at n)) rest c d y (All-filter (λ (k : Numbered). is_named k.node) LiesAt (kids_at n) kids)
+        (list_bound C n (all_asked (unnamed_of (kids_of p))) (unnamed_at (kids_at n)) b c x lies (All-filter (λ (k : Numbered). not (is_named k.node)) LiesAt (kids_at n) kids) all)
+
     list_bound : (C : List Known) (h : Numbered) (ps : List Part) (ns : List Numbered) (b c : List Bound) → MatchesList C h ps ns b c → Lies h.node → All LiesAt ns → AreBound b → AreBound c
     list_bound C h _ _ b _ both_empty lies kids all = all
     list_bound C h (Some p ∷ ps) (n ∷ ns) b c (head_and_rest {c = d} x y) lies kids all =
-        list_bound C h ps ns d c y lies (All-tail LiesAt n ns kids) (one_bound C p n b d x (All-head LiesAt n ns kids) all)
+        list_bound C h ps ns d c y lies (All-tail LiesAt n ns kids) (kid_bound C h p n b d x (All-head LiesAt n ns kids) all)
     list_bound C h (None ∷ ps) (n ∷ ns) b c (free_and_rest y) lies kids all = list_bound C h ps ns b c y lies (All-tail LiesAt n ns kids) all
     list_bound C h (Some p ∷ ps) ns b c (dots k r y) lies kids all = list_bound C h ps (drop k ns) b c y lies (All-drop LiesAt k ns kids) all
     list_bound C h (Some p ∷ ps) ns b c (named_dots {c = d} k r x y) lies kids all =

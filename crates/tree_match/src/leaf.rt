@@ -14,14 +14,14 @@ ghost use Rattle.tree_match.specs.Leaf.{IsFound};
 use crate::expression::add_node;
 use crate::run::add_block;
 use meta_bind::{Binding, Trail};
-use node_match::{Role, role_of};
+use node_match::{Constants, Role, role_of};
 use node_pool::Spot;
-use node_tree::{Kind, Known, List, Memory, Node, Shape, Span, Twin};
+use node_tree::{Kind, List, Memory, Node, Shape, Span, Twin};
 use std::alloc::Global;
 use std::marker::Model;
 
-// The most members of a set.
-const MOST: usize = 10000;
+/// The most members of a set.
+pub const MOST: usize = 10000;
 
 /// The members of a set: ranges, each with what the metavariables stand for there. They stand in order of range, then of
 /// binding (the names with their spans, then the contents), each once.
@@ -51,6 +51,35 @@ impl Model for LeafSet {
 }
 
 impl LeafSet {
+    /// The set of these members, which takes no memory.
+    pub fn of(members: List<(Span, Binding)>) -> LeafSet
+        requires { IsAscending member_cmp members }
+        ensures { result ≡ members }
+    {
+        LeafSet { members }
+    }
+
+    /// The members in order.
+    pub fn members(&self) -> &[(Span, Binding)]
+        ensures members { result.now ≡ self.now }
+        ensures ordered { IsAscending member_cmp self.now }
+    {
+        self.members.as_slice()
+    }
+
+    /// The members in order, taken over.
+    pub fn into_members(self) -> List<(Span, Binding)>
+        ensures members { result ≡ self }
+        ensures ordered { IsAscending member_cmp self }
+    {
+        self.members
+    }
+
+    /// Where the set takes its memory.
+    pub fn alloc(&self) -> Global {
+        self.members.alloc()
+    }
+
     // The set without members, which takes no memory.
     pub fn empty(alloc: Global) -> LeafSet
         ensures { result ≡ [] }
@@ -104,14 +133,14 @@ impl Twin for Leaf {
 /// The members with borrowed bindings, or none where there are more than 10,000. The kinds are those of the nodes.
 pub fn members_of<'t>(
     alloc: Global,
-    known: &[Known],
+    known: Constants<'_>,
     shape: Shape,
     pattern: &'t Node,
     root: Spot<'_, 't>,
     kinds: &[u8],
 ) -> Result<Option<List<(Span, Trail<'t>)>>, Memory>
     requires { kinds.now ≡ kinds_at (seen root) }
-    ensures { IfOk result (λ found. IsFound (MemberUnder known.now shape pattern.now (seen root.entry)) found) }
+    ensures { IfOk result (λ found. IsFound (MemberUnder known.entry.names.now shape pattern.now (seen root.entry)) found) }
 {
     match shape {
         Shape::Expr => members_of_kinds(alloc, known, pattern, root, kinds),
@@ -122,13 +151,13 @@ pub fn members_of<'t>(
 // The same for an expression's pattern.
 fn members_of_kinds<'t>(
     alloc: Global,
-    known: &[Known],
+    known: Constants<'_>,
     pattern: &'t Node,
     root: Spot<'_, 't>,
     kinds: &[u8],
 ) -> Result<Option<List<(Span, Trail<'t>)>>, Memory>
     requires { kinds.now ≡ kinds_at (seen root) }
-    ensures { IfOk result (λ found. IsFound (MemberIn (MemberAt known.now pattern.now) (pre_at (seen root.entry))) found) }
+    ensures { IfOk result (λ found. IsFound (MemberIn (MemberAt known.entry.names.now pattern.now) (pre_at (seen root.entry))) found) }
 {
     let mut members = List::new(alloc);
     for further in 0..root.size() {
@@ -144,7 +173,7 @@ fn members_of_kinds<'t>(
 // Adds the members at the node so far on, which has that kind.
 fn add_begun_at<'t>(
     alloc: Global,
-    known: &[Known],
+    known: Constants<'_>,
     pattern: &'t Node,
     root: Spot<'_, 't>,
     further: u32,
@@ -155,7 +184,7 @@ fn add_begun_at<'t>(
     requires kind { kind ≡ slice_index (kinds_at (seen root)) further }
     requires ascend { IsAscending member_cmp members.old }
     ensures ordered { IsAscending member_cmp members.new }
-    ensures added { OnOk result ((s : Numbered) → s ≡ slice_index_or (pre_at (seen root.entry)) further s → AddsUpTo 10000 members.old members.new (λ m. MemberAt known.now pattern.now s m)) }
+    ensures added { OnOk result ((s : Numbered) → s ≡ slice_index_or (pre_at (seen root.entry)) further s → AddsUpTo 10000 members.old members.new (λ m. MemberAt known.entry.names.now pattern.now s m)) }
 {
     if is_elsewhere(pattern, kind) {
         return Ok(());
@@ -191,11 +220,11 @@ pub fn kinds_of(alloc: Global, root: Spot<'_, '_>) -> Result<Vec<u8>, Memory>
 // The same for a run's pattern.
 fn members_in_blocks<'t>(
     alloc: Global,
-    known: &[Known],
+    known: Constants<'_>,
     pattern: &'t Node,
     root: Spot<'_, 't>,
 ) -> Result<Option<List<(Span, Trail<'t>)>>, Memory>
-    ensures { IfOk result (λ found. IsFound (MemberIn (MemberRun known.now pattern.now) (blocks_at (seen root.entry))) found) }
+    ensures { IfOk result (λ found. IsFound (MemberIn (MemberRun known.entry.names.now pattern.now) (blocks_at (seen root.entry))) found) }
 {
     let mut members = List::new(alloc);
     for further in 0..root.size() {
@@ -210,14 +239,14 @@ fn members_in_blocks<'t>(
 // Adds the members in this node, where it is a block.
 fn add_run_at<'t>(
     alloc: Global,
-    known: &[Known],
+    known: Constants<'_>,
     pattern: &'t Node,
     spot: Spot<'_, 't>,
     members: &mut List<(Span, Trail<'t>)>,
 ) -> Result<(), Memory>
     requires { IsAscending member_cmp members.old }
     ensures ordered { IsAscending member_cmp members.new }
-    ensures added { OnOk result (AddsUpTo 10000 members.old members.new (λ m. MemberIn (MemberRun known.now pattern.now) (those_blocks (seen spot.entry ∷ [])) m)) }
+    ensures added { OnOk result (AddsUpTo 10000 members.old members.new (λ m. MemberIn (MemberRun known.entry.names.now pattern.now) (those_blocks (seen spot.entry ∷ [])) m)) }
 {
     if !holds_statements(spot.node.kind) {
         return Ok(());

@@ -1,6 +1,14 @@
-use Rattle.std.proofs.Common.{◌≡◌, drop}
-use Rattle.node_match.specs.Relation.{held_at}
+use Rattle.std.proofs.Common.{◌≤◌, ◌-◌, length}
+use Rattle.node_match.proofs.Halving.{AreBefore, AreAfter}
 use Rattle.node_match.proofs.known.held_at.Given as goal
 
-abbrev pub invariant-loop-one : goal.invariant-loop-one
-invariant-loop-one l = held_at (drop l.one-index l.known) l.at ≡ held_at l.known l.at
+abbrev pub decreases-loop-low : goal.decreases-loop-low
+decreases-loop-low l = l.high - l.low
+
+abbrev pub invariant-loop-low : goal.invariant-loop-low
+invariant-loop-low l = record {
+  ordered : l.low ≤ l.high;
+  within : l.high ≤ length l.names;
+  before : AreBefore l.names l.low l.at;
+  after : AreAfter l.names l.high l.at;
+}

@@ -4,7 +4,6 @@ use Rattle.node_match.specs.declared.state.State.{State}
 use Rattle.node_match.specs.States.{AnyFrom, Goes, IsCovered}
 use Rattle.node_match.proofs.Steps.{put_from, covered}
 use Rattle.node_match.proofs.list.float.Goals as goal
-use Rattle.node_tree.specs.Numbers.{kids_at}
 
 pub returns-then-is_covered : goal.returns-then-is_covered
 returns-then-is_covered c k h ps b =
@@ -13,5 +12,5 @@ returns-then-is_covered c k h ps b =
 
 pub returns : goal.returns
 returns c k h ps b =
-    let P : List Bound → Type 0 = λ t. AnyFrom k h ps c.put.new.states b ↔ (AnyFrom k h ps c.args.states.now b ⊎ Goes k true h ps (drop c.args.at (kids_at h)) t b) in
+    let P : List Bound → Type 0 = λ t. AnyFrom k h ps c.put.new.states b ↔ (AnyFrom k h ps c.args.states.now b ⊎ Goes k true h.holder ps (drop c.args.at h.kids) t b) in
     subst P c.in_ok-copy.ensures (put_from k h _ _ _ c.in_ok-put.ensures ps b)

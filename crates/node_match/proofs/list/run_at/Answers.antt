@@ -4,6 +4,7 @@ use Rattle.node_tree.specs.declared.node.Node.{Node}
 use Rattle.node_match.proofs.Sets.{plus_as, plus_none}
 use Rattle.node_match.proofs.Steps.{put_from, run_of, binds_at}
 use Rattle.node_match.proofs.Numbering.{run_nodes, kids_many}
+use Rattle.node_match.specs.States.{line_of}
 use Rattle.node_match.proofs.list.run_at.Goals as goal
 use Rattle.node_tree.specs.Numbers.{kids_at}
 use Rattle.node_pool.specs.Spots.{seen}
@@ -12,7 +13,7 @@ pub returns-in_ok-put : goal.returns-in_ok-put
 returns-in_ok-put c k ps b =
     let h = seen c.args.holder in
     let run = c.part_of-run.ensures ∙ ap (λ (xs : List Node). take c.args.size (drop c.args.at xs)) c.as_slice.ensures ∙ sym (run_nodes h c.args.size c.args.at) in
-    plus_as _ _ _ _ (put_from k (seen c.args.holder) _ _ _ c.in_ok-put.ensures ps b)
+    plus_as _ _ _ _ (put_from k (line_of (seen c.args.holder)) _ _ _ c.in_ok-put.ensures ps b)
     (run_of k (seen c.args.holder) c.args.pattern.now ps (drop c.args.at (kids_at (seen c.args.holder))) _ c.args.size c.args.trail.now c.in-Some.trail b
     (binds_at h.node _ _ _ _ c.args.trail.now _ _ c.as_str.ensures run c.in-Some.is c.in_ok-trail.ensures)
     (sym (drop-drop c.args.size c.args.at (kids_at (seen c.args.holder)))))

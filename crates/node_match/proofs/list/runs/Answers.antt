@@ -4,6 +4,7 @@ use Rattle.node_match.proofs.Sets.{gathered, plus_as, chain}
 use Rattle.node_match.proofs.Inversion.{after_run, goes_more, goes_last}
 use Rattle.std.proofs.lemmas.List.{drop_all}
 use Rattle.node_match.proofs.Steps.{floating_from, staying_from, goes_at}
+use Rattle.node_match.specs.States.{line_of}
 use Rattle.node_match.proofs.list.runs.Goals as goal
 use Rattle.node_tree.specs.Numbers.{kids_at}
 use Rattle.node_pool.specs.Spots.{seen}
@@ -24,11 +25,11 @@ returns-then-state c k ps b =
     (goes_last k h (Some c.args.pattern.now ∷ ps) ns trail b c.count_kids-end.result (omega (arith, c.count_kids-end.ensures))))
     (goes_at k h (Some c.args.pattern.now ∷ ps) _ _ trail b past) in
     let all = chain _ _ _ (plus_as _ _ _ _ (c.in_ok-runs_at-2.ensures k ps b) last) (c.loop-at.invariant k ps b) in
-    plus_as _ _ _ _ all (floating_from k h (Some c.args.pattern.now ∷ ps) c.args.state.now c.place-start.result b c.if-state.true c.place-start.ensures.same)
+    plus_as _ _ _ _ all (floating_from k (line_of h) (Some c.args.pattern.now ∷ ps) c.args.state.now c.place-start.result b c.if-state.true c.place-start.ensures.same)
 
 pub returns : goal.returns
 returns c k ps b =
     let h = (seen c.args.holder) in
     let one = chain _ _ _ (after_run k h c.args.pattern.now ps (drop c.place-start.result (kids_at h)) c.args.state.now.trail b c.requires)
-    (staying_from k h (Some c.args.pattern.now ∷ ps) c.args.state.now c.place-start.result b c.if-state.false c.place-start.ensures.same) in
+    (staying_from k (line_of h) (Some c.args.pattern.now ∷ ps) c.args.state.now c.place-start.result b c.if-state.false c.place-start.ensures.same) in
     plus_as _ _ _ _ (c.in_ok-runs_at-3.ensures k ps b) one

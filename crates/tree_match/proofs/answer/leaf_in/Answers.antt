@@ -8,7 +8,7 @@ use Rattle.tree_match.proofs.answer.leaf_in.Goals as goal
 
 pub returns-then-not-may_match : goal.returns-then-not-may_match
 returns-then-not-may_match c =
-    let known = c.args.known.now in
+    let known = c.args.known.names.now in
     let s = c.args.shape in
     let p = c.args.pattern.now in
     let P : List Member → Type 0 = λ ms. IsWhole (MemberOf known s p c.args.file.now.tree) ms × (length ms ≤ 10000) in

@@ -10,5 +10,5 @@ root_in-root-requires c = some_nodes _ c.args.tree.now c.in_ok-pool.ensures
 
 pub returns : goal.returns
 returns c =
-    let P : Numbered → Type 0 = λ s. IsLeaf (MemberUnder c.args.known.now c.args.shape c.args.pattern.now s) c.in_ok-leaf.leaf in
+    let P : Numbered → Type 0 = λ s. IsLeaf (MemberUnder c.args.known.names.now c.args.shape c.args.pattern.now s) c.in_ok-leaf.leaf in
     subst P (c.root_in-root.ensures c.args.tree.now c.in_ok-pool.ensures) c.in_ok-leaf.ensures

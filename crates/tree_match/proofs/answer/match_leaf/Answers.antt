@@ -9,6 +9,6 @@ pub returns-clause-placed : goal.returns-clause-placed
 returns-clause-placed t c =
     let p = c.args.pattern.now in
     let v = c.args.view.now in
-    let known = c.known_to-known.ensures ∙ ap (known_to p) c.as_slice.ensures in
+    let known = c.known_to-known.ensures ∙ ap (known_to p) c.constants_of.ensures in
     let P : List Known → Type 0 = λ ks. IfOk c.leaf_of.result (λ leaf. IsLeaf (MemberOf ks p.shape p.tree v.tree) leaf) in
     leaves_placed v.bytes p (known_tree v) c.leaf_of.result v.placed (subst P known c.leaf_of.ensures)

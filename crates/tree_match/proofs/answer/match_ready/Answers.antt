@@ -10,6 +10,6 @@ pub returns-clause-placed : goal.returns-clause-placed
 returns-clause-placed t c =
     let p = c.args.pattern.now in
     let v = c.args.file.now in
-    let known = c.known_to-known.ensures ∙ ap (known_to p) (c.as_slice.ensures ∙ ap (λ (w : FileView). w.known) c.view.ensures) in
+    let known = c.known_to-known.ensures ∙ ap (known_to p) c.constants_of.ensures ∙ ap (λ (w : FileView). known_to p w.known) c.view.ensures in
     let P : List Known → Type 0 = λ ks. IfOk c.leaf_in.result (λ leaf. IsLeaf (MemberOf ks p.shape p.tree v.tree) leaf) in
     leaves_placed v.bytes p (known_tree v) c.leaf_in.result v.placed (subst P known c.leaf_in.ensures)

@@ -14,7 +14,7 @@ pub loop-further-init : goal.loop-further-init
 loop-further-init c = record {
   few = omega (arith, ap length c.new-members.ensures);
   ordered = let P : List Member → Type 0 = λ xs. IsAscending member_cmp xs in subst P (sym c.new-members.ensures) tt;
-  gathers = λ m. start_nodes (MemberAt c.args.known.now c.args.pattern.now) _ _ _ m c.new-members.ensures refl;
+  gathers = λ m. start_nodes (MemberAt c.args.known.names.now c.args.pattern.now) _ _ _ m c.new-members.ensures refl;
 }
 
 pub loop-further-preserved : goal.loop-further-preserved
@@ -27,7 +27,7 @@ loop-further-preserved c =
     record {
       few = omega (arith, c.len.ensures);
       ordered = c.in_ok-add_begun_at.ensures.ordered;
-      gathers = λ m. gathered _ _ _ _ _ _ ((c.in_ok-add_begun_at.ensures.added spot is).whole (omega (arith, c.len.ensures)) m) (next_node (MemberAt c.args.known.now c.args.pattern.now) spot _ _ m here) (c.loop-further.invariant.gathers m);
+      gathers = λ m. gathered _ _ _ _ _ _ ((c.in_ok-add_begun_at.ensures.added spot is).whole (omega (arith, c.len.ensures)) m) (next_node (MemberAt c.args.known.names.now c.args.pattern.now) spot _ _ m here) (c.loop-further.invariant.gathers m);
     }
 
 pub returns-then-len-gt-MOST : goal.returns-then-len-gt-MOST
@@ -41,7 +41,7 @@ returns-then-len-gt-MOST c =
       some = c.add_begun_at.new.members;
       members = λ m h. elim ((c.in_ok-add_begun_at.ensures.added spot is).sound m h) [
         | inl a ↦ (c.loop-further.invariant.gathers m).0 (inl a)
-        | inr at ↦ (c.loop-further.invariant.gathers m).0 (inr ((next_node (MemberAt c.args.known.now c.args.pattern.now) spot _ _ m here).1 (inl at)))
+        | inr at ↦ (c.loop-further.invariant.gathers m).0 (inr ((next_node (MemberAt c.args.known.names.now c.args.pattern.now) spot _ _ m here).1 (inl at)))
       ];
       ordered = c.in_ok-add_begun_at.ensures.ordered;
       more = omega (arith, c.len.ensures);
@@ -51,7 +51,7 @@ pub returns : goal.returns
 returns c =
     let done = drop_all c.loop-further.further (pre_at (seen c.args.root)) (omega (arith, pre_many (seen c.args.root), c.size-further-end.ensures.size, c.loop-further-test.false)) in (
       record {
-        exact = λ m. gathered_all _ _ _ (none_in (MemberAt c.args.known.now c.args.pattern.now) _ m (done)) (c.loop-further.invariant.gathers m);
+        exact = λ m. gathered_all _ _ _ (none_in (MemberAt c.args.known.names.now c.args.pattern.now) _ m (done)) (c.loop-further.invariant.gathers m);
         ordered = c.loop-further.invariant.ordered;
       },
       c.loop-further.invariant.few,

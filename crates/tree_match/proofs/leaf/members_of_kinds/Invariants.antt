@@ -10,5 +10,5 @@ abbrev pub invariant-loop-further : goal.invariant-loop-further
 invariant-loop-further l = record {
   few : length l.members ≤ 10000;
   ordered : IsAscending member_cmp l.members;
-  gathers : (m : Member) → (Among l.members m ⊎ MemberIn (MemberAt l.known l.pattern) (drop l.further (pre_at (seen l.root))) m) ↔ MemberIn (MemberAt l.known l.pattern) (pre_at (seen l.root)) m;
+  gathers : (m : Member) → (Among l.members m ⊎ MemberIn (MemberAt l.known.names.now l.pattern) (drop l.further (pre_at (seen l.root))) m) ↔ MemberIn (MemberAt l.known.names.now l.pattern) (pre_at (seen l.root)) m;
 }

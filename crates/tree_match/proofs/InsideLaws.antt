@@ -1,0 +1,149 @@
+-- The members inside the last kid of a list.
+use Rattle.std.proofs.Common.{◌≡◌, ◌⊎◌, inl, inr, ◌↔◌, ℕ, ◌+◌, List, [], ◌∷◌, length, drop, refl, sym, ap, ◌∙◌, subst, Bool, true, false, not, cond}
+use Rattle.std.specs.Prelude.{None, Some, ◌||◌}
+use Rattle.node_tree.specs.declared.node.Node.{Node}
+use Rattle.node_tree.specs.declared.kind.Kind.{Kind}
+use Rattle.node_tree.specs.declared.known.Known.{Known}
+use Rattle.node_tree.specs.Tree.{kind_of, kids_of}
+use Rattle.node_tree.specs.Kinds.{is_literal}
+use Rattle.node_tree.specs.Numbers.{Numbered, kids_at}
+use Rattle.node_pool.specs.Spots.{seen}
+use Rattle.meta_bind.specs.declared.bound.Bound.{Bound}
+use Rattle.node_match.specs.declared.class.Role.{Role}
+use Rattle.node_match.specs.declared.class.Role.TheVariants as roles
+use Rattle.node_match.specs.declared.order.Order.TheVariants.{Fixed}
+use Rattle.node_match.specs.declared.state.State.{State}
+use Rattle.node_match.specs.Kinds.{role_of, IsOne}
+use Rattle.node_match.specs.Free.{Part, parts_of, HasText}
+use Rattle.node_match.specs.Orders.{order_of, some_is, has_dots, is_list, is_named, is_arguments, named_of, unnamed_of, named_at, unnamed_at, all_asked}
+use Rattle.node_match.specs.Relation.{Matches, MatchesKid, MatchesArguments, MatchesChoice, MatchesList, no_choice, both_empty, head_and_rest, dots, named_dots, nodes_of}
+use Rattle.node_match.specs.Fronts.{End, Leads, MatchesFront}
+use Rattle.node_match.specs.Choices.{Chosen}
+use Rattle.node_match.proofs.Sets.{chain}
+use Rattle.node_match.proofs.Numbering.{kids_nodes}
+use Rattle.node_match.proofs.Arguments.{kid_itself, kid_arguments, arguments_listed, list_parts, all_unnamed, all_unnamed_at, Parted, parted_arguments}
+use Rattle.node_match.proofs.Inversion.{no_literal, ordered_kids}
+use Rattle.node_match.proofs.FrontLaws.{whole_front}
+use Rattle.tree_match.specs.declared.aim.Aim.{Aim}
+use Rattle.tree_match.specs.declared.aim.Aim.TheVariants.{All}
+use Rattle.tree_match.specs.declared.last.Inside.{Inside}
+use Rattle.tree_match.specs.Members.{Member}
+use Rattle.tree_match.specs.Aims.{MemberFrom, MemberAfter}
+use Rattle.tree_match.specs.Insides.{IsInOrder, Opens}
+use Rattle.tree_match.proofs.Spreads.{state_after}
+
+-- ---- no argument has a name
+
+or_first : (a b : Bool) → (a || b) ≡ false → a ≡ false
+or_first true b e = absurd cc
+or_first false b e = refl
+
+or_second : (a b : Bool) → (a || b) ≡ false → b ≡ false
+or_second true b e = absurd cc
+or_second false b e = e
+
+none_named : (ps : List Node) → some_is is_named ps ≡ false → named_of ps ≡ []
+none_named [] e = refl
+none_named (p ∷ ps) e =
+    ap (λ (t : Bool). cond t (p ∷ named_of ps) (named_of ps)) (or_first (is_named p) (some_is is_named ps) e) ∙ none_named ps (or_second (is_named p) (some_is is_named ps) e)
+
+none_named_at : (ns : List Numbered) → some_is is_named (nodes_of ns) ≡ false → named_at ns ≡ []
+none_named_at [] e = refl
+none_named_at (n ∷ ns) e =
+    ap (λ (t : Bool). cond t (n ∷ named_at ns) (named_at ns)) (or_first (is_named n.node) (some_is is_named (nodes_of ns)) e) ∙ none_named_at ns (or_second (is_named n.node) (some_is is_named (nodes_of ns)) e)
+
+module _ (C : List Known) where
+  -- nothing chooses among nothing
+  nothing_chosen : (f : Bool) (qs : List Node) (ns : List Numbered) (b c : List Bound) → qs ≡ [] → ns ≡ [] → ((rest : List Numbered) × (f ≡ false → rest ≡ []) × MatchesChoice C qs ns rest b c) ↔ (b ≡ c)
+  nothing_chosen f qs ns b c none left =
+      let P : List Node → Type 0 = λ xs. ((rest : List Numbered) × (f ≡ false → rest ≡ []) × MatchesChoice C xs ns rest b c) ↔ (b ≡ c) in
+      let Q : List Numbered → Type 0 = λ xs. ((rest : List Numbered) × (f ≡ false → rest ≡ []) × MatchesChoice C [] xs rest b c) ↔ (b ≡ c) in
+      subst P (sym none) (subst Q (sym left) (
+        λ (rest, ends, x). to [] rest c x,
+        λ e. let R : List Bound → Type 0 = λ d. MatchesChoice C [] [] [] b d in ([], λ _. refl, subst R e no_choice),
+      ))
+    where
+      to : (ns rest : List Numbered) (d : List Bound) → MatchesChoice C [] ns rest b d → b ≡ d
+      to ns _ _ no_choice = refl
+
+  module _ (p : Node) (n : Numbered) (b c : List Bound) (listed : is_list (kind_of p) ≡ true) (none : some_is is_named (kids_of p) ≡ false) (none_there : some_is is_named (nodes_of (kids_at n)) ≡ false) where
+    -- arguments without names match in order
+    unnamed_parted : MatchesList C n (parts_of p) (kids_at n) b c ↔ Parted C p n b c
+    unnamed_parted =
+        let parts : parts_of p ≡ all_asked (unnamed_of (kids_of p)) = list_parts p listed ∙ ap all_asked (sym (all_unnamed (kids_of p) none)) in
+        let kids : kids_at n ≡ unnamed_at (kids_at n) = sym (all_unnamed_at (kids_at n) none_there) in
+        let P : List Part → Type 0 = λ ps. (d : List Bound) → MatchesList C n (parts_of p) (kids_at n) b d ↔ MatchesList C n ps (kids_at n) b d in
+        let Q : List Numbered → Type 0 = λ ns. (d : List Bound) → MatchesList C n (parts_of p) (kids_at n) b d ↔ MatchesList C n (all_asked (unnamed_of (kids_of p))) ns b d in
+        let same : (d : List Bound) → MatchesList C n (parts_of p) (kids_at n) b d ↔ MatchesList C n (all_asked (unnamed_of (kids_of p))) (unnamed_at (kids_at n)) b d = subst Q kids (subst P parts (λ d. (λ x. x, λ x. x))) in
+        let chosen : (d : List Bound) → Chosen C true (has_dots (kids_of p)) (kids_of p) (named_at (kids_at n)) d c ↔ (d ≡ c) = λ d. nothing_chosen (has_dots (kids_of p)) (named_of (kids_of p)) (named_at (kids_at n)) d c (none_named (kids_of p) none) (none_named_at (kids_at n) none_there) in (
+          λ x. (c, (same c).0 x, (chosen c).1 refl),
+          λ (d, x, y). let R : List Bound → Type 0 = λ e. MatchesList C n (parts_of p) (kids_at n) b e in subst R ((chosen d).0 y) ((same d).1 x),
+        )
+
+-- ---- a kid by its kids in order
+
+plain_one : (q : Node) → role_of (kind_of q) ≡ roles.Plain → IsOne (role_of (kind_of q))
+plain_one q role = let P : Role → Type 0 = IsOne in subst P (sym role) tt
+
+module _ (holder : Kind) (q n : Node) (role : role_of (kind_of q) ≡ roles.Plain) (unheld : is_literal (kind_of q) ≡ false) (fixed : order_of q ≡ Fixed) (alike : (kind_of q ≡ kind_of n) × HasText q n) where
+  alike_at : (s : Numbered) → s.node ≡ n → (kind_of q ≡ kind_of s.node) × HasText q s.node
+  alike_at s same = let P : Node → Type 0 = λ m. (kind_of q ≡ kind_of m) × HasText q m in subst P (sym same) alike
+
+  pub itself_in_order : is_arguments holder q ≡ false → IsInOrder holder q n
+  itself_in_order other = record {
+    one = plain_one q role;
+    same = λ C h s held same b c.
+        let (k, t) = alike_at s same in
+        chain _ _ _ (ordered_kids C q s b c fixed)
+        (chain _ _ _ (λ x. (no_literal C q s b role unheld c).0 (k, t, x), λ x. let y = (no_literal C q s b role unheld c).1 x in y.2)
+        (kid_itself C h q s b c (ap (λ (j : Kind). is_arguments j q) held ∙ other)));
+  }
+
+  pub arguments_in_order : is_arguments holder q ≡ true → some_is is_named (kids_of q) ≡ false → some_is is_named (kids_of n) ≡ false → IsInOrder holder q n
+  arguments_in_order are none none_there = record {
+    one = plain_one q role;
+    same = λ C h s held same b c.
+        let (k, t) = alike_at s same in
+        let nodes : some_is is_named (nodes_of (kids_at s)) ≡ false = ap (some_is is_named) (kids_nodes s ∙ ap kids_of same) ∙ none_there in
+        chain _ _ _ (unnamed_parted C q s b c (arguments_listed holder q are) none nodes)
+        (chain _ _ _ (parted_arguments C q s b c k t) (kid_arguments C h q s b c (ap (λ (j : Kind). is_arguments j q) held ∙ are)));
+  }
+
+-- ---- members
+
+module _ (C : List Known) where
+  -- one part matches one kid
+  one_matches : (h : Numbered) (q : Node) (kid : Numbered) (b c : List Bound) → IsOne (role_of (kind_of q)) → MatchesKid C h q kid b c ↔ MatchesList C h (Some q ∷ []) (kid ∷ []) b c
+  one_matches h q kid b c one = (λ x. head_and_rest x both_empty, λ x. to c x)
+    where
+      ended : (d e : List Bound) → MatchesList C h [] [] d e → d ≡ e
+      ended d _ both_empty = refl
+
+      to : (c : List Bound) → MatchesList C h (Some q ∷ []) (kid ∷ []) b c → MatchesKid C h q kid b c
+      to c (head_and_rest {c = d} x y) = let P : List Bound → Type 0 = λ e. MatchesKid C h q kid b e in subst P (ended d c y) x
+      to c (dots k r x) = let P : Role → Type 0 = IsOne in absurd (subst P r one)
+      to c (named_dots k r x y) = let P : Role → Type 0 = IsOne in absurd (subst P r one)
+
+  -- the members inside the last kid are those of the list
+  pub inside_member : (aim : Aim) (h : Numbered) (parts : List Part) (s : State) (inside : Inside) (m : Member) → Opens aim h parts s inside
+      → MemberAfter C aim false (seen inside.kid) (parts_of inside.part.now) 0 s.trail m ↔ MemberFrom C aim h parts (s ∷ []) m
+  inside_member aim h parts s inside m opens =
+      let q = inside.part.now in
+      let kid = seen inside.kid in
+      let range = inside.range in
+      let A : Aim → Type 0 = λ a. MemberAfter C a false kid (parts_of q) 0 s.trail m ↔ MemberFrom C a h parts (s ∷ []) m in
+      let P : List Part → Type 0 = λ ps. MemberAfter C (All range) false kid (parts_of q) 0 s.trail m ↔ MemberFrom C (All range) h ps (s ∷ []) m in
+      let N : List Numbered → Type 0 = λ ns. (c : List Bound) → MatchesFront C kid (parts_of q) (kids_at kid) [] s.trail c ↔ MatchesFront C h (Some q ∷ []) ns [] s.trail c in
+      let each : (c : List Bound) → MatchesFront C kid (parts_of q) (kids_at kid) [] s.trail c ↔ MatchesFront C h (Some q ∷ []) (kid ∷ []) [] s.trail c = λ c.
+      chain _ _ _ (whole_front C kid (parts_of q) (kids_at kid) s.trail c)
+      (chain _ _ _ (opens.in_order.same C h kid refl refl s.trail c)
+      (chain _ _ _ (one_matches h q kid s.trail c opens.in_order.one)
+      ((whole_front C h (Some q ∷ []) (kid ∷ []) s.trail c).1, (whole_front C h (Some q ∷ []) (kid ∷ []) s.trail c).0))) in
+      let here : (c : List Bound) → MatchesFront C kid (parts_of q) (kids_at kid) [] s.trail c ↔ MatchesFront C h (Some q ∷ []) (drop s.at (kids_at h)) [] s.trail c = subst N (sym opens.last_kid) each in
+      let after : MemberAfter C (All range) false kid (parts_of q) 0 s.trail m ↔ MemberAfter C (All range) false h (Some q ∷ []) s.at s.trail m = (
+        λ (e, (all, is, binding), x). (let R : List Numbered → Type 0 = λ ns. MatchesFront C kid (parts_of q) (kids_at kid) ns s.trail e.1 in
+            (([], e.1), (refl, is, binding), (here e.1).0 (subst R all x))),
+        λ (e, (all, is, binding), x). (let R : List Numbered → Type 0 = λ ns. MatchesFront C h (Some q ∷ []) (drop s.at (kids_at h)) ns s.trail e.1 in
+            (([], e.1), (refl, is, binding), (here e.1).1 (subst R all x))),
+      ) in
+      subst A (sym opens.whole) (subst P (sym opens.last_part) (chain _ _ _ after (state_after C (All range) h (Some q ∷ []) m s false s.at s.trail opens.stays refl refl)))
