@@ -7,9 +7,11 @@
 
 mod key;
 mod look;
+mod names;
 mod piece;
 mod same;
 mod written;
 
 pub use key::{PatternKey, PieceKey};
+pub use names::KnownNames;
 pub use piece::{Piece, Placed};

@@ -1,6 +1,7 @@
 //! A part of a file that is matched by itself.
 
-use node_tree::{Bytes, Known, Lang, List, Memory, Node, Twin};
+use crate::names::KnownNames;
+use node_tree::{Bytes, Lang, Memory, Node, Twin};
 
 /// A part of a file that is matched by itself: its bytes, its tree with places counted from its start, and the names in it
 /// that are known to hold a literal, by their numbers from the tree's first node.
@@ -9,7 +10,7 @@ pub struct Piece {
     pub lang: Lang,
     pub bytes: Bytes,
     pub tree: Node,
-    pub known: List<Known>,
+    pub known: KnownNames,
 }
 
 /// A piece and where it starts in its file.

@@ -1,0 +1,13 @@
+pub mod Amongs
+pub mod Constants
+pub mod Copied
+pub mod Copies
+pub mod Counted
+pub mod Later
+pub mod Merges
+pub mod Names
+pub mod Shift
+pub mod Splitting
+pub mod Standing
+pub mod Twins
+pub mod Unions
