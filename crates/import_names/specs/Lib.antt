@@ -1,0 +1,4 @@
+pub mod Claims
+pub mod Resolved
+pub mod Pieces
+pub mod Ordered
