@@ -40,20 +40,25 @@ entry_of unit = record { node = unit; role = roles.Entry }
 abbrev pub exit_of : ℕ → Point
 exit_of unit = record { node = unit; role = roles.Exit }
 
--- no tree is deeper than the number of its nodes
-abbrev pub labels_of : Node → ℕ → List Label
-labels_of root unit = flat_map (labels_in (count_of root)) (body_of root unit)
+-- the statements of a unit with this body, down to a depth
+abbrev pub statements_in : ℕ → ℕ → List Numbered → List Statement
+statements_in depth unit body = map (outlined (flat_map (labels_in depth) body) (exit_of unit) depth) body
 
-abbrev pub statements_of : Node → ℕ → List Statement
-statements_of root unit = map (outlined (labels_of root unit) (exit_of unit) (count_of root)) (body_of root unit)
+-- the points of a unit with this body
+abbrev pub points_in : ℕ → ℕ → List Numbered → List Point
+points_in depth unit body = entry_of unit ∷ exit_of unit ∷ flat_map (points depth) (statements_in depth unit body)
 
--- the points of a unit
+-- control goes there from the one point to the other
+abbrev pub GoesIn : ℕ → ℕ → List Numbered → Point → Point → Type 0
+GoesIn depth unit body a b = IsEdge depth (entry_of unit) (exit_of unit) (statements_in depth unit body) a b
+
+-- the points of a unit: no tree is deeper than the number of its nodes
 abbrev pub points_of : Node → ℕ → List Point
-points_of root unit = entry_of unit ∷ exit_of unit ∷ flat_map (points (count_of root)) (statements_of root unit)
+points_of root unit = points_in (count_of root) unit (body_of root unit)
 
 -- control goes from the one point to the other
 abbrev pub Goes : Node → ℕ → Point → Point → Type 0
-Goes root unit a b = IsEdge (count_of root) (entry_of unit) (exit_of unit) (statements_of root unit) a b
+Goes root unit a b = GoesIn (count_of root) unit (body_of root unit) a b
 
 -- the order of roles
 abbrev pub role_place : Role → ℕ

@@ -10,5 +10,5 @@ mod unit_graph;
 mod unit_list;
 
 pub use graph_form::{Edge, Graph, Point, Role};
-pub use unit_graph::graph_of;
+pub use unit_graph::{graph_at, graph_of};
 pub use unit_list::units;

@@ -1,0 +1,4 @@
+pub mod Bases
+pub mod Expressions
+pub mod Origins
+pub mod Tables

@@ -1,0 +1,4 @@
+pub mod Fixed
+pub mod Functions
+pub mod Numbering
+pub mod Once

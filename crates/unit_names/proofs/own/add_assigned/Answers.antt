@@ -1,0 +1,13 @@
+use Rattle.std.proofs.Common.{ap, ◌∙◌}
+use Rattle.unit_names.specs.Seen.{all_words}
+use Rattle.unit_names.specs.Names as spec
+use Rattle.assignments.proofs.Loops.{flat_done}
+use Rattle.point_nodes.proofs.Parts.{flat_more}
+use Rattle.assignments.specs.Seen.{seen_assignment, all_assignments}
+use Rattle.unit_names.proofs.own.add_assigned.Goals as goal
+
+pub loop-one-preserved : goal.loop-one-preserved
+loop-one-preserved c = flat_more seen_assignment spec.target_words c.as_slice-one-items.result.now c.loop-one.one-index c.one-item.result _ _ _ c.loop-one-test.true c.one-item.is c.loop-one.invariant c.in_ok-add_targets.ensures
+
+pub returns : goal.returns
+returns c = flat_done seen_assignment spec.target_words c.as_slice-one-items.result.now c.loop-one.one-index _ (all_words c.args.into.now) _ c.loop-one-test.false (ap all_assignments c.as_slice-one-items.ensures ∙ c.in_ok-list.ensures) c.loop-one.invariant

@@ -1,0 +1,5 @@
+pub mod Names
+pub mod Places
+pub mod Scopes
+pub mod Seen
+pub mod Words
