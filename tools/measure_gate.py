@@ -1,9 +1,9 @@
 #!/usr/bin/env python3
 """Runs the gate, and says what it took: minutes by the clock, and processor minutes by crate and kind of work.
 
-    python3 tools/measure_gate.py [--anew]
+    python3 tools/measure_gate.py [WORDS]
 
-runs `rt ci` with these words at the repository's top, prints what it prints, and then a table: for each crate the processor
+runs `rt ci` with these words (a kit that keeps what it proved wants `--anew`) at the repository's top, prints what it prints, and then a table: for each crate the processor
 minutes of its own proof, of its tests' proofs and of its must-fail edits (the seed that they begin with among them), and the
 most memory that one process of them held. It looks at the processes once a second, so what ends between two looks is lost:
 the sums are a little too small. It ends with the status of `rt ci`.
@@ -42,8 +42,6 @@ def crate_and_kind(pid):
     if '/rt-edit-' in os.readlink(f'/proc/{pid}/cwd'):
         return name, 'edits'
     return name, 'tests' if '--test' in words else 'proof'
-
-
 
 
 def look(session, seconds, most):

@@ -3,8 +3,8 @@
 
 First, on generated texts of 1,000,000 bytes: how many instructions the reading of the text takes (from bytes to its tree), how
 many the matching, and the two together against the reading alone, by valgrind's callgrind. Instructions don't depend on what
-else the machine does. Then, on long arrays: the processor time of a whole run without its start-up (the least of several) and
-its peak memory.
+else the machine does. Then, on wide texts, of many items, members, arguments or statements: the
+processor time of a whole run without its start-up (the least of several) and its peak memory.
 """
 import os
 import re
@@ -19,15 +19,27 @@ BESIDE_READING = [
                  '{"id": $I, ..., "tags": $T}']),
     ('small records', ['{"id": $I}', '{"b": {"c": $X}}']),
 ]
-LONG_ARRAYS = [
-    ('[..., $X, ...]', 'numbers', 5_000),
-    ('[..., $X, ...]', 'numbers', 9_000),
-    ('[..., $X, ..., $Y, ...]', 'numbers', 5_000),
-    ('[..., 0, ..., 0, ..., 0, ...]', 'zeros', 100_000),
-    ('[..., $X, ..., $X, ...]', 'zeros', 2_000),
-    ('[..., $...X, ...]', 'numbers', 2_000),
-    ('[..., $...X, ...]', 'numbers', 10_000),
+# a language, a pattern, what its text holds, and how many of that
+WIDE = [
+    ('json', '[..., $X, ...]', 'numbers', 5_000),
+    ('json', '[..., $X, ...]', 'numbers', 9_000),
+    ('json', '[..., $X, ..., $Y, ...]', 'numbers', 5_000),
+    ('json', '[..., 0, ..., 0, ..., 0, ...]', 'zeros', 100_000),
+    ('json', '[..., $X, ..., $X, ...]', 'zeros', 2_000),
+    ('json', '[..., $...X, ...]', 'numbers', 2_000),
+    ('json', '[..., $...X, ...]', 'numbers', 10_000),
+    ('json', '{"a": 0, ...}', 'equal members', 2_000),
+    ('json', '{"a": 0, "a": 0, ...}', 'equal members', 2_000),
+    ('json', '{$K: $V, ...}', 'members', 60_000),
+    ('python', 'f(..., $X, ..., $Y, ...)', 'arguments', 3_000),
+    ('python', 'f([..., $X, ..., $Y, ...])', 'items', 3_000),
+    ('python', 'f(..., k2999=1)', 'named arguments', 3_000),
+    ('python', 'f($K=1, ...)', 'named arguments', 3_000),
+    ('python', 'f(k=1, k=1, ...)', 'equal names', 3_000),
+    ('python', 'a()\n...\nb()', 'statements', 5_000),
 ]
+# how often each is run
+RUNS = 3
 
 
 def text_of(name, count=0):
@@ -35,7 +47,25 @@ def text_of(name, count=0):
         return dict(texts())['records']
     if name == 'small records':
         return fill('[', lambda k: '{"b":%d}' % (k % 10), ']')
-    return '[%s]' % ','.join(str(k if name == 'numbers' else 0) for k in range(count))
+    return WIDE_TEXTS[name](count)
+
+
+def row(start, item, end):
+    """A function that gives a text of so many items of a number, parted by commas."""
+    return lambda count: start + ','.join(item(k) for k in range(count)) + end
+
+
+WIDE_TEXTS = {
+    'numbers': row('[', str, ']'),
+    'zeros': row('[', lambda k: '0', ']'),
+    'members': row('{', lambda k: '"k%d":0' % k, '}'),
+    'equal members': row('{', lambda k: '"a":0', '}'),
+    'arguments': row('f(', lambda k: 'a%d' % k, ')\n'),
+    'items': row('f([', lambda k: 'a%d' % k, '])\n'),
+    'named arguments': row('f(', lambda k: 'k%d=1' % k, ')\n'),
+    'equal names': row('f(', lambda k: 'k=1', ')\n'),
+    'statements': lambda count: 'a()\n' * count,
+}
 
 
 def instructions(pattern, path, folder):
@@ -70,11 +100,11 @@ def main():
                     name, size, pattern, reading / 1e6, matching / 1e6, 1 + matching / reading))
         put('1')
         start, _ = least([PROGRAM, 'match', 'json', '1'], path)
-        for pattern, name, count in LONG_ARRAYS:
+        for language, pattern, name, count in WIDE:
             put(text_of(name, count))
-            command = [PROGRAM, 'match', 'json', pattern]
-            (took, status), room = least(command, path), peak(command, path)
-            print('%-30s %7d %-8s status %d, %6.1f ms, %3.0f MB' % (pattern, count, name, status, 1e3 * (took - start), room / 1e6))
+            command = [PROGRAM, 'match', language, pattern]
+            (took, status), room = least(command, path, RUNS), peak(command, path)
+            print('%-30r %7d %-15s status %d, %8.1f ms, %3.0f MB' % (pattern, count, name, status, 1e3 * (took - start), room / 1e6))
 
 
 if __name__ == '__main__':
