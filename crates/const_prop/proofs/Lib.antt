@@ -1,0 +1,16 @@
+pub mod Adding
+pub mod Agreeing
+pub mod Around
+pub mod Fitting
+pub mod NameKinds
+pub mod Numbers
+pub mod Once
+pub mod Only
+pub mod Seeing
+pub mod Sightings
+pub mod Standing
+pub mod States
+pub mod Tables
+pub mod Telling
+pub mod UnitOrder
+pub mod UnitSteps

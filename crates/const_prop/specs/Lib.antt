@@ -1,0 +1,6 @@
+pub mod Constants
+pub mod Large
+pub mod Settled
+pub mod Sights
+pub mod Units
+pub mod Views

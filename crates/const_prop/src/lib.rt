@@ -1,0 +1,12 @@
+//! Which names of a file are known to hold which literals.
+#![tactic(auto)]
+
+mod known_names;
+mod scopes;
+mod settling;
+mod sighting;
+mod unit;
+mod unit_tables;
+mod view;
+
+pub use known_names::constants;
