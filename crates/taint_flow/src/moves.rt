@@ -1,0 +1,22 @@
+//! The moves of a unit for one source.
+
+use flow_reach::Moves;
+use graph_form::Graph;
+use node_tree::List;
+
+/// The sink with that place is hit where a path carries the fact to the point.
+#[derive(Clone, Copy)]
+pub struct Goal {
+    pub sink: u64,
+    pub point: u32,
+    pub fact: u32,
+}
+
+/// The graph of a unit, what its points do to the facts, and the goals of the sinks. Fact 0 is carried on every path, and the
+/// others are the names of the unit.
+#[derive(Drop)]
+pub struct UnitMoves {
+    pub graph: Graph,
+    pub moves: Moves,
+    pub goals: List<Goal>,
+}
