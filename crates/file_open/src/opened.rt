@@ -92,7 +92,8 @@ fn open_bytes<R: TreeReader>(
 /// What the bytes of a file are in the language, by a reader of trees. TooLarge comes exactly where there are more than
 /// 1,000,000, else NotUtf8 exactly where they are no UTF-8, else NoTree exactly where the text has no tree in the language. A
 /// text of the language `Regex` always has one: a `Root` without kids that spans all of it. It is one step, whatever it answers.
-/// The bytes become those of the file, so none is copied. So far no name of a file is known to hold a literal.
+/// The bytes become those of the file, so none is copied. No name of the file
+/// is known to hold a literal: `with_names` finds those.
 pub fn open_file<R: TreeReader, L: Ledger>(
     alloc: Global,
     reader: &R,

@@ -1,10 +1,12 @@
 -- What a report says, as a JSON value with the keys of each object in order.
-use Rattle.std.specs.Prelude.{ℕ, ◌+◌, List, [], ◌∷◌, map, codes, Option, None, Some}
+use Rattle.std.specs.Prelude.{◌≡◌, ℕ, ◌+◌, List, [], ◌∷◌, map, codes, Option, None, Some}
 use Rattle.serde_json.specs.Data.{Data, number, unsigned, string, array, object, item, no_items, Members, member, no_members, put}
 use Rattle.serde_json.specs.View.{items_of}
 use Rattle.serde_json.specs.Events.{SendsValue}
 use Rattle.serde.specs.Event.{Log, Logs, field_key}
 use Rattle.serde.specs.declared.name.Case.TheVariants.{AsIs}
+use Rattle.graph_form.specs.declared.graph.Role.{Role}
+use Rattle.graph_form.specs.declared.graph.Role.TheVariants.{Entry, Exit, Head, Init, Test, Step}
 use Rattle.node_tree.specs.declared.place.Place.{Place}
 use Rattle.node_tree.specs.declared.span.Span.{Span}
 use Rattle.meta_bind.specs.declared.bound.Bound.{Bound}
@@ -43,10 +45,31 @@ abbrev pub metavar_members : List Bound → Members
 metavar_members [] = no_members
 metavar_members (b ∷ bs) = member b.name (range_data b.span) (metavar_members bs)
 
--- where taint comes from, in rules about taint
-abbrev pub source_members : Option Span → Members
-source_members None = no_members
-source_members (Some s) = member (codes "source") (range_data s) no_members
+-- the word of a role is its name
+abbrev pub role_word : Role → List ℕ
+role_word Entry = codes "Entry"
+role_word Exit = codes "Exit"
+role_word Head = codes "Head"
+role_word Init = codes "Init"
+role_word Test = codes "Test"
+role_word Step = codes "Step"
+
+-- [from,role]
+abbrev pub stop_data : ℕ × Role → Data
+stop_data p = array (item (number_data p.0) (item (string (role_word p.1)) no_items))
+
+abbrev pub stops_data : List (ℕ × Role) → Data
+stops_data stops = array (items_of (map stop_data stops))
+
+-- the trace, where there is one
+abbrev pub trace_members : List (ℕ × Role) → Members
+trace_members [] = no_members
+trace_members (p ∷ ps) = member (codes "trace") (stops_data (p ∷ ps)) no_members
+
+-- where taint comes from among the members, in rules about taint
+abbrev pub with_source : Option Span → Members → Members
+with_source None ms = ms
+with_source (Some s) ms = member (codes "source") (range_data s) ms
 
 -- a fix among the members, where the rule has one
 abbrev pub with_fix : Option (List ℕ) → Members → Members
@@ -57,7 +80,7 @@ with_fix (Some text) ms = put (codes "fix") (string text) ms
 abbrev pub extra_data : Reported → Data
 extra_data r =
     object (with_fix r.fix (member (codes "message") (string r.message) (member (codes "metavars") (object (metavar_members r.finding.binding))
-    (member (codes "severity") (string (severity_word r.severity)) (source_members r.finding.source)))))
+    (member (codes "severity") (string (severity_word r.severity)) (with_source r.finding.source (trace_members r.trace))))))
 
 abbrev pub result_data : Reported → Data
 result_data r =
@@ -94,10 +117,20 @@ abbrev pub one_if : {A : Type 0} → Option A → ℕ
 one_if None = 0
 one_if (Some x) = 1
 
+-- one for a list that isn't empty
+abbrev pub one_unless_empty : {A : Type 0} → List A → ℕ
+one_unless_empty [] = 0
+one_unless_empty (x ∷ xs) = 1
+
 -- how many members are said of a finding beside its place
 abbrev pub extra_len : Reported → ℕ
-extra_len r = 3 + one_if r.fix + one_if r.finding.source
+extra_len r = 3 + one_if r.fix + one_if r.finding.source + one_unless_empty r.trace
 
 -- a member is sent
 abbrev pub SendsMember : List ℕ → Data → Log → Log → Type 0
 SendsMember k d old new = (named : Log) × Logs old named (field_key k AsIs) × SendsValue d named new
+
+-- the trace is sent, where there is one
+abbrev pub SendsTrace : List (ℕ × Role) → Log → Log → Type 0
+SendsTrace [] old new = new ≡ old
+SendsTrace (p ∷ ps) old new = SendsMember (codes "trace") (stops_data (p ∷ ps)) old new

@@ -7,6 +7,7 @@
 mod fixes;
 mod parts;
 mod report;
+mod traces;
 
 pub use fix_apply::{FixReport, FixedFile};
 pub use fixes::fix_text;

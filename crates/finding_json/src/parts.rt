@@ -6,6 +6,7 @@ ghost use Rattle.serde_json.specs.Events.{SendsValue};
 ghost use Rattle.meta_bind.specs.Bounds.{seen};
 ghost use Rattle.finding_json.specs.Reports.{number_data, place_data, range_data, metavar_members, extra_data, extra_len as members_of_extra, result_data, notice_data, severity_word, SendsMember};
 
+use crate::traces::send_trace;
 use meta_bind::Bound;
 use node_tree::{Place, Span, Text};
 use report_form::{Notice, Reported};
@@ -111,7 +112,9 @@ fn send_source<S: Serializer>(source: Option<Span>, out: &mut S) -> Result<(), S
 fn extra_len(reported: &Reported) -> usize
     ensures { result ≡ members_of_extra reported.now }
 {
-    3 + usize::from(reported.fix.is_some()) + usize::from(reported.finding.source.is_some())
+    3 + usize::from(reported.fix.is_some())
+        + usize::from(reported.finding.source.is_some())
+        + usize::from(!reported.trace.is_empty())
 }
 
 // What is said of a finding beside its place.
@@ -125,6 +128,7 @@ fn send_extra<S: Serializer>(reported: &Reported, out: &mut S) -> Result<(), S::
     send_metavars(reported.finding.binding.bounds(), out)?;
     send_word("severity", word_of(reported.severity), out)?;
     send_source(reported.finding.source, out)?;
+    send_trace(reported.trace.as_slice(), out)?;
     out.end_map()
 }
 

@@ -2,7 +2,7 @@
 
 ghost use Rattle.std.specs.Prelude.{◌≡◌, ◌++◌, IfOk, OnOk};
 ghost use Rattle.std.specs.List.{flat_map};
-ghost use Rattle.part_judge.specs.Findings.{after_dot, dotted as dotted_text};
+ghost use Rattle.part_judge.specs.Findings.{after_dot, dotted as dotted_text, named as named_text};
 
 use node_tree::{Memory, Text};
 use std::alloc::Global;
@@ -27,5 +27,14 @@ pub fn dotted(alloc: Global, numbers: &[u64]) -> Result<Text, Memory>
     };
     text.push(format!(in alloc; "{first}")?.as_str())?;
     add_dotted(alloc, &mut text, rest)?;
+    Ok(text)
+}
+
+/// The word, and then each number after a `.`.
+pub fn named(alloc: Global, word: &str, numbers: &[u64]) -> Result<Text, Memory>
+    ensures { IfOk result (λ text. text ≡ named_text word.now numbers.now) }
+{
+    let mut text = Text::from_str(alloc, word)?;
+    add_dotted(alloc, &mut text, numbers)?;
     Ok(text)
 }

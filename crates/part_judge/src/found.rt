@@ -28,7 +28,8 @@ impl Model for Found {
 #[derive(Clone, Copy, Debug, PartialEq, Eq)]
 pub enum FoundNotice<'f> {
     /// A set of the rule's formula has more than 10,000 members. The numbers of the children lead to it, counted from 0 from
-    /// the top, with a `.` between each two.
+    /// the top, with a `.` between each two. In a rule that follows data the word of a list and the formula's number there
+    /// come before them.
     Crowded(&'f str),
     /// The function, or the top level, that begins there is too large to follow data in.
     FlowTooLarge(u32),

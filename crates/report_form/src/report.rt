@@ -1,12 +1,13 @@
 //! What a scan finds.
 
 use crate::notice::Notice;
+use graph_form::Role;
 use meta_bind::Finding;
 use node_tree::{List, Place, Text};
 use rule_form::Severity;
 
 /// A finding as it is reported: the path of the file, the rule's id and severity, its message and its fix with what the
-/// metavariables stand for, and the places where the range begins and ends.
+/// metavariables stand for, the places where the range begins and ends, and its trace.
 #[derive(Drop)]
 pub struct Reported {
     pub path: Text,
@@ -17,6 +18,9 @@ pub struct Reported {
     pub start: Place,
     pub end: Place,
     pub finding: Finding,
+    /// How data gets from its source to the range: for each point after the entry, where its node begins, and the point's
+    /// role. Empty where nothing was asked or no data was followed.
+    pub trace: List<(u32, Role)>,
 }
 
 /// What a scan found, and what it passed over.

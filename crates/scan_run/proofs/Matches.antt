@@ -3,18 +3,24 @@ use Rattle.std.proofs.Common.{◌≡◌, ◌⊎◌, inl, inr, ℕ, ◌+◌, ◌�
 use Rattle.std.specs.Prelude.{Option, Some, None, IsSome}
 use Rattle.std.specs.List.{concat}
 use Rattle.std.specs.Io.KnownBytes.{Appends}
+use Rattle.node_tree.specs.declared.known.Known.{Known}
 use Rattle.node_tree.specs.declared.node.Node.{Node}
 use Rattle.node_tree.specs.declared.view.Pattern.{Pattern}
 use Rattle.node_tree.specs.declared.view.FileView.{FileView}
-use Rattle.node_tree.specs.declared.known.Known.{Known}
 use Rattle.node_tree.specs.declared.view.Lang.{Lang}
 use Rattle.pattern_read.specs.Patterns.{IsPatternOf}
-use Rattle.tree_match.specs.Members.{IsMember, KnownTree, known_tree}
-use Rattle.tree_match.proofs.Exclusion.{few_or_more, whole_once}
+use Rattle.tree_match.specs.declared.leaf.Leaf.{Leaf}
+use Rattle.tree_match.specs.declared.leaf.Leaf.TheVariants.{Full, Crowded}
+use Rattle.tree_match.specs.Members.{Member, IsMember}
+use Rattle.tree_match.specs.Trees.{known_in}
 use Rattle.file_open.specs.declared.opened.Opened.{Opened}
 use Rattle.file_open.specs.declared.opened.Opened.TheVariants as opened
 use Rattle.file_open.specs.Opening.{IsOpened, HasOnlyTree}
-use Rattle.languages.specs.Trees.{IsTree}
+use Rattle.languages.specs.Trees.{IsTree, AreKnown}
+use Rattle.scan_session.specs.Looking.{by_names}
+use Rattle.scan_session.specs.Needing.{Serves}
+use Rattle.scan_session.proofs.Judged.{leaf_one}
+use Rattle.scan_session.proofs.Named.{leaf_served}
 use Rattle.scan_run.specs.declared.status.Status.{Status}
 use Rattle.scan_run.specs.declared.status.Status.TheVariants.{OverLimit, BadTarget, BadPattern, TooMany, Done}
 use Rattle.scan_run.specs.declared.status.Status.TheVariants as statuses
@@ -25,18 +31,31 @@ use Rattle.scan_run.specs.Reading.{IsFileOf, IsOnlyFile, HasNoFile}
 use Rattle.scan_run.specs.Lines.{line_of}
 use Rattle.scan_run.specs.Streams.{Tells, IsTarget, IsTooLong}
 use Rattle.scan_run.specs.Ways.{Printed, PrintedFront, PrintedSome, IsOnlyEnd}
-use Rattle.scan_run.specs.Matching.{HasNoPattern, SearchEnds, too_many, done, MatchEnds, bad_pattern, over_limit, bad_target, searched, Matches}
+use Rattle.scan_run.specs.Matching.{HasNoPattern, Having, has_members, SearchEnds, too_many, done, MatchEnds, bad_pattern, over_limit, bad_target, searched, Matches}
 use Rattle.scan_run.proofs.Streaming.{nothing_written}
 use Rattle.scan_run.proofs.Inputs.{some_input}
 
 -- ---- the search of a file
 
-module _ (pattern : Pattern) (tree : KnownTree) where
-  search_once : (s t : Status) (ls ms : List (List ℕ)) → SearchEnds pattern tree s ls → SearchEnds pattern tree t ms → (t ≡ s) × (ms ≡ ls)
-  search_once _ _ _ _ (too_many more) (too_many _) = (refl, refl)
-  search_once _ _ _ _ (too_many more) (done members whole) = absurd (few_or_more (IsMember pattern tree) 10000 members whole.0 whole.1 more)
-  search_once _ _ _ _ (done members whole) (too_many more) = absurd (few_or_more (IsMember pattern tree) 10000 members whole.0 whole.1 more)
-  search_once _ _ _ _ (done members whole) (done others whole') = (refl, ap (map line_of) (whole_once (IsMember pattern tree) others members whole'.0 whole.0))
+-- one leaf at most is the members
+abbrev pub IsOne : Having → Type 0
+IsOne Has = (l m : Leaf) → Has l → Has m → l ≡ m
+
+search_once : (Has : Having) → IsOne Has → (s t : Status) (ls ms : List (List ℕ)) → SearchEnds Has s ls → SearchEnds Has t ms → (t ≡ s) × (ms ≡ ls)
+search_once Has one _ _ _ _ (too_many more) (too_many _) = (refl, refl)
+search_once Has one _ _ _ _ (too_many more) (done members whole) = absurd (let e = one Crowded (Full members) more whole in cc)
+search_once Has one _ _ _ _ (done members whole) (too_many more) = absurd (let e = one Crowded (Full members) more whole in cc)
+search_once Has one _ _ _ _ (done members whole) (done others also) = (refl, ap (map line_of) (let e = one (Full others) (Full members) also whole in cc))
+
+search_as : (Has Other : Having) → ((leaf : Leaf) → Has leaf → Other leaf) → (s : Status) (ls : List (List ℕ)) → SearchEnds Has s ls → SearchEnds Other s ls
+search_as Has Other f _ _ (too_many more) = too_many (f Crowded more)
+search_as Has Other f _ _ (done members whole) = done members (f (Full members) whole)
+
+-- by names that serve the pattern it has one leaf
+one_leaf : (lang : Lang) (tree : Node) (known : List Known) (p : Pattern) → Serves AreKnown lang tree known p → IsOne (has_members lang tree p)
+one_leaf lang tree known p serves l m h k =
+    let same = leaf_served AreKnown lang tree known p serves in
+    leaf_one (IsMember p (known_in tree known)) l m ((same l).1 h) ((same m).1 k)
 
 -- a match that ends so has searched a file
 abbrev pub HasSearched : Status → Type 0
@@ -44,9 +63,9 @@ HasSearched (TooMany n) = Unit {0}
 HasSearched Done = Unit {0}
 HasSearched _ = ⊥
 
-has_searched : (pattern : Pattern) (tree : KnownTree) (s : Status) (ls : List (List ℕ)) → SearchEnds pattern tree s ls → HasSearched s
-has_searched pattern tree _ _ (too_many more) = tt
-has_searched pattern tree _ _ (done members whole) = tt
+has_searched : (Has : Having) (s : Status) (ls : List (List ℕ)) → SearchEnds Has s ls → HasSearched s
+has_searched Has _ _ (too_many more) = tt
+has_searched Has _ _ (done members whole) = tt
 
 -- ---- what ends a search
 
@@ -96,31 +115,37 @@ input_steps f f' BadPattern steps h = absurd h
 
 -- ---- the file that bytes are
 
-file_small : (lang : Lang) (bytes : List ℕ) (tree : KnownTree) → IsFileOf lang bytes tree → length bytes ≤ 1000000
+file_small : (lang : Lang) (bytes : List ℕ) (tree : Node) → IsFileOf lang bytes tree → length bytes ≤ 1000000
 file_small lang bytes tree f = f.is_text.0
 
-pub file_read : (lang : Lang) (bytes : List ℕ) (view : FileView) → IsOpened IsTree lang bytes (opened.Read view) → IsFileOf lang bytes (known_tree view)
-file_read lang bytes view o = record { is_text = o.0; is_tree = o.1; nothing_known = o.2.nothing_known }
+-- the file that was read, with that tree
+pub file_read : (lang : Lang) (bytes : List ℕ) (view : FileView) (tree : Node) → IsOpened IsTree lang bytes (opened.Read view) → tree ≡ view.tree → IsFileOf lang bytes tree
+file_read lang bytes view tree o e = let P : Node → Type 0 = IsFileOf lang bytes in subst P (sym e) (record { is_text = o.0; is_tree = o.1 })
 
-pub only_read : (lang : Lang) (bytes : List ℕ) (view : FileView) → HasOnlyTree IsTree lang bytes (opened.Read view) → view.known ≡ [] → IsOnlyFile lang bytes (known_tree view)
-only_read lang bytes view only nothing file f =
-    let T : Node → KnownTree = λ t. record { tree = t; known = file.known } in
-    let K : List Known → KnownTree = λ ks. record { tree = view.tree; known = ks } in
-    ap T (only file.tree f.is_tree) ∙ ap K (f.nothing_known ∙ sym nothing)
+pub only_read : (lang : Lang) (bytes : List ℕ) (view : FileView) (tree : Node) → HasOnlyTree IsTree lang bytes (opened.Read view) → tree ≡ view.tree → IsOnlyFile lang bytes tree
+only_read lang bytes view tree only e other f = only other f.is_tree ∙ sym e
+
+-- what serves a pattern in that file
+pub serves_read : (lang : Lang) (bytes : List ℕ) (view : FileView) (tree : Node) (known : List Known) (p : Pattern) → IsOpened IsTree lang bytes (opened.Read view) → tree ≡ view.tree → Serves AreKnown view.lang view.tree known p → Serves AreKnown lang tree known p
+serves_read lang bytes view tree known p o e serves =
+    let P : Lang → Type 0 = λ l. Serves AreKnown l view.tree known p in
+    let Q : Node → Type 0 = λ t. Serves AreKnown lang t known p in
+    subst Q (sym e) (subst P o.2.lang_is serves)
 
 -- bytes that are opened as no file of the language are none
 pub none_opened : (lang : Lang) (bytes : List ℕ) (o : Opened) → ((view : FileView) → o ≡ opened.Read view → ⊥) → length bytes ≤ 1000000 → IsOpened IsTree lang bytes o → HasNoFile lang bytes
 none_opened lang bytes opened.TooLarge nay small large tree f = absurd (omega arith)
 none_opened lang bytes opened.NotUtf8 nay small none tree f = none.1 f.is_text.1
-none_opened lang bytes (opened.NoTree view) nay small none tree f = none.1 tree.tree f.is_tree
+none_opened lang bytes (opened.NoTree view) nay small none tree f = none.1 tree f.is_tree
 none_opened lang bytes (opened.Read view) nay small is tree f = nay view refl
 
 -- ---- a match
 
 module _ (lang : Lang) (text input : List ℕ) where
-  -- the text writes one pattern, and the input has one tree
-  abbrev pub Settled : Type 0
-  Settled = (p q : Pattern) (t u : KnownTree) → IsPatternOf lang text p → IsPatternOf lang text q → IsFileOf lang input t → IsFileOf lang input u → (q ≡ p) × (u ≡ t)
+  -- the text writes one pattern, and the input has one tree, in which the pattern has one leaf
+  pub record Settled : Type 0 where
+    pub one : (p q : Pattern) (t u : Node) → IsPatternOf lang text p → IsPatternOf lang text q → IsFileOf lang input t → IsFileOf lang input u → (q ≡ p) × (u ≡ t)
+    pub leaf : (p : Pattern) (t : Node) → IsPatternOf lang text p → IsFileOf lang input t → IsOne (has_members lang t p)
 
   match_once : (s t : Status) (ls ms : List (List ℕ)) → (HasSearched s → Settled) → MatchEnds lang text input s ls → MatchEnds lang text input t ms → (t ≡ s) × (ms ≡ ls)
   match_once _ _ _ _ settled (bad_pattern none) (bad_pattern _) = (refl, refl)
@@ -139,10 +164,11 @@ module _ (lang : Lang) (text input : List ℕ) where
   match_once _ _ _ _ settled (searched p t _ _ is file ends) (over_limit _ _ long) = absurd (omega (arith, file_small lang input t file))
   match_once _ _ _ _ settled (searched p t _ _ is file ends) (bad_target _ _ _ none) = absurd (none t file)
   match_once s r ls ms settled (searched p t _ _ is file ends) (searched q u _ _ is' file' ends') =
-      let same = settled (has_searched p t s ls ends) p q t u is is' file file' in
-      let P : Pattern → Type 0 = λ x. SearchEnds x u r ms in
-      let Q : KnownTree → Type 0 = λ x. SearchEnds p x r ms in
-      search_once p t s r ls ms ends (subst Q same.1 (subst P same.0 ends'))
+      let all = settled (has_searched (has_members lang t p) s ls ends) in
+      let same = all.one p q t u is is' file file' in
+      let P : Pattern → Type 0 = λ x. SearchEnds (has_members lang u x) r ms in
+      let Q : Node → Type 0 = λ x. SearchEnds (has_members lang x p) r ms in
+      search_once (has_members lang t p) (all.leaf p t is file) s r ls ms ends (subst Q same.1 (subst P same.0 ends'))
 
 -- what was written and the status are those of the one way to end
 pub only_match : (lang : Lang) (text input : List ℕ) (left w v : Option (List ℕ)) (s : Status) (lines : List (List ℕ)) → Tells left input → (HasSearched s → Settled lang text input) → MatchEnds lang text input s lines → Appends w v (concat lines) → IsSome left
@@ -181,23 +207,38 @@ module _ (lang : Lang) (text : List ℕ) (pattern : Pattern) (is : IsPatternOf l
   pub ends_bad_target : HasNoFile lang read → Unprinted lang text left BadTarget
   ends_bad_target none = record { input = read; told = target.told; ends = bad_target pattern is target.short none }
 
-  module _ (tree : KnownTree) (file : IsFileOf lang read tree) where
-    found : (s : Status) (lines : List (List ℕ)) → SearchEnds pattern tree s lines → Matches lang text left s lines
-    found s lines ends = (read, target.told, searched pattern tree s lines is file ends)
+  module _ (tree : Node) (file : IsFileOf lang read tree) (known : List Known) (serves : Serves AreKnown lang tree known pattern) where
+    -- the search by these names
+    abbrev By : Having
+    By = by_names known tree pattern
 
-    pub ends_by_search : (w v : Option (List ℕ)) (s : Status) → Printed (SearchEnds pattern tree) w v s → Printed (Matches lang text left) w v s
+    ends_so : (s : Status) (lines : List (List ℕ)) → SearchEnds By s lines → MatchEnds lang text read s lines
+    ends_so s lines ends = searched pattern tree s lines is file (search_as By (has_members lang tree pattern) (λ leaf. (leaf_served AreKnown lang tree known pattern serves leaf).0) s lines ends)
+
+    found : (s : Status) (lines : List (List ℕ)) → SearchEnds By s lines → Matches lang text left s lines
+    found s lines ends = (read, target.told, ends_so s lines ends)
+
+    pub ends_by_search : (w v : Option (List ℕ)) (s : Status) → Printed (SearchEnds By) w v s → Printed (Matches lang text left) w v s
     ends_by_search w v s p = record { lines = p.lines; ends = found s p.lines p.ends; printed = p.printed }
 
-    pub front_of_search : (w v : Option (List ℕ)) → PrintedFront (SearchEnds pattern tree) w v → PrintedFront (Matches lang text left) w v
+    pub front_of_search : (w v : Option (List ℕ)) → PrintedFront (SearchEnds By) w v → PrintedFront (Matches lang text left) w v
     front_of_search w v p = record { status = p.status; finished = p.finished; lines = p.lines; ends = found p.status p.lines p.ends; printed = p.printed }
 
-    pub some_of_search : (w v : Option (List ℕ)) → (v ≡ w) ⊎ PrintedSome (SearchEnds pattern tree) w v → (v ≡ w) ⊎ PrintedSome (Matches lang text left) w v
+    pub some_of_search : (w v : Option (List ℕ)) → (v ≡ w) ⊎ PrintedSome (SearchEnds By) w v → (v ≡ w) ⊎ PrintedSome (Matches lang text left) w v
     some_of_search w v (inl e) = inl e
     some_of_search w v (inr p) = inr (record { status = p.status; finished = p.finished; lines = p.lines; ends = found p.status p.lines p.ends; printed = p.printed })
 
-    -- if no other pattern and no other tree were read, there is no other
-    pub only_search : (w v : Option (List ℕ)) (s : Status) → ((p : Pattern) → IsPatternOf lang text p → pattern ≡ p) → IsOnlyFile lang read tree → Printed (SearchEnds pattern tree) w v s → IsSome left → IsOnlyEnd (Matches lang text left) w v s
+    -- if no other pattern and no other tree were read, the pattern has one leaf
+    settled_by : ((p : Pattern) → IsPatternOf lang text p → pattern ≡ p) → IsOnlyFile lang read tree → Settled lang text read
+    settled_by only_pattern only_file = record {
+      one = λ q r t u a b f g. (sym (only_pattern r b) ∙ only_pattern q a, only_file u g ∙ sym (only_file t f));
+      leaf = λ q t a f.
+          let P : Pattern → Type 0 = λ x. IsOne (has_members lang t x) in
+          let T : Node → Type 0 = λ x. IsOne (has_members lang x pattern) in
+          subst P (only_pattern q a) (subst T (sym (only_file t f)) (one_leaf lang tree known pattern serves));
+    }
+
+    -- so there is no other end
+    pub only_search : (w v : Option (List ℕ)) (s : Status) → ((p : Pattern) → IsPatternOf lang text p → pattern ≡ p) → IsOnlyFile lang read tree → Printed (SearchEnds By) w v s → IsSome left → IsOnlyEnd (Matches lang text left) w v s
     only_search w v s only_pattern only_file p =
-        only_match lang text read left w v s p.lines target.told
-        (λ has q r t u a b f g. (sym (only_pattern r b) ∙ only_pattern q a, only_file u g ∙ sym (only_file t f)))
-        (searched pattern tree s p.lines is file p.ends) p.printed
+        only_match lang text read left w v s p.lines target.told (λ has. settled_by only_pattern only_file) (ends_so s p.lines p.ends) p.printed

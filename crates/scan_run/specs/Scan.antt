@@ -5,7 +5,7 @@ use Rattle.report_form.specs.declared.report.Report.{Report}
 use Rattle.report_form.specs.declared.report.Reported.{Reported}
 use Rattle.finding_json.specs.Reports.{report_data}
 use Rattle.scan_world.specs.Files.{Files}
-use Rattle.languages.specs.Trees.{IsTree}
+use Rattle.languages.specs.Trees.{IsTree, AreKnown}
 use Rattle.languages.specs.Comments.{AreComments}
 use Rattle.rule_files.specs.declared.rule_file.RuleFile.{RuleFile}
 use Rattle.scan_session.specs.Sets.{HasMore}
@@ -19,9 +19,9 @@ use Rattle.scan_run.specs.declared.status.Status.TheVariants.{TooMany, Done, Fin
 use Rattle.scan_run.specs.Taking.{File, AreFiles, limit_end}
 use Rattle.scan_run.specs.Config.{IsConfig, IsRules, ConfigEnds}
 
--- the trees and the comments of texts in JSON, Python and C
+-- the trees, the known names and the comments of texts in JSON, Python and C
 abbrev pub grammars : Grammars
-grammars = grammars_of IsTree AreComments
+grammars = grammars_of IsTree AreKnown AreComments
 
 -- the line of a report: its JSON text without blanks, and a line feed
 abbrev pub report_line : Report → List ℕ

@@ -1,9 +1,11 @@
 //! The command `match`: where a pattern matches in the input.
 
-ghost use Rattle.std.specs.Prelude.{◌≡◌, ◌⊎◌, ◌+◌, ◌≤◌, IsSome};
+ghost use Rattle.std.specs.Prelude.{◌≡◌, ◌⊎◌, ◌+◌, ◌≤◌, IfOk, IsSome};
 ghost use Rattle.std.specs.Io.KnownBytes.{IsAtEnd};
 ghost use Rattle.scan_world.specs.Faults.{Rose};
-ghost use Rattle.tree_match.specs.Members.{known_tree};
+ghost use Rattle.languages.specs.Trees.{AreKnown};
+ghost use Rattle.scan_session.specs.Looking.{by_names};
+ghost use Rattle.scan_session.specs.Needing.{Serves};
 ghost use Rattle.scan_run.specs.Status.{IsAnswer, IsOfSearch, IsOfInput};
 ghost use Rattle.scan_run.specs.Ways.{Printed, PrintedFront, PrintedSome, IsOnlyEnd};
 ghost use Rattle.scan_run.specs.Matching.{SearchEnds, Matches};
@@ -12,14 +14,26 @@ ghost use Rattle.scan_run.specs.Steps.{TakesSteps};
 use crate::input::read_target;
 use crate::output::{OutputError, print_all};
 use crate::status::Status;
-use file_open::{Opened, open_file};
+use file_open::{Opened, open_file, with_names};
 use languages::Languages;
-use node_tree::{Bytes, FileView, Lang, Pattern, Steps};
+use literal_use::uses_literals;
+use node_tree::{Bytes, FileView, Lang, Memory, Pattern, Steps};
 use pattern_read::{PatternFault, read_pattern};
 use scan_world::{Sink, Source};
 use std::alloc::Global;
 use std::sync::ledger::Ledger;
 use tree_match::{Leaf, match_leaf};
+
+// The file with the names that are known in it, where the pattern may take them; else as it is.
+fn named_for(alloc: Global, pattern: &Pattern, file: FileView) -> Result<FileView, Memory>
+    ensures same { IfOk result (λ named. named.tree ≡ file.tree) }
+    ensures serves { IfOk result (λ named. Serves AreKnown file.lang file.tree named.known pattern.now) }
+{
+    if !uses_literals(pattern) {
+        return Ok(file);
+    }
+    with_names(alloc, &Languages, file)
+}
 
 // Prints the members of the pattern in the file.
 fn print_members<K: Sink, L: Ledger>(
@@ -29,11 +43,11 @@ fn print_members<K: Sink, L: Ledger>(
     out: &mut K,
     steps: &mut Steps<L>,
 ) -> Status
-    ensures ends { IsAnswer result → Printed (SearchEnds pattern.now (known_tree file.now)) (K.written out.old) (K.written out.new) result }
+    ensures ends { IsAnswer result → Printed (SearchEnds (by_names file.now.known file.now.tree pattern.now)) (K.written out.old) (K.written out.new) result }
     ensures output_kept { IsAnswer result → K.faults out.new ≡ K.faults out.old }
     ensures output_fault { result ≡ Status.OutputFault → Rose (K.faults out.old) (K.faults out.new) }
-    ensures front_written { result ≡ Status.OutputFault → PrintedFront (SearchEnds pattern.now (known_tree file.now)) (K.written out.old) (K.written out.new) }
-    ensures whole_lines { result ≡ Status.Memory → (K.written out.new ≡ K.written out.old) ⊎ PrintedSome (SearchEnds pattern.now (known_tree file.now)) (K.written out.old) (K.written out.new) }
+    ensures front_written { result ≡ Status.OutputFault → PrintedFront (SearchEnds (by_names file.now.known file.now.tree pattern.now)) (K.written out.old) (K.written out.new) }
+    ensures whole_lines { result ≡ Status.Memory → (K.written out.new ≡ K.written out.old) ⊎ PrintedSome (SearchEnds (by_names file.now.known file.now.tree pattern.now)) (K.written out.old) (K.written out.new) }
     ensures one_step { steps.new ≡ steps.old + 1 }
     ensures cause { IsOfSearch result }
 {
@@ -88,5 +102,8 @@ pub fn run_match<S: Source, K: Sink, L: Ledger>(
     let Opened::Read(file) = opened else {
         return Status::BadTarget;
     };
-    print_members(alloc, &file, &pattern, out, steps)
+    let Ok(named) = named_for(alloc, &pattern, file) else {
+        return Status::Memory;
+    };
+    print_members(alloc, &named, &pattern, out, steps)
 }

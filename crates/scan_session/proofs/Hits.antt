@@ -16,7 +16,8 @@ use Rattle.node_match.specs.Sets.{Among, Adds}
 use Rattle.tree_match.specs.Ascending.{IsAscending}
 use Rattle.node_match.proofs.Sets.{gathered, pushed}
 use Rattle.tree_match.proofs.Placed.{all_among}
-use Rattle.part_judge.specs.Findings.{findings_of, IsFindingPlaced}
+use Rattle.taint_judge.specs.Placed.{IsFindingPlaced}
+use Rattle.part_judge.specs.Findings.{findings_of}
 use Rattle.report_form.specs.declared.notice.Notice.{Notice}
 use Rattle.report_form.specs.declared.report.Reported.{Reported}
 use Rattle.tree_match.specs.Members.{KnownTree}
@@ -25,8 +26,7 @@ use Rattle.scan_session.specs.Sets.{IsExactly}
 use Rattle.scan_session.specs.Reports.{reported, reported_cmp, bound_cmp}
 use Rattle.scan_session.specs.Hits.{Hit, hit_cmp}
 use Rattle.scan_session.specs.NoteOrder.{name_total, name_same}
-use Rattle.scan_session.specs.Judging.{IsJudged, IsHit, IsHitOf, AreAllPlaced, AreNumbered, AreNumberedHits, ArePlacedHits, AreReported, AreApart, judged_notices, notices_by}
-use Rattle.scan_session.specs.Looking.{own_leaf}
+use Rattle.scan_session.specs.Judging.{IsJudged, IsHit, IsHitOf, AreAllPlaced, AreNumbered, AreNumberedHits, ArePlacedHits, AreReported, AreApart, judged_notices, notices_by, named_leaf}
 use Rattle.scan_session.specs.Fresh.{IsFoundIn, IsNotedIn}
 use Rattle.scan_session.proofs.Members.{get_among, among_get, one_there, among_flat, flat_among}
 use Rattle.scan_session.proofs.Orders.{last_unneeded}
@@ -155,7 +155,7 @@ module _ (path : List ℕ) (lang : Lang) (text : List ℕ) (tree : KnownTree) (r
           | inr a ↦ inr (is_reported hs rest h rule are a at)
         ])
 
-    found_exactly : (rs : List Reported) → AreReported path text rules hits rs → (r : Reported) → Among rs r ↔ IsFoundIn own_leaf rules path lang text tree r
+    found_exactly : (rs : List Reported) → AreReported path text rules hits rs → (r : Reported) → Among rs r ↔ IsFoundIn (named_leaf tree.known) rules path lang text tree.tree r
     found_exactly rs are r = (
       λ k.
           let f = reported_from hits rs r are k in
@@ -201,12 +201,12 @@ module _ (path : List ℕ) (lang : Lang) (text : List ℕ) (tree : KnownTree) (r
           let tail : IsAscending reported_cmp rest = ordered_from (h ∷ hs) rest (λ x k. within x (inr k)) (s, at', (rest', are, e')) up.1 in
           subst P (sym e) (subst Q (sym e') (step_below g h r s (within g (inl refl)) (within h (inr (inl refl))) at at' up.0, subst P e' tail))
 
-      pub results_exactly : (rs : List Reported) → AreReported path text rules hits rs → IsAscending hit_cmp hits → IsExactly reported_cmp (IsFoundIn own_leaf rules path lang text tree) rs
+      pub results_exactly : (rs : List Reported) → AreReported path text rules hits rs → IsAscending hit_cmp hits → IsExactly reported_cmp (IsFoundIn (named_leaf tree.known) rules path lang text tree.tree) rs
       results_exactly rs are up = record { exact = found_exactly rs are; ordered = ordered_from hits rs (λ h k. k) are up }
 
   -- ---- their notices
 
-  pub noted_exactly : (n : Notice) → Among (flat_map (judged_notices path rules) judged) n ↔ IsNotedIn own_leaf rules path lang text tree n
+  pub noted_exactly : (n : Notice) → Among (flat_map (judged_notices path rules) judged) n ↔ IsNotedIn (named_leaf tree.known) rules path lang text tree.tree n
   noted_exactly n = (
     λ k.
         let f = among_flat (judged_notices path rules) judged n k in

@@ -5,7 +5,7 @@ use Rattle.std.specs.Str.{bytes_eq}
 use Rattle.std.proofs.lemmas.Slice.Eq.{bytes_eq-Decides}
 use Rattle.rule_form.specs.declared.rule.Rule.{Rule}
 use Rattle.node_match.specs.Sets.{Among}
-use Rattle.scan_session.specs.Running.{Stated, is_taken, is_out, built, firsts}
+use Rattle.scan_session.specs.Running.{Stated, is_taken, has_refused, built, firsts}
 use Rattle.scan_session.specs.Taking.{firsts_after}
 use Rattle.scan_session.specs.Judging.{AreApart}
 use Rattle.scan_session.proofs.Members.{get_among}
@@ -40,7 +40,7 @@ module _ (refused ids : List (List ℕ)) (s : Stated) (ss : List Stated) where
 
       at : (b : Bool) → is_taken ids s.rule.id ≡ b → Among (built refused (if b then firsts_after ids ss else s ∷ firsts_after (s.rule.id ∷ ids) ss)) r → is_taken ids r.id ≡ false
       at true e k = old r k
-      at false e k = two (is_out refused s.rule) e k
+      at false e k = two (has_refused refused s.rule) e k
 
   differ_step : Differ Old → Differ New → ((r : Rule) → Among New r → is_taken (s.rule.id ∷ ids) r.id ≡ false) → Differ (built refused (firsts_after ids (s ∷ ss)))
   differ_step old new fresh = at (is_taken ids s.rule.id)
@@ -54,7 +54,7 @@ module _ (refused ids : List (List ℕ)) (s : Stated) (ss : List Stated) where
 
       at : (b : Bool) → Differ (built refused (if b then firsts_after ids ss else s ∷ firsts_after (s.rule.id ∷ ids) ss))
       at true = old
-      at false = two (is_out refused s.rule)
+      at false = two (has_refused refused s.rule)
 
 fresh : (refused ids : List (List ℕ)) (ss : List Stated) (r : Rule) → Among (built refused (firsts_after ids ss)) r → is_taken ids r.id ≡ false
 fresh refused ids [] r h = absurd h

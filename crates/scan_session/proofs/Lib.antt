@@ -5,10 +5,11 @@ pub mod Taking
 pub mod Orders
 pub mod Quieted
 pub mod Ids
-pub mod Globs
+pub mod Somes
 pub mod Views
 pub mod Judged
 pub mod Hits
+pub mod Named
 pub mod Scans
 pub mod Laws
 pub mod Others

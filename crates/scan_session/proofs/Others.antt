@@ -13,7 +13,7 @@ use Rattle.rule_files.specs.declared.rule_file.RuleFile.{RuleFile}
 use Rattle.rule_files.specs.RuleFiles.{outcomes_of}
 use Rattle.scan_session.specs.Sets.{IsExactly}
 use Rattle.scan_session.specs.Reports.{reported_cmp}
-use Rattle.scan_session.specs.Running.{Stated, stated_at, stated_from, stated, is_taken, is_out, firsts, built, running}
+use Rattle.scan_session.specs.Running.{Stated, stated_at, stated_from, stated, is_taken, has_refused, firsts, built, running}
 use Rattle.scan_session.specs.Taking.{firsts_after}
 use Rattle.scan_session.proofs.Repeats.{firsts_are}
 use Rattle.scan_session.specs.Quieted.{Grammars}
@@ -69,10 +69,10 @@ good_rules (Bad fault ∷ os) = good_rules os
 -- those that run, where these ids are taken before
 abbrev run_from : List (List ℕ) → List (List ℕ) → List Rule → List Rule
 run_from refused taken [] = []
-run_from refused taken (r ∷ rs) = if is_taken taken r.id then run_from refused taken rs else (if is_out refused r then run_from refused (r.id ∷ taken) rs else r ∷ run_from refused (r.id ∷ taken) rs)
+run_from refused taken (r ∷ rs) = if is_taken taken r.id then run_from refused taken rs else (if has_refused refused r then run_from refused (r.id ∷ taken) rs else r ∷ run_from refused (r.id ∷ taken) rs)
 
 -- one rule after those that are taken up
-step : (refused : List (List ℕ)) (repeated : Bool) (s : Stated) (later after : List Stated) → built refused (if repeated then later else s ∷ after) ≡ (if repeated then built refused later else (if is_out refused s.rule then built refused after else s.rule ∷ built refused after))
+step : (refused : List (List ℕ)) (repeated : Bool) (s : Stated) (later after : List Stated) → built refused (if repeated then later else s ∷ after) ≡ (if repeated then built refused later else (if has_refused refused s.rule then built refused after else s.rule ∷ built refused after))
 step refused true s later after = refl
 step refused false s later after = refl
 
@@ -82,7 +82,7 @@ runs refused taken (s ∷ ss) =
     let more = s.rule.id ∷ taken in
     let later = runs refused taken ss in
     let after = runs refused more ss in
-    let F : List Rule → List Rule → List Rule = λ x y. if is_taken taken s.rule.id then x else (if is_out refused s.rule then y else s.rule ∷ y) in
+    let F : List Rule → List Rule → List Rule = λ x y. if is_taken taken s.rule.id then x else (if has_refused refused s.rule then y else s.rule ∷ y) in
     step refused (is_taken taken s.rule.id) s (firsts_after taken ss) (firsts_after more ss) ∙ ap (λ (x : List Rule). F x (built refused (firsts_after more ss))) later ∙ ap (λ (y : List Rule). F (run_from refused taken (map rule_of ss)) y) after
 
 all_run : (refused : List (List ℕ)) (ss : List Stated) → built refused (firsts ss) ≡ run_from refused [] (map rule_of ss)

@@ -12,7 +12,7 @@ use Rattle.node_tree.specs.declared.view.Lang.TheVariants.{Json, Python, C, Rege
 use Rattle.rule_form.specs.declared.rule.Rule.{Rule}
 use Rattle.node_match.specs.Sets.{Among}
 use Rattle.tree_match.specs.Ascending.{IsAscending}
-use Rattle.tree_match.specs.Members.{KnownTree}
+use Rattle.node_tree.specs.declared.node.Node.{Node}
 use Rattle.quieting.specs.declared.quiet.Quiet.{Quiet}
 use Rattle.quieting.specs.Quieting.{quiets_of}
 use Rattle.report_form.specs.declared.report.Reported.{Reported}
@@ -20,7 +20,7 @@ use Rattle.scan_session.specs.Sets.{IsExactly}
 use Rattle.scan_session.specs.Reports.{reported_cmp}
 use Rattle.scan_session.specs.HitOrder.{reported_total}
 use Rattle.scan_session.specs.Looking.{LeafOf}
-use Rattle.scan_session.specs.Quieted.{Comments, HasComments, IsQuietedIn, is_quieted_by, AreQuiets, AreUnquieted, unmarked}
+use Rattle.scan_session.specs.Quieted.{Comments, IsQuietedIn, is_quieted_by, AreQuiets, AreUnquieted, unmarked}
 use Rattle.scan_session.specs.Fresh.{IsFoundIn, IsShownIn}
 use Rattle.scan_session.proofs.Orders.{tail_ascends, first_below}
 
@@ -158,7 +158,7 @@ module _ (comments : Comments) (lang : Lang) (text : List ℕ) where
       subst P (sym e) (record { exact = λ r. (λ k. absurd k, λ k. absurd k.0); ordered = λ up. up })
 
   -- what is found and not quieted is what is shown
-  pub shown_exactly : (leaf_of : LeafOf) (rules : List Rule) (path : List ℕ) (tree : KnownTree) (found shown : List Reported) → IsExactly reported_cmp (IsFoundIn leaf_of rules path lang text tree) found
+  pub shown_exactly : (leaf_of : LeafOf) (rules : List Rule) (path : List ℕ) (tree : Node) (found shown : List Reported) → IsExactly reported_cmp (IsFoundIn leaf_of rules path lang text tree) found
       → AreUnquieted comments lang text found shown → IsExactly reported_cmp (IsShownIn leaf_of comments rules path lang text tree) shown
   shown_exactly leaf_of rules path tree found shown h u = record {
     exact = λ r. (

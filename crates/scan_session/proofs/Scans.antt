@@ -17,7 +17,7 @@ use Rattle.file_open.specs.Reading.{Spells}
 use Rattle.file_open.specs.Opening.{IsOpened, HasOnlyTree}
 use Rattle.report_form.specs.declared.notice.Notice.{Notice}
 use Rattle.report_form.specs.declared.report.Reported.{Reported}
-use Rattle.tree_match.specs.Members.{KnownTree}
+use Rattle.node_tree.specs.declared.node.Node.{Node}
 use Rattle.rule_files.specs.declared.rule_file.RuleFile.{RuleFile}
 use Rattle.scan_session.specs.declared.scanner.Scanner.{Scanner}
 use Rattle.scan_session.specs.Sets.{IsExactly}
@@ -62,23 +62,23 @@ module _ (grammars : Grammars) (rules : List Rule) (path bytes : List ℕ) (o : 
   )
 
   -- a file that can't be looked at has no results
-  pub no_results : ((l : Lang) (t : KnownTree) → Shows o l t → ⊥) → (results : List Reported) → results ≡ [] → IsExactly reported_cmp (IsResultIn grammars rules (path, bytes)) results
+  pub no_results : ((l : Lang) (t : Node) → Shows o l t → ⊥) → (results : List Reported) → results ≡ [] → IsExactly reported_cmp (IsResultIn grammars rules (path, bytes)) results
   no_results hidden results e = let P : List Reported → Type 0 = λ rs. IsExactly reported_cmp (IsResultIn grammars rules (path, bytes)) rs in subst P (sym e) (record {
     exact = λ r. (λ k. absurd k, λ k. let v = (result_in r).0 k in absurd (hidden v.0 v.1 v.2));
     ordered = tt;
   })
 
-  pub own_notices : ((l : Lang) (t : KnownTree) → Shows o l t → ⊥) → (old new : List Notice) → new ≡ old ++ opened_notices path o → Adds old new (IsNoticeIn grammars rules (path, bytes))
+  pub own_notices : ((l : Lang) (t : Node) → Shows o l t → ⊥) → (old new : List Notice) → new ≡ old ++ opened_notices path o → Adds old new (IsNoticeIn grammars rules (path, bytes))
   own_notices hidden old new e = appended old new (opened_notices path o) (IsNoticeIn grammars rules (path, bytes)) e (λ n. (λ a. (notice_in n).1 (inl a), λ k. elim ((notice_in n).0 k) [ inl a ↦ a | inr v ↦ absurd (hidden v.0 v.1 v.2) ]))
 
   -- what is shown is this
-  module _ (lang : Lang) (text : List ℕ) (tree : KnownTree) (shows : Shows o lang tree) (one : (l : Lang) (t : KnownTree) → Shows o l t → (lang ≡ l) × (tree ≡ t)) (text-is : text ≡ bytes) where
-    seen : (P : Lang → List ℕ → KnownTree → Type 0) → InView o (λ l t. P l bytes t) ↔ P lang text tree
+  module _ (lang : Lang) (text : List ℕ) (tree : Node) (shows : Shows o lang tree) (one : (l : Lang) (t : Node) → Shows o l t → (lang ≡ l) × (tree ≡ t)) (text-is : text ≡ bytes) where
+    seen : (P : Lang → List ℕ → Node → Type 0) → InView o (λ l t. P l bytes t) ↔ P lang text tree
     seen P = (
       λ v.
           let e = one v.0 v.1 v.2 in
           let F : Lang → Type 0 = λ l. P l bytes v.1 in
-          let G : KnownTree → Type 0 = λ t. P lang bytes t in
+          let G : Node → Type 0 = λ t. P lang bytes t in
           let H : List ℕ → Type 0 = λ x. P lang x tree in
           subst H (sym text-is) (subst G (sym e.1) (subst F (sym e.0) v.3)),
       λ p. let H : List ℕ → Type 0 = λ x. P lang x tree in (lang, tree, shows, subst H text-is p),

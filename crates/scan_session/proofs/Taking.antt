@@ -13,7 +13,7 @@ use Rattle.rule_entries.specs.declared.outcome.RuleOutcome.{RuleOutcome}
 use Rattle.report_form.specs.declared.notice.Notice.{Notice}
 use Rattle.rule_files.specs.declared.rule_file.RuleFile.{RuleFile}
 use Rattle.rule_files.specs.RuleFiles.{outcomes_of}
-use Rattle.scan_session.specs.Running.{Stated, stated_at, stated_from, stated, texts_of, is_taken, is_out, built, firsts, stated_notices, first_notices, repeat_notice, file_notices, rule_notices}
+use Rattle.scan_session.specs.Running.{Stated, stated_at, stated_from, stated, texts_of, is_taken, has_refused, built, firsts, stated_notices, first_notices, repeat_notice, file_notices, rule_notices}
 use Rattle.scan_session.specs.Building.{Built, HoldsAll}
 use Rattle.scan_session.specs.Taking.{HasJust, ids_after, run_of, rules_at, notices_at, firsts_after, notices_after}
 use Rattle.scan_session.proofs.Repeats.{firsts_are, notices_are}
@@ -99,7 +99,7 @@ module _ (refused ids : List (List ℕ)) (s : Stated) (ss : List Stated) where
 
       at : (b : Bool) → built refused (if b then firsts_after ids ss else s ∷ firsts_after (s.rule.id ∷ ids) ss) ≡ (if b then [] else run_of refused s.rule) ++ built refused (firsts_after (if b then ids else s.rule.id ∷ ids) ss)
       at true = refl
-      at false = one (is_out refused s.rule) (built refused (firsts_after (s.rule.id ∷ ids) ss))
+      at false = one (has_refused refused s.rule) (built refused (firsts_after (s.rule.id ∷ ids) ss))
 
   next_notices : notices_after refused ids (s ∷ ss) ≡ notices_at refused ids s ++ notices_after refused (ids_after ids s) ss
   next_notices = at (is_taken ids s.rule.id)

@@ -2,6 +2,7 @@
 use Rattle.std.specs.Prelude.{◌≡◌, ◌⊎◌, ℕ, List, [], ◌∷◌}
 use Rattle.std.specs.Option.{unwrap_or}
 use Rattle.std.specs.declared.cmp.Ordering.{Ordering}
+use Rattle.node_tree.specs.declared.node.Node.{Node}
 use Rattle.node_tree.specs.declared.view.Lang.{Lang}
 use Rattle.node_tree.specs.declared.view.Lang.TheVariants.{Regex}
 use Rattle.path_glob.specs.Path.{language}
@@ -9,7 +10,6 @@ use Rattle.meta_bind.specs.declared.finding.Finding.{Finding}
 use Rattle.meta_bind.specs.Bounds.{name_cmp}
 use Rattle.rule_form.specs.declared.rule.Rule.{Rule}
 use Rattle.node_match.specs.Sets.{Among}
-use Rattle.tree_match.specs.Members.{KnownTree, known_tree}
 use Rattle.file_open.specs.declared.opened.Opened.{Opened}
 use Rattle.file_open.specs.declared.opened.Opened.TheVariants as opened
 use Rattle.part_judge.specs.declared.outcome.Outcome.{Outcome}
@@ -39,10 +39,10 @@ file_cmp f g = name_cmp f.0 g.0
 abbrev pub lang_at : List ℕ → Lang
 lang_at path = unwrap_or (language path) Regex
 
--- the file can be looked at, in that language, with that tree and with the names in it that are known to hold literals
-abbrev pub Shows : Opened → Lang → KnownTree → Type 0
-Shows (opened.Read view) lang tree = (view.lang ≡ lang) × (known_tree view ≡ tree)
-Shows (opened.NoTree view) lang tree = (view.lang ≡ lang) × (known_tree view ≡ tree)
+-- the file can be looked at, in that language, with that tree
+abbrev pub Shows : Opened → Lang → Node → Type 0
+Shows (opened.Read view) lang tree = (view.lang ≡ lang) × (view.tree ≡ tree)
+Shows (opened.NoTree view) lang tree = (view.lang ≡ lang) × (view.tree ≡ tree)
 Shows _ lang tree = ⊥
 
 -- why the file at a path cannot be looked at, or has no tree
@@ -53,7 +53,7 @@ opened_notices path (opened.NoTree view) = notice path [] kinds.NoTree [] ∷ []
 opened_notices path (opened.Read view) = []
 
 -- a finding of one of the rules, in the file at a path, which is a text of that language with that tree
-pub record IsFoundIn (leaf_of : LeafOf) (rules : List Rule) (path : List ℕ) (lang : Lang) (text : List ℕ) (tree : KnownTree) (r : Reported) : Type 0 where
+pub record IsFoundIn (leaf_of : LeafOf) (rules : List Rule) (path : List ℕ) (lang : Lang) (text : List ℕ) (tree : Node) (r : Reported) : Type 0 where
   pub rule : Rule
   pub runs : Among rules rule
   pub outcome : Outcome
@@ -63,12 +63,12 @@ pub record IsFoundIn (leaf_of : LeafOf) (rules : List Rule) (path : List ℕ) (l
   pub is : r ≡ reported path text rule finding
 
 -- such a finding that no comment of the file quiets
-pub record IsShownIn (leaf_of : LeafOf) (comments : Comments) (rules : List Rule) (path : List ℕ) (lang : Lang) (text : List ℕ) (tree : KnownTree) (r : Reported) : Type 0 where
+pub record IsShownIn (leaf_of : LeafOf) (comments : Comments) (rules : List Rule) (path : List ℕ) (lang : Lang) (text : List ℕ) (tree : Node) (r : Reported) : Type 0 where
   pub is_found : IsFoundIn leaf_of rules path lang text tree r
   pub not_quieted : IsQuietedIn comments lang text r → ⊥
 
 -- a notice of what one of the rules finds there
-pub record IsNotedIn (leaf_of : LeafOf) (rules : List Rule) (path : List ℕ) (lang : Lang) (text : List ℕ) (tree : KnownTree) (n : Notice) : Type 0 where
+pub record IsNotedIn (leaf_of : LeafOf) (rules : List Rule) (path : List ℕ) (lang : Lang) (text : List ℕ) (tree : Node) (n : Notice) : Type 0 where
   pub rule : Rule
   pub runs : Among rules rule
   pub outcome : Outcome
@@ -76,8 +76,8 @@ pub record IsNotedIn (leaf_of : LeafOf) (rules : List Rule) (path : List ℕ) (l
   pub told : Among (outcome_notices path rule.id outcome) n
 
 -- what holds of the language and the tree of a file that is opened so and can be looked at
-abbrev pub InView : Opened → (Lang → KnownTree → Type 0) → Type 0
-InView o P = (lang : Lang) × (tree : KnownTree) × Shows o lang tree × P lang tree
+abbrev pub InView : Opened → (Lang → Node → Type 0) → Type 0
+InView o P = (lang : Lang) × (tree : Node) × Shows o lang tree × P lang tree
 
 -- a finding of one of the rules in a file that no comment there quiets
 abbrev pub IsResultIn : Grammars → List Rule → File → Reported → Type 0

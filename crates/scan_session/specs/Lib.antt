@@ -6,6 +6,8 @@ pub mod Running
 pub mod Building
 pub mod Taking
 pub mod Looking
+pub mod Needing
+pub mod Following
 pub mod Reports
 pub mod Hits
 pub mod HitOrder

@@ -1,5 +1,7 @@
 -- Where rules look, and what they find there.
 use Rattle.std.specs.Prelude.{◌≡◌, ◌⊎◌, ℕ, List, [], ◌∷◌, Some, Any, Contains}
+use Rattle.node_tree.specs.declared.known.Known.{Known}
+use Rattle.node_tree.specs.declared.node.Node.{Node}
 use Rattle.node_tree.specs.declared.view.Lang.{Lang}
 use Rattle.node_tree.specs.declared.view.Lang.TheVariants.{Regex}
 use Rattle.node_tree.specs.declared.view.Pattern.{Pattern}
@@ -9,8 +11,10 @@ use Rattle.rule_form.specs.declared.rule.Rule.{Rule}
 use Rattle.rule_form.specs.declared.rule.Part.{Part}
 use Rattle.tree_match.specs.declared.leaf.Leaf.{Leaf}
 use Rattle.node_match.specs.Sets.{Among}
-use Rattle.tree_match.specs.Members.{KnownTree, IsMember}
+use Rattle.tree_match.specs.Members.{IsMember}
+use Rattle.tree_match.specs.Trees.{known_in}
 use Rattle.tree_match.specs.Leaf.{IsLeaf}
+use Rattle.file_open.specs.Naming.{Knows}
 use Rattle.part_judge.specs.declared.outcome.Outcome.{Outcome}
 use Rattle.part_judge.specs.Findings.{PartFinds}
 
@@ -27,23 +31,24 @@ pub record Allows (rule : Rule) (path : List ℕ) : Type 0 where
   pub included : (rule.include ≡ []) ⊎ SomeMatches rule.include path
   pub not_excluded : SomeMatches rule.exclude path → ⊥
 
--- which members patterns have in the file with a tree
+-- which members patterns have in a file with a tree
 abbrev pub LeafIn : Type 1
-LeafIn = KnownTree → Pattern → Leaf → Type 0
+LeafIn = Node → Pattern → Leaf → Type 0
 
 -- the same in each language
 abbrev pub LeafOf : Type 1
 LeafOf = Lang → LeafIn
 
--- the members that a pattern has in the tree itself
-abbrev pub in_tree : LeafIn
-in_tree tree p leaf = IsLeaf (IsMember p tree) leaf
+-- the members that a pattern has in the tree, where these names and no others are known to hold literals
+abbrev pub by_names : List Known → LeafIn
+by_names known tree p leaf = IsLeaf (IsMember p (known_in tree known)) leaf
 
-abbrev pub own_leaf : LeafOf
-own_leaf lang = in_tree
+-- the members by the names that are known in the file; where names make no difference, none need be known
+abbrev pub own_leaf : Knows → LeafOf
+own_leaf knows lang tree p leaf = ((known : List Known) × knows lang tree known × by_names known tree p leaf) ⊎ ((known : List Known) → by_names known tree p leaf)
 
 -- for each pattern its members in the file with that tree
-abbrev pub AreLeaves : LeafIn → KnownTree → List Pattern → List Leaf → Type 0
+abbrev pub AreLeaves : LeafIn → Node → List Pattern → List Leaf → Type 0
 AreLeaves leaf_in tree [] leaves = leaves ≡ []
 AreLeaves leaf_in tree (p ∷ ps) leaves = (leaf : Leaf) × leaf_in tree p leaf × ((rest : List Leaf) × AreLeaves leaf_in tree ps rest × (leaves ≡ leaf ∷ rest))
 
@@ -52,11 +57,11 @@ abbrev pub LooksAt : Part → Lang → Type 0
 LooksAt part lang = (part.lang ≡ lang) ⊎ (part.lang ≡ Regex)
 
 -- what a part of a rule with these regular expressions finds in a text with that tree
-abbrev pub PartFindsIn : LeafIn → List (List ℕ) → List ℕ → KnownTree → Part → Outcome → Type 0
-PartFindsIn leaf_in texts text tree part outcome = (leaves : List Leaf) × AreLeaves leaf_in tree part.patterns leaves × PartFinds leaves texts text (Some part) outcome
+abbrev pub PartFindsIn : LeafIn → List (List ℕ) → List ℕ → Node → Part → Outcome → Type 0
+PartFindsIn leaf_in texts text tree part outcome = (leaves : List Leaf) × AreLeaves leaf_in tree part.patterns leaves × PartFinds leaves texts text tree (Some part) outcome
 
 -- what some part of a rule finds in the file at a path, a text of that language with that tree
-pub record RuleFinds (leaf_of : LeafOf) (path : List ℕ) (lang : Lang) (text : List ℕ) (tree : KnownTree) (rule : Rule) (outcome : Outcome) : Type 0 where
+pub record RuleFinds (leaf_of : LeafOf) (path : List ℕ) (lang : Lang) (text : List ℕ) (tree : Node) (rule : Rule) (outcome : Outcome) : Type 0 where
   pub allows : Allows rule path
   pub part : Part
   pub has : Among rule.parts part

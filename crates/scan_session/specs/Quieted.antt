@@ -6,6 +6,7 @@ use Rattle.node_tree.specs.declared.view.Lang.TheVariants.{Python, C}
 use Rattle.node_match.specs.Sets.{Among}
 use Rattle.tree_match.specs.Ascending.{IsAscending}
 use Rattle.file_open.specs.Reading.{Spells}
+use Rattle.file_open.specs.Naming.{Knows}
 use Rattle.quieting.specs.declared.quiet.Quiet.{Quiet}
 use Rattle.quieting.specs.Quieting.{quiets_of}
 use Rattle.quieting.specs.Lines.{is_quieted}
@@ -23,9 +24,9 @@ pub record Grammars : Type 1 where
   pub comments : Comments
   pub leaf_of : LeafOf
 
--- those where patterns are looked for in the trees themselves
-abbrev pub grammars_of : Spells → Comments → Grammars
-grammars_of spells comments = record { spells = spells; comments = comments; leaf_of = own_leaf }
+-- those where patterns are looked for in the trees themselves, by the names that are known in them
+abbrev pub grammars_of : Spells → Knows → Comments → Grammars
+grammars_of spells knows comments = record { spells = spells; comments = comments; leaf_of = own_leaf knows }
 
 -- a file in the language with this text has these comments; one in another language than Python and C has none
 abbrev pub HasComments : Comments → Lang → List ℕ → List Span → Type 0

@@ -26,7 +26,8 @@ abbrev pub reported_cmp : Reported → Reported → Ordering
 reported_cmp r s =
     ordering_then (name_cmp r.path s.path) (ordering_then (span_cmp r.finding.span s.finding.span) (ordering_then (name_cmp r.id s.id) (bound_cmp r.finding s.finding)))
 
--- a finding of a rule in the file at a path, with the message and the fix filled in and the places of its range
+-- a finding of a rule in the file at a path, with the message and the fix filled in and the places of its range, without a
+-- trace
 abbrev pub reported : List ℕ → List ℕ → Rule → Finding → Reported
 reported path text rule finding = record {
   path = path;
@@ -37,6 +38,7 @@ reported path text rule finding = record {
   start = place_of text finding.span.from;
   end = place_of text finding.span.to;
   finding = finding;
+  trace = [];
 }
 
 -- the notices of what a rule finds in the file at a path

@@ -1,12 +1,9 @@
 -- The rules that run, and the notices of rule files, where some texts of regular expressions are refused.
-use Rattle.std.specs.Prelude.{ℕ, suc, Bool, true, false, ◌||◌, List, [], ◌∷◌, ◌++◌, map, codes, if◌then◌else◌}
+use Rattle.std.specs.Prelude.{ℕ, suc, Bool, List, [], ◌∷◌, ◌++◌, map, codes, if◌then◌else◌}
 use Rattle.std.specs.List.{list_any, flat_map}
 use Rattle.std.specs.Str.{bytes_eq}
 use Rattle.std.specs.Fmt.{decimal}
 use Rattle.rule_form.specs.declared.rule.Rule.{Rule}
-use Rattle.rule_form.specs.declared.rule.Part.{Part}
-use Rattle.rule_form.specs.declared.rule.Body.{Body}
-use Rattle.rule_form.specs.declared.rule.Body.TheVariants as bodies
 use Rattle.node_match.specs.Sets.{Among}
 use Rattle.rule_entries.specs.declared.outcome.RuleOutcome.{RuleOutcome}
 use Rattle.rule_entries.specs.declared.outcome.RuleOutcome.TheVariants.{Good, Bad}
@@ -72,27 +69,14 @@ AreTextsOf files texts = (text : List ℕ) → Among texts text → Among (texts
 abbrev pub is_refused : List (List ℕ) → List ℕ → Bool
 is_refused refused text = list_any (λ other. bytes_eq other text) refused
 
--- one of the rule's texts is
+-- one of the rule's texts is, so that it doesn't run
 abbrev pub has_refused : List (List ℕ) → Rule → Bool
 has_refused refused rule = list_any (is_refused refused) rule.texts
-
--- the part follows data
-abbrev pub is_taint : Body → Bool
-is_taint (bodies.Search formula) = false
-is_taint (bodies.Taint rule) = true
-
--- The rule needs what is not built yet: following data.
-abbrev pub is_unbuilt : Rule → Bool
-is_unbuilt rule = list_any (λ (part : Part). is_taint part.body) rule.parts
-
--- it doesn't run, where these texts are refused
-abbrev pub is_out : List (List ℕ) → Rule → Bool
-is_out refused rule = is_unbuilt rule || has_refused refused rule
 
 -- the rules that run
 abbrev pub built : List (List ℕ) → List Stated → List Rule
 built refused [] = []
-built refused (s ∷ ss) = if is_out refused s.rule then built refused ss else s.rule ∷ built refused ss
+built refused (s ∷ ss) = if has_refused refused s.rule then built refused ss else s.rule ∷ built refused ss
 
 abbrev pub running : List (List ℕ) → List RuleFile → List Rule
 running refused files = built refused (firsts (stated files))
@@ -105,18 +89,14 @@ entry_key number = codes "rules." ++ decimal number
 abbrev pub option_notice : List ℕ → List ℕ → List ℕ → Notice
 option_notice file id option = notice file id kinds.OptionUnread option
 
--- a rule that is not built yet is told as one outside the profile
-abbrev pub unbuilt_notice : Stated → Notice
-unbuilt_notice s = notice s.file s.rule.id kinds.OutsideProfile (entry_key s.number)
-
 -- the notice of a text, if it is refused
 abbrev pub refused_notices : List (List ℕ) → List ℕ → List ℕ → List ℕ → List Notice
 refused_notices refused file id text = if is_refused refused text then notice file id kinds.Regex text ∷ [] else []
 
--- the notices of a rule that is no repeat: its unread options, its refused texts, and whether it is not built yet
+-- the notices of a rule that is no repeat: its unread options and its refused texts
 abbrev pub first_notices : List (List ℕ) → Stated → List Notice
 first_notices refused s =
-    map (option_notice s.file s.rule.id) s.rule.unread ++ (flat_map (refused_notices refused s.file s.rule.id) s.rule.texts ++ (if is_unbuilt s.rule then unbuilt_notice s ∷ [] else []))
+    map (option_notice s.file s.rule.id) s.rule.unread ++ flat_map (refused_notices refused s.file s.rule.id) s.rule.texts
 
 -- the notice of a repeat
 abbrev pub repeat_notice : Stated → Notice

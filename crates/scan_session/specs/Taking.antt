@@ -7,7 +7,7 @@ use Rattle.std.specs.BTreeSet.{BTreeSet, contains}
 use Rattle.rule_form.specs.declared.rule.Rule.{Rule}
 use Rattle.report_form.specs.declared.notice.Notice.{Notice}
 use Rattle.scan_session.specs.declared.running.Entry.{Entry}
-use Rattle.scan_session.specs.Running.{Stated, is_taken, is_out, first_notices, repeat_notice}
+use Rattle.scan_session.specs.Running.{Stated, is_taken, has_refused, first_notices, repeat_notice}
 
 -- the entry without its borrows
 abbrev pub said : Entry → Stated
@@ -34,7 +34,7 @@ ids_after ids s = if is_taken ids s.rule.id then ids else s.rule.id ∷ ids
 
 -- the rule, if it runs where those texts are refused
 abbrev pub run_of : List (List ℕ) → Rule → List Rule
-run_of refused rule = if is_out refused rule then [] else rule ∷ []
+run_of refused rule = if has_refused refused rule then [] else rule ∷ []
 
 -- the same, where these ids are taken before
 abbrev pub rules_at : List (List ℕ) → List (List ℕ) → Stated → List Rule

@@ -10,7 +10,9 @@
 
 mod building;
 mod fault;
+mod following;
 mod looking;
+mod needing;
 mod note;
 mod quiet;
 mod reporting;

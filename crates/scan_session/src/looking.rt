@@ -4,15 +4,16 @@ ghost use Rattle.std.specs.Prelude.{◌≡◌, ◌<◌, ◌↔◌, length, slice
 ghost use Rattle.node_match.specs.Sets.{Among, Adds};
 ghost use Rattle.tree_match.specs.Members.{known_tree};
 ghost use Rattle.tree_match.specs.Placed.{IsLeafPlaced};
-ghost use Rattle.part_judge.specs.Findings.{findings_of, IsFindingPlaced};
+ghost use Rattle.taint_judge.specs.Placed.{IsFindingPlaced};
+ghost use Rattle.part_judge.specs.Findings.{findings_of};
 ghost use Rattle.rule_form.specs.declared.rule.Part.{Part as a_part};
-ghost use Rattle.scan_session.specs.Looking.{GlobMatches, SomeMatches, Allows, AreLeaves, LooksAt, in_tree};
+ghost use Rattle.scan_session.specs.Looking.{GlobMatches, SomeMatches, Allows, AreLeaves, LooksAt, by_names};
 ghost use Rattle.scan_session.specs.declared.looking.Judged.{Judged as a_judged};
 ghost use Rattle.scan_session.specs.Judging.{PartJudges, PartAdds, RuleJudges, RuleAdds, IsJudged, AreAllPlaced};
 
 use crate::runner::Runner;
 use node_tree::{Lang, List, Memory, Pattern, Steps, Text};
-use part_judge::{Found, judge};
+use part_judge::{Found, SharedFile, judge};
 use path_glob::matches;
 use rule_form::{Part, Rule};
 use std::alloc::Global;
@@ -55,8 +56,8 @@ fn allows(rule: &Rule, path: &str) -> bool
     rule.include.is_empty() || some_fits(&rule.include, path)
 }
 
-// Whether the part looks at files of the language.
-fn looks_at(part: &Part, lang: Lang) -> bool
+/// Whether the part looks at files of the language.
+pub fn looks_at(part: &Part, lang: Lang) -> bool
     ensures { IsTrue result ↔ LooksAt part.now lang }
 {
     part.lang == lang || part.lang == Lang::Regex
@@ -69,7 +70,7 @@ fn leaves_of<L: Ledger>(
     patterns: &[Pattern],
     steps: &mut Steps<L>,
 ) -> Result<List<Leaf>, Memory>
-    ensures leaves { IfOk result (AreLeaves in_tree (known_tree view.now) patterns.now) }
+    ensures leaves { IfOk result (AreLeaves (by_names view.now.known) view.now.tree patterns.now) }
     ensures placed { IfOk result (λ leaves. All (λ leaf. IsLeafPlaced view.now.bytes leaf) leaves) }
 {
     let mut leaves = List::new(alloc);
@@ -82,7 +83,7 @@ fn leaves_of<L: Ledger>(
 // What the part with that number finds.
 fn judge_part<L: Ledger>(
     alloc: Global,
-    view: &ReadyFile<'_>,
+    view: &SharedFile<'_, '_>,
     rule: &Runner<'_>,
     part: usize,
     steps: &mut Steps<L>,
@@ -98,17 +99,25 @@ fn judge_part<L: Ledger>(
     let rule = rule.rule();
     let leaves = leaves_of(
         alloc,
-        view,
+        view.ready(),
         rule.parts.as_slice()[part].patterns.as_slice(),
         steps,
     )?;
-    judge(alloc, view.view(), rule, number, &leaves, &mut rx)
+    judge(
+        alloc,
+        view.view(),
+        view.flow(),
+        rule,
+        number,
+        &leaves,
+        &mut rx,
+    )
 }
 
 // Adds what the part with that number finds, if it looks at the file.
 fn add_part<L: Ledger>(
     alloc: Global,
-    view: &ReadyFile<'_>,
+    view: &SharedFile<'_, '_>,
     number: usize,
     rule: &Runner<'_>,
     part: usize,
@@ -130,7 +139,7 @@ fn add_part<L: Ledger>(
 // Adds what each part of the rule finds that looks at the file.
 fn add_parts<L: Ledger>(
     alloc: Global,
-    view: &ReadyFile<'_>,
+    view: &SharedFile<'_, '_>,
     number: usize,
     rule: &Runner<'_>,
     steps: &mut Steps<L>,
@@ -149,7 +158,7 @@ fn add_parts<L: Ledger>(
 fn add_rule<L: Ledger>(
     alloc: Global,
     path: &str,
-    view: &ReadyFile<'_>,
+    view: &SharedFile<'_, '_>,
     number: usize,
     rule: &Runner<'_>,
     steps: &mut Steps<L>,
@@ -168,7 +177,7 @@ fn add_rule<L: Ledger>(
 pub fn judge_all<L: Ledger>(
     alloc: Global,
     path: &str,
-    view: &ReadyFile<'_>,
+    view: &SharedFile<'_, '_>,
     running: &[Runner<'_>],
     steps: &mut Steps<L>,
 ) -> Result<Vec<Judged>, Memory>

@@ -7,7 +7,7 @@ ghost use Rattle.std.specs.Str.{IsUtf8};
 ghost use Rattle.meta_bind.specs.declared.bound.Bound.{Bound as a_bound};
 ghost use Rattle.meta_bind.specs.Fills.{filled};
 ghost use Rattle.meta_bind.specs.Places.{EndsLieIn};
-ghost use Rattle.part_judge.specs.Findings.{IsFindingPlaced};
+ghost use Rattle.taint_judge.specs.Placed.{IsFindingPlaced};
 ghost use Rattle.scan_session.specs.Reports.{reported as reported_as, outcome_notices};
 ghost use Rattle.scan_session.specs.Judging.{AreNumbered, AreReported, ArePlacedHits, AreNumberedHits, judged_notices};
 
@@ -68,6 +68,7 @@ fn reported(
             binding: finding.binding.copy()?,
             source: finding.source,
         },
+        trace: List::new(alloc),
     })
 }
 
@@ -92,7 +93,7 @@ fn placed_rows(
     Ok(results)
 }
 
-/// The findings as they are reported, in the same order. Where the lines of the file are is not looked for without a finding.
+/// The findings as they are reported, in the same order, without traces. Where the lines of the file are is not looked for without a finding.
 pub fn report_rows(
     alloc: Global,
     path: &str,

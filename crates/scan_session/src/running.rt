@@ -1,8 +1,7 @@
 //! The rules that run, and the notices of rule files.
 
 ghost use Rattle.std.specs.Prelude.{◌≡◌, ◌++◌, ◌∷◌, ℕ, List as list, [], map, IfOk, OnOk};
-ghost use Rattle.std.specs.List.{flat_map, list_any};
-ghost use Rattle.rule_form.specs.declared.rule.Part.{Part as a_part};
+ghost use Rattle.std.specs.List.{flat_map};
 ghost use Rattle.rule_files.specs.RuleFiles.{outcomes_of};
 ghost use Rattle.scan_session.specs.Refused.{gained};
 ghost use Rattle.scan_session.specs.Building.{Holds, HoldsAll, GainsOf};
@@ -17,7 +16,7 @@ use node_tree::{List, Memory, Text};
 use report_form::NoticeKind;
 use rule_entries::{RuleFaultKind, RuleOutcome};
 use rule_files::{RuleContent, RuleFile};
-use rule_form::{Body, Part, Rule};
+use rule_form::Rule;
 use rx_text::Patterns;
 use std::alloc::Global;
 use std::collections::BTreeSet;
@@ -84,35 +83,6 @@ fn good_rules<'r>(alloc: Global, files: &'r [RuleFile]) -> Result<Vec<Entry<'r>>
     Ok(entries)
 }
 
-// Whether the part follows data.
-fn is_taint(body: &Body) -> bool
-    ensures { result ≡ spec.is_taint body.now }
-{
-    match body {
-        Body::Search(_) => false,
-        Body::Taint(_) => true,
-    }
-}
-
-// Whether one of the parts follows data.
-fn has_taint(parts: &[Part]) -> bool
-    ensures { result ≡ list_any (λ (part : a_part). spec.is_taint part.body) parts.now }
-{
-    for part in parts {
-        if is_taint(&part.body) {
-            return true;
-        }
-    }
-    false
-}
-
-// Whether the rule needs what is not built yet.
-fn is_unbuilt(rule: &Rule) -> bool
-    ensures { result ≡ spec.is_unbuilt rule.now }
-{
-    has_taint(rule.parts.as_slice())
-}
-
 // Notes the options of a rule that have no meaning here.
 fn note_options(
     alloc: Global,
@@ -134,21 +104,6 @@ fn note_options(
         )?;
     }
     Ok(())
-}
-
-// Notes that the rule is not built yet.
-fn note_unbuilt(alloc: Global, entry: Entry<'_>, notices: &mut Vec<Noted>) -> Result<(), Memory>
-    ensures { OnOk result (notices.new.items ≡ notices.old.items ++ spec.unbuilt_notice (taking.said entry.entry) ∷ []) }
-{
-    let key = format!(in alloc; "rules.{}", entry.number)?;
-    add_notice(
-        alloc,
-        notices,
-        entry.file,
-        entry.rule.id.as_str(),
-        NoticeKind::OutsideProfile,
-        key.as_str(),
-    )
 }
 
 // Notes that an earlier rule has the id.
@@ -212,11 +167,7 @@ fn note_first(
     let (file, rule) = (entry.file, entry.rule);
     let id = rule.id.as_str();
     note_options(alloc, file, id, rule.unread.as_slice(), notices)?;
-    note_texts(alloc, file, id, rule.texts.as_slice(), built, notices)?;
-    if !is_unbuilt(rule) {
-        return Ok(());
-    }
-    note_unbuilt(alloc, entry, notices)
+    note_texts(alloc, file, id, rule.texts.as_slice(), built, notices)
 }
 
 // Adds the rule to those that run, if it does.
@@ -229,9 +180,6 @@ fn add_runner<'r>(
     requires { (refused : list (list ℕ)) × HoldsAll built.now refused rule.now.texts }
     ensures { (refused : list (list ℕ)) → HoldsAll built.now refused rule.now.texts → OnOk result (running.new.items ≡ running.old.items ++ taking.run_of refused rule.now) }
 {
-    if is_unbuilt(rule) {
-        return Ok(());
-    }
     let Some(rx) = expressions_of(alloc, built, rule.texts.as_slice())? else {
         return Ok(());
     };

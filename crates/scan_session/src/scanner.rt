@@ -49,8 +49,7 @@ pub struct Scanner<'r, R> {
 
 impl<'r, R: TreeReader + CommentReader> Scanner<'r, R> {
     /// A scan by the rules of the rule files, which reports at most so many findings and has no file so far. Files are opened by
-    /// the reader. A rule whose id an earlier one has does not run; nor does one with a text that is refused; nor, so far, one
-    /// that follows data.
+    /// the reader. A rule whose id an earlier one has does not run; nor does one with a text that is refused.
     ///
     /// Each text of a good rule is given to `build` once, in order of rule file, entry and place. The refused ones are those
     /// that the builder's list gained in this call, whatever it answers.
@@ -64,7 +63,7 @@ impl<'r, R: TreeReader + CommentReader> Scanner<'r, R> {
         ensures grows { Gains (P.refusals patterns.old) (P.refusals patterns.new) }
         ensures asked { AreTextsOf rules.now (gained (P.refusals patterns.old) (P.refusals patterns.new)) }
         ensures same_reader { IfOk result (λ scanner. scanner.reader.now ≡ reader.now) }
-        ensures begun { IfOk result (HasScanned (grammars_of (R.spells reader.now) (R.comments reader.now)) (gained (P.refusals patterns.old) (P.refusals patterns.new)) rules.now most []) }
+        ensures begun { IfOk result (HasScanned (grammars_of (R.spells reader.now) (R.knows reader.now) (R.comments reader.now)) (gained (P.refusals patterns.old) (P.refusals patterns.new)) rules.now most []) }
     {
         let mut notices = Vec::new(alloc);
         let running = take_files(alloc, rules, patterns, &mut notices)?;
@@ -93,7 +92,7 @@ impl<'r, R: TreeReader + CommentReader> Scanner<'r, R> {
         bytes: Bytes,
         steps: &mut Steps<L>,
     ) -> Result<(), Memory>
-        ensures scanned { OnOk result (Scans (grammars_of (R.spells self.old.reader.now) (R.comments self.old.reader.now)) ((path.now, bytes) ∷ []) self.old self.new) }
+        ensures scanned { OnOk result (Scans (grammars_of (R.spells self.old.reader.now) (R.knows self.old.reader.now) (R.comments self.old.reader.now)) ((path.now, bytes) ∷ []) self.old self.new) }
         ensures same_reader { self.new.reader.now ≡ self.old.reader.now }
     {
         if self.is_over() {
@@ -118,12 +117,12 @@ impl<'r, R: TreeReader + CommentReader> Scanner<'r, R> {
     /// TooMany comes exactly where there are more findings than are reported. A file, whatever it holds, and an entry that is
     /// no rule change no finding of another.
     pub fn report(self, alloc: Global) -> Result<Report, ScanFault>
-        ensures fresh { AfterScan (grammars_of (R.spells self.entry.reader.now) (R.comments self.entry.reader.now)) self.entry (λ grammars refused rules most files. IfOk result (IsFresh grammars refused files rules)) }
-        ensures few { AfterScan (grammars_of (R.spells self.entry.reader.now) (R.comments self.entry.reader.now)) self.entry (λ grammars refused rules most files. IfOk result (λ report. length report.results ≤ most)) }
-        ensures too_many { AfterScan (grammars_of (R.spells self.entry.reader.now) (R.comments self.entry.reader.now)) self.entry (λ grammars refused rules most files. (n : ℕ) → result ≡ Err (TooMany n) → (n ≡ most) × HasMore reported_cmp (IsResult grammars (rules_of refused rules) files) most) }
-        ensures only { AfterScan (grammars_of (R.spells self.entry.reader.now) (R.comments self.entry.reader.now)) self.entry (λ grammars refused rules most files. IfOk result (λ report. (r : a_report) → IsFresh grammars refused files rules r → r ≡ report)) }
-        ensures other_files { AfterScan (grammars_of (R.spells self.entry.reader.now) (R.comments self.entry.reader.now)) self.entry (λ grammars refused rules most files. IfOk result (KeepsOtherFiles grammars refused files rules)) }
-        ensures other_rules { AfterScan (grammars_of (R.spells self.entry.reader.now) (R.comments self.entry.reader.now)) self.entry (λ grammars refused rules most files. IfOk result (KeepsOtherRules grammars refused files rules)) }
+        ensures fresh { AfterScan (grammars_of (R.spells self.entry.reader.now) (R.knows self.entry.reader.now) (R.comments self.entry.reader.now)) self.entry (λ grammars refused rules most files. IfOk result (IsFresh grammars refused files rules)) }
+        ensures few { AfterScan (grammars_of (R.spells self.entry.reader.now) (R.knows self.entry.reader.now) (R.comments self.entry.reader.now)) self.entry (λ grammars refused rules most files. IfOk result (λ report. length report.results ≤ most)) }
+        ensures too_many { AfterScan (grammars_of (R.spells self.entry.reader.now) (R.knows self.entry.reader.now) (R.comments self.entry.reader.now)) self.entry (λ grammars refused rules most files. (n : ℕ) → result ≡ Err (TooMany n) → (n ≡ most) × HasMore reported_cmp (IsResult grammars (rules_of refused rules) files) most) }
+        ensures only { AfterScan (grammars_of (R.spells self.entry.reader.now) (R.knows self.entry.reader.now) (R.comments self.entry.reader.now)) self.entry (λ grammars refused rules most files. IfOk result (λ report. (r : a_report) → IsFresh grammars refused files rules r → r ≡ report)) }
+        ensures other_files { AfterScan (grammars_of (R.spells self.entry.reader.now) (R.knows self.entry.reader.now) (R.comments self.entry.reader.now)) self.entry (λ grammars refused rules most files. IfOk result (KeepsOtherFiles grammars refused files rules)) }
+        ensures other_rules { AfterScan (grammars_of (R.spells self.entry.reader.now) (R.knows self.entry.reader.now) (R.comments self.entry.reader.now)) self.entry (λ grammars refused rules most files. IfOk result (KeepsOtherRules grammars refused files rules)) }
     {
         if self.is_over() {
             return Err(ScanFault::TooMany(self.most));

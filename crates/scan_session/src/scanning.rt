@@ -1,16 +1,17 @@
 //! What rules find in a file.
 
-ghost use Rattle.std.specs.Prelude.{IfOk, OnOk};
+ghost use Rattle.std.specs.Prelude.{◌≡◌, None, IfOk, IfSome, IsSome, OnOk};
 ghost use Rattle.node_match.specs.Sets.{Adds};
-ghost use Rattle.tree_match.specs.Members.{known_tree};
 ghost use Rattle.scan_session.specs.Sets.{IsExactly};
-ghost use Rattle.scan_session.specs.Judging.{AreApart};
+ghost use Rattle.scan_session.specs.Judging.{AreApart, named_leaf};
 ghost use Rattle.scan_session.specs.Reports.{reported_cmp};
 ghost use Rattle.scan_session.specs.Looking.{own_leaf};
 ghost use Rattle.scan_session.specs.Quieted.{grammars_of};
 ghost use Rattle.scan_session.specs.Fresh.{IsResultIn, IsFoundIn, IsShownIn, IsNotedIn, IsNoticeIn};
 
+use crate::following::some_follows_in;
 use crate::looking::judge_all;
+use crate::needing::rules_need;
 use crate::note::{Noted, add_notice};
 use crate::quiet::without_quieted;
 use crate::reporting::{note_judged, report_rows};
@@ -18,8 +19,9 @@ use crate::row::rows_of;
 use crate::runner::Runner;
 use code_reader::TreeReader;
 use comment_reader::CommentReader;
-use file_open::{Opened, open_file};
+use file_open::{Opened, open_file, with_names};
 use node_tree::{Bytes, FileView, Lang, List, Memory, Steps};
+use part_judge::SharedFile;
 use path_glob::lang_of;
 use report_form::{NoticeKind, Reported};
 use sorted_sets::settled;
@@ -27,20 +29,23 @@ use std::alloc::Global;
 use std::sync::ledger::Ledger;
 use tree_match::ReadyFile;
 
-// What the rules find in the file at that path. The notices are added.
+// What the rules find in the file at that path, by the names that are known in what was opened. The notices are added.
 fn scan_view<L: Ledger>(
     alloc: Global,
     path: &str,
     view: &FileView,
+    ready: &ReadyFile<'_>,
     running: &[Runner<'_>],
     steps: &mut Steps<L>,
     notices: &mut Vec<Noted>,
 ) -> Result<List<Reported>, Memory>
-    ensures results { AreApart running.now → IfOk result (IsExactly reported_cmp (IsFoundIn own_leaf running.now path.now view.now.lang view.now.bytes (known_tree view.now))) }
-    ensures notices { OnOk result (Adds notices.old.items notices.new.items (IsNotedIn own_leaf running.now path.now view.now.lang view.now.bytes (known_tree view.now))) }
+    requires { ready.now ≡ view.now }
+    ensures results { AreApart running.now → IfOk result (IsExactly reported_cmp (IsFoundIn (named_leaf view.now.known) running.now path.now view.now.lang view.now.bytes view.now.tree)) }
+    ensures notices { OnOk result (Adds notices.old.items notices.new.items (IsNotedIn (named_leaf view.now.known) running.now path.now view.now.lang view.now.bytes view.now.tree)) }
 {
-    let ready = ReadyFile::of(alloc, view)?;
-    let judged = judge_all(alloc, path, &ready, running, steps)?;
+    let follows = some_follows_in(running, view.lang);
+    let file = SharedFile::of(alloc, ready, follows)?;
+    let judged = judge_all(alloc, path, &file, running, steps)?;
     let found = judged.as_slice();
     note_judged(alloc, path, running, found, notices)?;
     let unsorted = rows_of(alloc, running, found)?;
@@ -48,8 +53,28 @@ fn scan_view<L: Ledger>(
     report_rows(alloc, path, view, running, rows.as_slice())
 }
 
-// What the rules find in the file at that path and no comment there quiets. The notices are added.
-fn show_view<R: CommentReader, L: Ledger>(
+// What the rules find in the file at that path and no comment there quiets, by the names that are known in what was opened. The
+// notices are added.
+fn show_ready<R: CommentReader, L: Ledger>(
+    alloc: Global,
+    reader: &R,
+    path: &str,
+    view: &FileView,
+    ready: &ReadyFile<'_>,
+    running: &[Runner<'_>],
+    steps: &mut Steps<L>,
+    notices: &mut Vec<Noted>,
+) -> Result<List<Reported>, Memory>
+    requires { ready.now ≡ view.now }
+    ensures results { AreApart running.now → IfOk result (IsExactly reported_cmp (IsShownIn (named_leaf view.now.known) (R.comments reader.now) running.now path.now view.now.lang view.now.bytes view.now.tree)) }
+    ensures notices { OnOk result (Adds notices.old.items notices.new.items (IsNotedIn (named_leaf view.now.known) running.now path.now view.now.lang view.now.bytes view.now.tree)) }
+{
+    let found = scan_view(alloc, path, view, ready, running, steps, notices)?;
+    without_quieted(alloc, reader, view, found)
+}
+
+// The same by the names that are known in the file, where they make no difference to the rules; else nothing.
+fn show_bare<R: TreeReader + CommentReader, L: Ledger>(
     alloc: Global,
     reader: &R,
     path: &str,
@@ -57,12 +82,55 @@ fn show_view<R: CommentReader, L: Ledger>(
     running: &[Runner<'_>],
     steps: &mut Steps<L>,
     notices: &mut Vec<Noted>,
-) -> Result<List<Reported>, Memory>
-    ensures results { AreApart running.now → IfOk result (IsExactly reported_cmp (IsShownIn own_leaf (R.comments reader.now) running.now path.now view.now.lang view.now.bytes (known_tree view.now))) }
-    ensures notices { OnOk result (Adds notices.old.items notices.new.items (IsNotedIn own_leaf running.now path.now view.now.lang view.now.bytes (known_tree view.now))) }
+) -> Result<Option<List<Reported>>, Memory>
+    ensures results { AreApart running.now → IfOk result (λ shown. IfSome shown (IsExactly reported_cmp (IsShownIn (own_leaf (R.knows reader.now)) (R.comments reader.now) running.now path.now view.now.lang view.now.bytes view.now.tree))) }
+    ensures notices { IfOk result (λ shown. IsSome shown → Adds notices.old.items notices.new.items (IsNotedIn (own_leaf (R.knows reader.now)) running.now path.now view.now.lang view.now.bytes view.now.tree)) }
+    ensures untold { IfOk result (λ shown. shown ≡ None → notices.new.items ≡ notices.old.items) }
 {
-    let found = scan_view(alloc, path, view, running, steps, notices)?;
-    without_quieted(alloc, reader, view, found)
+    let ready = ReadyFile::of(alloc, view)?;
+    if rules_need(alloc, &ready, running)? {
+        return Ok(None);
+    }
+    let shown = show_ready(alloc, reader, path, view, &ready, running, steps, notices)?;
+    Ok(Some(shown))
+}
+
+// The same by the names that are known in the file, which are found.
+fn show_named<R: TreeReader + CommentReader, L: Ledger>(
+    alloc: Global,
+    reader: &R,
+    path: &str,
+    view: FileView,
+    running: &[Runner<'_>],
+    steps: &mut Steps<L>,
+    notices: &mut Vec<Noted>,
+) -> Result<List<Reported>, Memory>
+    ensures results { AreApart running.now → IfOk result (IsExactly reported_cmp (IsShownIn (own_leaf (R.knows reader.now)) (R.comments reader.now) running.now path.now view.lang view.bytes view.tree)) }
+    ensures notices { OnOk result (Adds notices.old.items notices.new.items (IsNotedIn (own_leaf (R.knows reader.now)) running.now path.now view.lang view.bytes view.tree)) }
+{
+    let named = with_names(alloc, reader, view)?;
+    let ready = ReadyFile::of(alloc, &named)?;
+    show_ready(alloc, reader, path, &named, &ready, running, steps, notices)
+}
+
+// What the rules find in the file at that path and no comment there quiets. The notices are added. The names that are known in
+// it are found only if they may make a difference.
+fn show_view<R: TreeReader + CommentReader, L: Ledger>(
+    alloc: Global,
+    reader: &R,
+    path: &str,
+    view: FileView,
+    running: &[Runner<'_>],
+    steps: &mut Steps<L>,
+    notices: &mut Vec<Noted>,
+) -> Result<List<Reported>, Memory>
+    ensures results { AreApart running.now → IfOk result (IsExactly reported_cmp (IsShownIn (own_leaf (R.knows reader.now)) (R.comments reader.now) running.now path.now view.lang view.bytes view.tree)) }
+    ensures notices { OnOk result (Adds notices.old.items notices.new.items (IsNotedIn (own_leaf (R.knows reader.now)) running.now path.now view.lang view.bytes view.tree)) }
+{
+    match show_bare(alloc, reader, path, &view, running, steps, notices)? {
+        Some(shown) => Ok(shown),
+        None => show_named(alloc, reader, path, view, running, steps, notices),
+    }
 }
 
 /// What the rules find in a file and no comment there quiets. The file is opened by the reader in the language that its path's
@@ -76,8 +144,8 @@ pub fn scan_file<R: TreeReader + CommentReader, L: Ledger>(
     steps: &mut Steps<L>,
     notices: &mut Vec<Noted>,
 ) -> Result<List<Reported>, Memory>
-    ensures results { AreApart running.now → IfOk result (IsExactly reported_cmp (IsResultIn (grammars_of (R.spells reader.now) (R.comments reader.now)) running.now (path.now, bytes))) }
-    ensures notices { OnOk result (Adds notices.old.items notices.new.items (IsNoticeIn (grammars_of (R.spells reader.now) (R.comments reader.now)) running.now (path.now, bytes))) }
+    ensures results { AreApart running.now → IfOk result (IsExactly reported_cmp (IsResultIn (grammars_of (R.spells reader.now) (R.knows reader.now) (R.comments reader.now)) running.now (path.now, bytes))) }
+    ensures notices { OnOk result (Adds notices.old.items notices.new.items (IsNoticeIn (grammars_of (R.spells reader.now) (R.knows reader.now) (R.comments reader.now)) running.now (path.now, bytes))) }
 {
     let lang = lang_of(path).unwrap_or(Lang::Regex);
     let opened = open_file(alloc, reader, lang, bytes, steps)?;
@@ -92,8 +160,8 @@ pub fn scan_file<R: TreeReader + CommentReader, L: Ledger>(
         }
         Opened::NoTree(view) => {
             add_notice(alloc, notices, path, "", NoticeKind::NoTree, "")?;
-            show_view(alloc, reader, path, &view, running, steps, notices)
+            show_view(alloc, reader, path, view, running, steps, notices)
         }
-        Opened::Read(view) => show_view(alloc, reader, path, &view, running, steps, notices),
+        Opened::Read(view) => show_view(alloc, reader, path, view, running, steps, notices),
     }
 }

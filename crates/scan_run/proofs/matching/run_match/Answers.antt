@@ -3,14 +3,13 @@ use Rattle.pattern_read.proofs.Laws.{refused}
 use Rattle.file_open.specs.declared.opened.Opened.{Opened}
 use Rattle.file_open.specs.declared.opened.Opened.TheVariants as opened
 use Rattle.file_open.specs.Opening.{IsOpened, HasOnlyTree}
-use Rattle.tree_match.specs.Members.{known_tree}
 use Rattle.languages.specs.Trees.{IsTree}
 use Rattle.scan_run.specs.declared.status.Status.{Status}
 use Rattle.scan_run.specs.declared.status.Status.TheVariants.{BadPattern, BadTarget, OverLimit}
 use Rattle.scan_run.specs.declared.status.LimitKind.TheVariants.{Target}
 use Rattle.scan_run.specs.Ways.{Printed, IsOnlyEnd}
 use Rattle.scan_run.specs.Matching.{Matches}
-use Rattle.scan_run.proofs.Matches.{unprinted, only_unprinted, ends_bad_pattern, ends_bad_target, ends_over_limit, input_steps, none_opened, file_read, only_read, ends_by_search, only_search, front_of_search, some_of_search, of_search, search_steps}
+use Rattle.scan_run.proofs.Matches.{unprinted, only_unprinted, ends_bad_pattern, ends_bad_target, ends_over_limit, input_steps, none_opened, file_read, only_read, serves_read, ends_by_search, only_search, front_of_search, some_of_search, of_search, search_steps}
 use Rattle.scan_run.proofs.Inputs.{input_kept, of_input}
 use Rattle.scan_run.proofs.matching.run_match.Goals as goal
 
@@ -66,28 +65,32 @@ returns-in_default-opened-clause-only g c a some =
 pub returns-clause-ends : goal.returns-clause-ends
 returns-clause-ends g c a =
     let bytes = c.in-Ok-read_target.bytes.items in
+    let f = c.in-Ok-named_for.named in
     let is = subst (λ (l : List ℕ). IsOpened IsTree c.args.lang l (opened.Read c.in-Read.file)) c.from_vec.ensures (subst (λ (x : Opened). IsOpened IsTree c.args.lang c.from_vec.result x) c.in-Read.is c.in-Ok-open_file.ensures.opened) in
-    ends_by_search c.args.lang c.args.text.now c.in-Ok.pattern c.in-Ok.ensures.pattern _ bytes c.in-Ok-read_target.ensures.target (known_tree c.in-Read.file) (file_read c.args.lang bytes c.in-Read.file is) _ _ _ (c.print_members.ensures.ends a)
+    ends_by_search c.args.lang c.args.text.now c.in-Ok.pattern c.in-Ok.ensures.pattern _ bytes c.in-Ok-read_target.ensures.target f.tree (file_read c.args.lang bytes c.in-Read.file f.tree is c.in-Ok-named_for.ensures.same) f.known (serves_read c.args.lang bytes c.in-Read.file f.tree f.known c.in-Ok.pattern is c.in-Ok-named_for.ensures.same c.in-Ok-named_for.ensures.serves) _ _ _ (c.print_members.ensures.ends a)
 
 pub returns-clause-only : goal.returns-clause-only
 returns-clause-only g c a some =
     let bytes = c.in-Ok-read_target.bytes.items in
+    let f = c.in-Ok-named_for.named in
     let is = subst (λ (l : List ℕ). IsOpened IsTree c.args.lang l (opened.Read c.in-Read.file)) c.from_vec.ensures (subst (λ (x : Opened). IsOpened IsTree c.args.lang c.from_vec.result x) c.in-Read.is c.in-Ok-open_file.ensures.opened) in
     let one = subst (λ (l : List ℕ). HasOnlyTree IsTree c.args.lang l (opened.Read c.in-Read.file)) c.from_vec.ensures (subst (λ (x : Opened). HasOnlyTree IsTree c.args.lang c.from_vec.result x) c.in-Read.is c.in-Ok-open_file.ensures.only) in
-    only_search c.args.lang c.args.text.now c.in-Ok.pattern c.in-Ok.ensures.pattern _ bytes c.in-Ok-read_target.ensures.target (known_tree c.in-Read.file) (file_read c.args.lang bytes c.in-Read.file is) _ _ _
-    c.in-Ok.ensures.only (only_read c.args.lang bytes c.in-Read.file one is.2.nothing_known) (c.print_members.ensures.ends a) some
+    only_search c.args.lang c.args.text.now c.in-Ok.pattern c.in-Ok.ensures.pattern _ bytes c.in-Ok-read_target.ensures.target f.tree (file_read c.args.lang bytes c.in-Read.file f.tree is c.in-Ok-named_for.ensures.same) f.known (serves_read c.args.lang bytes c.in-Read.file f.tree f.known c.in-Ok.pattern is c.in-Ok-named_for.ensures.same c.in-Ok-named_for.ensures.serves) _ _ _
+    c.in-Ok.ensures.only (only_read c.args.lang bytes c.in-Read.file f.tree one c.in-Ok-named_for.ensures.same) (c.print_members.ensures.ends a) some
 
 pub returns-clause-front_written : goal.returns-clause-front_written
 returns-clause-front_written g c e =
     let bytes = c.in-Ok-read_target.bytes.items in
+    let f = c.in-Ok-named_for.named in
     let is = subst (λ (l : List ℕ). IsOpened IsTree c.args.lang l (opened.Read c.in-Read.file)) c.from_vec.ensures (subst (λ (x : Opened). IsOpened IsTree c.args.lang c.from_vec.result x) c.in-Read.is c.in-Ok-open_file.ensures.opened) in
-    front_of_search c.args.lang c.args.text.now c.in-Ok.pattern c.in-Ok.ensures.pattern _ bytes c.in-Ok-read_target.ensures.target (known_tree c.in-Read.file) (file_read c.args.lang bytes c.in-Read.file is) _ _ (c.print_members.ensures.front_written e)
+    front_of_search c.args.lang c.args.text.now c.in-Ok.pattern c.in-Ok.ensures.pattern _ bytes c.in-Ok-read_target.ensures.target f.tree (file_read c.args.lang bytes c.in-Read.file f.tree is c.in-Ok-named_for.ensures.same) f.known (serves_read c.args.lang bytes c.in-Read.file f.tree f.known c.in-Ok.pattern is c.in-Ok-named_for.ensures.same c.in-Ok-named_for.ensures.serves) _ _ (c.print_members.ensures.front_written e)
 
 pub returns-clause-whole_lines : goal.returns-clause-whole_lines
 returns-clause-whole_lines g c e =
     let bytes = c.in-Ok-read_target.bytes.items in
+    let f = c.in-Ok-named_for.named in
     let is = subst (λ (l : List ℕ). IsOpened IsTree c.args.lang l (opened.Read c.in-Read.file)) c.from_vec.ensures (subst (λ (x : Opened). IsOpened IsTree c.args.lang c.from_vec.result x) c.in-Read.is c.in-Ok-open_file.ensures.opened) in
-    some_of_search c.args.lang c.args.text.now c.in-Ok.pattern c.in-Ok.ensures.pattern _ bytes c.in-Ok-read_target.ensures.target (known_tree c.in-Read.file) (file_read c.args.lang bytes c.in-Read.file is) _ _ (c.print_members.ensures.whole_lines e)
+    some_of_search c.args.lang c.args.text.now c.in-Ok.pattern c.in-Ok.ensures.pattern _ bytes c.in-Ok-read_target.ensures.target f.tree (file_read c.args.lang bytes c.in-Read.file f.tree is c.in-Ok-named_for.ensures.same) f.known (serves_read c.args.lang bytes c.in-Read.file f.tree f.known c.in-Ok.pattern is c.in-Ok-named_for.ensures.same c.in-Ok-named_for.ensures.serves) _ _ (c.print_members.ensures.whole_lines e)
 
 pub returns-clause-cause : goal.returns-clause-cause
 returns-clause-cause g c = of_search c.print_members.result c.print_members.ensures.cause

@@ -1,41 +1,49 @@
-use Rattle.std.proofs.Common.{◌≡◌, ℕ, List, sym, ap, ◌∙◌, subst, arith}
+use Rattle.std.proofs.Common.{◌≡◌, List, sym, ap, ◌∙◌, subst, arith}
 use Rattle.std.specs.Prelude.{All, IfOk}
 use Rattle.node_tree.specs.declared.view.FileView.{FileView}
-use Rattle.part_judge.specs.Findings.{findings_of, IsFindingPlaced}
+use Rattle.taint_judge.specs.Flows.{IsFlowIn}
+use Rattle.taint_judge.specs.Placed.{IsFindingPlaced}
+use Rattle.part_judge.specs.Findings.{findings_of}
 use Rattle.tree_match.specs.Placed.{IsLeafPlaced}
 use Rattle.scan_session.specs.Judging.{PartJudges}
 use Rattle.node_tree.specs.declared.view.Pattern.{Pattern}
 use Rattle.rule_form.specs.declared.rule.Part.{Part}
 use Rattle.rule_form.specs.declared.rule.Rule.{Rule}
 use Rattle.tree_match.specs.Members.{known_tree}
-use Rattle.scan_session.specs.Looking.{AreLeaves, in_tree}
+use Rattle.scan_session.specs.Looking.{AreLeaves, by_names}
 use Rattle.scan_session.proofs.Members.{read_there}
 use Rattle.scan_session.proofs.Judged.{part_judges, part_finds, part_only}
 use Rattle.scan_session.proofs.looking.judge_part.Goals as goal
 
 pub returns-clause-finds : goal.returns-clause-finds
 returns-clause-finds g c p at =
-    let v = c.args.view.now in
     let parts = c.args.rule.now.parts in
     let texts = c.args.rule.now.texts in
     let rule = c.rule-rule.ensures in
     let same = read_there c.as_slice.result.now parts c.args.part c.index-as_slice-part.result p (c.as_slice.ensures ∙ ap (λ (r : Rule). r.parts) rule) c.index-as_slice-part.is at in
     let number : c.in-Ok.number ≡ c.args.part = grind arith in
-    let P : List Pattern → Type 0 = λ ps. AreLeaves in_tree (known_tree v) ps c.in_ok-leaves.leaves in
-    let are = subst P (c.as_slice-2.ensures ∙ ap (λ (q : Part). q.patterns) (sym c.index-as_slice-part.is ∙ same)) c.in_ok-leaves.ensures.leaves in
-    let text = c.view.result.now.bytes in
-    let J : List ℕ → Type 0 = λ b. IfOk c.judge.result (PartJudges texts b (known_tree v) p) in
-    subst J (ap (λ (w : FileView). w.bytes) c.view.ensures) (
-    part_judges texts text (known_tree v) parts c.args.part c.in-Ok.number p c.in_ok-leaves.leaves at number are c.judge.result
-    (part_finds c.in_ok-leaves.leaves c.in_ok-rx.rx texts text c.rule-rule.result.now.parts parts c.in-Ok.number c.judge.result c.in_ok-rx.ensures (ap (λ (r : Rule). r.parts) rule) c.judge.ensures.finds)
-    (part_only c.in_ok-leaves.leaves c.in_ok-rx.rx texts text c.rule-rule.result.now.parts parts c.in-Ok.number c.judge.result c.in_ok-rx.ensures (ap (λ (r : Rule). r.parts) rule) c.judge.ensures.only))
+    let w = c.view.result.now in
+    let r = c.ready.result.now in
+    let P : List Pattern → Type 0 = λ ps. AreLeaves (by_names r.known) r.tree ps c.in_ok-leaves.leaves in
+    let Q : FileView → Type 0 = λ x. AreLeaves (by_names x.known) x.tree p.patterns c.in_ok-leaves.leaves in
+    let are = subst Q (c.ready.ensures ∙ sym c.view.ensures) (subst P (c.as_slice-2.ensures ∙ ap (λ (q : Part). q.patterns) (sym c.index-as_slice-part.is ∙ same)) c.in_ok-leaves.ensures.leaves) in
+    let J : FileView → Type 0 = λ x. IfOk c.judge.result (PartJudges texts x.bytes (known_tree x) p) in
+    subst J c.view.ensures (
+    part_judges texts w.bytes (known_tree w) parts c.args.part c.in-Ok.number p c.in_ok-leaves.leaves at number are c.judge.result
+    (part_finds c.in_ok-leaves.leaves c.in_ok-rx.rx texts w.bytes w.tree c.rule-rule.result.now.parts parts c.in-Ok.number c.judge.result c.in_ok-rx.ensures (ap (λ (r : Rule). r.parts) rule) c.judge.ensures.finds)
+    (part_only c.in_ok-leaves.leaves c.in_ok-rx.rx texts w.bytes w.tree c.rule-rule.result.now.parts parts c.in-Ok.number c.judge.result c.in_ok-rx.ensures (ap (λ (r : Rule). r.parts) rule) c.judge.ensures.only))
 
 pub judge-requires-clause-placed : goal.judge-requires-clause-placed
 judge-requires-clause-placed g c =
     let P : FileView → Type 0 = λ w. All (λ leaf. IsLeafPlaced w.bytes leaf) c.in_ok-leaves.leaves in
-    subst P (sym c.view.ensures) c.in_ok-leaves.ensures.placed
+    subst P (c.ready.ensures ∙ sym c.view.ensures) c.in_ok-leaves.ensures.placed
 
 pub returns-clause-placed : goal.returns-clause-placed
 returns-clause-placed g c =
     let P : FileView → Type 0 = λ w. IfOk c.judge.result (λ found. All (λ finding. IsFindingPlaced w.bytes finding) (findings_of found)) in
     subst P c.view.ensures c.judge.ensures.placed
+
+pub judge-requires-clause-flow : goal.judge-requires-clause-flow
+judge-requires-clause-flow g c =
+    let P : FileView → Type 0 = λ w. IsFlowIn w c.flow.result in
+    subst P (sym c.view.ensures) c.flow.ensures

@@ -1,4 +1,4 @@
-use Rattle.std.proofs.Common.{◌≡◌, ℕ, Bool, List, map, ap, ◌∙◌}
+use Rattle.std.proofs.Common.{◌≡◌, Bool, List, map, ap, ◌∙◌}
 use Rattle.quieting.specs.declared.quiet.Quiet.{Quiet}
 use Rattle.report_form.specs.declared.report.Reported.{Reported}
 use Rattle.scan_session.specs.Quieted.{AreUnquieted, is_quieted_by, unmarked}

@@ -3,7 +3,7 @@ use Rattle.std.specs.Prelude.{slice_get}
 use Rattle.std.proofs.lemmas.List.{drop_all}
 use Rattle.meta_bind.specs.declared.finding.Finding.{Finding}
 use Rattle.meta_bind.proofs.Lookups.{opened}
-use Rattle.part_judge.specs.Findings.{IsFindingPlaced}
+use Rattle.taint_judge.specs.Placed.{IsFindingPlaced}
 use Rattle.node_match.proofs.Sets.{among_at}
 use Rattle.report_form.specs.declared.report.Reported.{Reported}
 use Rattle.scan_session.specs.Reports.{reported}

@@ -4,7 +4,6 @@ use Rattle.std.specs.Option.{unwrap_or}
 use Rattle.node_tree.specs.declared.view.Lang.{Lang}
 use Rattle.node_tree.specs.declared.view.Lang.TheVariants.{Regex}
 use Rattle.file_open.specs.declared.opened.Opened.TheVariants as opened
-use Rattle.tree_match.specs.Members.{known_tree}
 use Rattle.scan_session.specs.Reports.{reported_cmp}
 use Rattle.scan_session.specs.Sets.{IsExactly}
 use Rattle.scan_session.specs.Quieted.{grammars_of}
@@ -16,7 +15,7 @@ use Rattle.scan_session.proofs.scanning.scan_file.Goals as goal
 
 pub returns-in_ok-add_notice-in-TooLarge-clause-results : goal.returns-in_ok-add_notice-in-TooLarge-clause-results
 returns-in_ok-add_notice-in-TooLarge-clause-results g c apart =
-    let grammars = grammars_of (g.R.TreeReader.spells c.args.reader.now) (g.R.CommentReader.comments c.args.reader.now) in
+    let grammars = grammars_of (g.R.TreeReader.spells c.args.reader.now) (g.R.TreeReader.knows c.args.reader.now) (g.R.CommentReader.comments c.args.reader.now) in
     let path = c.args.path.now in
     let bytes = c.args.bytes in
     let e : c.unwrap_or-lang.result ≡ lang_at path = c.unwrap_or-lang.ensures ∙ ap (λ (o : Option Lang). unwrap_or o Regex) c.lang_of.ensures in
@@ -26,7 +25,7 @@ returns-in_ok-add_notice-in-TooLarge-clause-results g c apart =
 
 pub returns-in_ok-add_notice-in-TooLarge-clause-notices : goal.returns-in_ok-add_notice-in-TooLarge-clause-notices
 returns-in_ok-add_notice-in-TooLarge-clause-notices g c =
-    let grammars = grammars_of (g.R.TreeReader.spells c.args.reader.now) (g.R.CommentReader.comments c.args.reader.now) in
+    let grammars = grammars_of (g.R.TreeReader.spells c.args.reader.now) (g.R.TreeReader.knows c.args.reader.now) (g.R.CommentReader.comments c.args.reader.now) in
     let path = c.args.path.now in
     let bytes = c.args.bytes in
     let e : c.unwrap_or-lang.result ≡ lang_at path = c.unwrap_or-lang.ensures ∙ ap (λ (o : Option Lang). unwrap_or o Regex) c.lang_of.ensures in
@@ -36,7 +35,7 @@ returns-in_ok-add_notice-in-TooLarge-clause-notices g c =
 
 pub returns-in_ok-add_notice-in-NotUtf8-clause-results : goal.returns-in_ok-add_notice-in-NotUtf8-clause-results
 returns-in_ok-add_notice-in-NotUtf8-clause-results g c apart =
-    let grammars = grammars_of (g.R.TreeReader.spells c.args.reader.now) (g.R.CommentReader.comments c.args.reader.now) in
+    let grammars = grammars_of (g.R.TreeReader.spells c.args.reader.now) (g.R.TreeReader.knows c.args.reader.now) (g.R.CommentReader.comments c.args.reader.now) in
     let path = c.args.path.now in
     let bytes = c.args.bytes in
     let e : c.unwrap_or-lang.result ≡ lang_at path = c.unwrap_or-lang.ensures ∙ ap (λ (o : Option Lang). unwrap_or o Regex) c.lang_of.ensures in
@@ -46,7 +45,7 @@ returns-in_ok-add_notice-in-NotUtf8-clause-results g c apart =
 
 pub returns-in_ok-add_notice-in-NotUtf8-clause-notices : goal.returns-in_ok-add_notice-in-NotUtf8-clause-notices
 returns-in_ok-add_notice-in-NotUtf8-clause-notices g c =
-    let grammars = grammars_of (g.R.TreeReader.spells c.args.reader.now) (g.R.CommentReader.comments c.args.reader.now) in
+    let grammars = grammars_of (g.R.TreeReader.spells c.args.reader.now) (g.R.TreeReader.knows c.args.reader.now) (g.R.CommentReader.comments c.args.reader.now) in
     let path = c.args.path.now in
     let bytes = c.args.bytes in
     let e : c.unwrap_or-lang.result ≡ lang_at path = c.unwrap_or-lang.ensures ∙ ap (λ (o : Option Lang). unwrap_or o Regex) c.lang_of.ensures in
@@ -56,7 +55,7 @@ returns-in_ok-add_notice-in-NotUtf8-clause-notices g c =
 
 pub returns-in_ok-add_notice-in-NoTree-clause-results : goal.returns-in_ok-add_notice-in-NoTree-clause-results
 returns-in_ok-add_notice-in-NoTree-clause-results g c apart =
-    let grammars = grammars_of (g.R.TreeReader.spells c.args.reader.now) (g.R.CommentReader.comments c.args.reader.now) in
+    let grammars = grammars_of (g.R.TreeReader.spells c.args.reader.now) (g.R.TreeReader.knows c.args.reader.now) (g.R.CommentReader.comments c.args.reader.now) in
     let path = c.args.path.now in
     let bytes = c.args.bytes in
     let rules = c.args.running.now in
@@ -64,12 +63,12 @@ returns-in_ok-add_notice-in-NoTree-clause-results g c apart =
     let e : c.unwrap_or-lang.result ≡ lang_at path = c.unwrap_or-lang.ensures ∙ ap (λ (o : Option Lang). unwrap_or o Regex) c.lang_of.ensures in
     let is = opened_as grammars.spells path bytes _ _ (opened.NoTree v) e c.in-NoTree.is c.in_ok-opened.ensures.opened in
     let only = only_as grammars.spells path bytes _ _ (opened.NoTree v) e c.in-NoTree.is c.in_ok-opened.ensures.only in
-    if_reported (IsExactly reported_cmp (IsShownIn grammars.leaf_of grammars.comments rules path v.lang v.bytes (known_tree v))) (IsExactly reported_cmp (IsResultIn grammars rules (path, bytes))) c.show_view.result
-    (λ rs h. seen_results grammars rules path bytes (opened.NoTree v) is only v.lang v.bytes (known_tree v) (refl, refl) (λ l t s. s) is.2.bytes_are rs h) (c.show_view.ensures.results apart)
+    if_reported (IsExactly reported_cmp (IsShownIn grammars.leaf_of grammars.comments rules path v.lang v.bytes v.tree)) (IsExactly reported_cmp (IsResultIn grammars rules (path, bytes))) c.show_view.result
+    (λ rs h. seen_results grammars rules path bytes (opened.NoTree v) is only v.lang v.bytes v.tree (refl, refl) (λ l t s. s) is.2.bytes_are rs h) (c.show_view.ensures.results apart)
 
 pub returns-in_ok-add_notice-in-NoTree-clause-notices : goal.returns-in_ok-add_notice-in-NoTree-clause-notices
 returns-in_ok-add_notice-in-NoTree-clause-notices g c =
-    let grammars = grammars_of (g.R.TreeReader.spells c.args.reader.now) (g.R.CommentReader.comments c.args.reader.now) in
+    let grammars = grammars_of (g.R.TreeReader.spells c.args.reader.now) (g.R.TreeReader.knows c.args.reader.now) (g.R.CommentReader.comments c.args.reader.now) in
     let path = c.args.path.now in
     let bytes = c.args.bytes in
     let rules = c.args.running.now in
@@ -80,11 +79,11 @@ returns-in_ok-add_notice-in-NoTree-clause-notices g c =
     let old = c.args.notices.now.items in
     let mid = c.add_notice-in-NoTree.new.notices.items in
     let new = c.show_view.new.notices.items in
-    on_ok_map c.show_view.result (λ h. seen_notices grammars rules path bytes (opened.NoTree v) is only v.lang v.bytes (known_tree v) (refl, refl) (λ l t s. s) is.2.bytes_are old mid new c.in_ok-add_notice-in-NoTree.ensures h) c.show_view.ensures.notices
+    on_ok_map c.show_view.result (λ h. seen_notices grammars rules path bytes (opened.NoTree v) is only v.lang v.bytes v.tree (refl, refl) (λ l t s. s) is.2.bytes_are old mid new c.in_ok-add_notice-in-NoTree.ensures h) c.show_view.ensures.notices
 
 pub returns-in-Read-clause-results : goal.returns-in-Read-clause-results
 returns-in-Read-clause-results g c apart =
-    let grammars = grammars_of (g.R.TreeReader.spells c.args.reader.now) (g.R.CommentReader.comments c.args.reader.now) in
+    let grammars = grammars_of (g.R.TreeReader.spells c.args.reader.now) (g.R.TreeReader.knows c.args.reader.now) (g.R.CommentReader.comments c.args.reader.now) in
     let path = c.args.path.now in
     let bytes = c.args.bytes in
     let rules = c.args.running.now in
@@ -92,12 +91,12 @@ returns-in-Read-clause-results g c apart =
     let e : c.unwrap_or-lang.result ≡ lang_at path = c.unwrap_or-lang.ensures ∙ ap (λ (o : Option Lang). unwrap_or o Regex) c.lang_of.ensures in
     let is = opened_as grammars.spells path bytes _ _ (opened.Read v) e c.in-Read.is c.in_ok-opened.ensures.opened in
     let only = only_as grammars.spells path bytes _ _ (opened.Read v) e c.in-Read.is c.in_ok-opened.ensures.only in
-    if_reported (IsExactly reported_cmp (IsShownIn grammars.leaf_of grammars.comments rules path v.lang v.bytes (known_tree v))) (IsExactly reported_cmp (IsResultIn grammars rules (path, bytes))) c.show_view-in-Read.result
-    (λ rs h. seen_results grammars rules path bytes (opened.Read v) is only v.lang v.bytes (known_tree v) (refl, refl) (λ l t s. s) is.2.bytes_are rs h) (c.show_view-in-Read.ensures.results apart)
+    if_reported (IsExactly reported_cmp (IsShownIn grammars.leaf_of grammars.comments rules path v.lang v.bytes v.tree)) (IsExactly reported_cmp (IsResultIn grammars rules (path, bytes))) c.show_view-in-Read.result
+    (λ rs h. seen_results grammars rules path bytes (opened.Read v) is only v.lang v.bytes v.tree (refl, refl) (λ l t s. s) is.2.bytes_are rs h) (c.show_view-in-Read.ensures.results apart)
 
 pub returns-in-Read-clause-notices : goal.returns-in-Read-clause-notices
 returns-in-Read-clause-notices g c =
-    let grammars = grammars_of (g.R.TreeReader.spells c.args.reader.now) (g.R.CommentReader.comments c.args.reader.now) in
+    let grammars = grammars_of (g.R.TreeReader.spells c.args.reader.now) (g.R.TreeReader.knows c.args.reader.now) (g.R.CommentReader.comments c.args.reader.now) in
     let path = c.args.path.now in
     let bytes = c.args.bytes in
     let rules = c.args.running.now in
@@ -108,4 +107,4 @@ returns-in-Read-clause-notices g c =
     let old = c.args.notices.now.items in
     let mid = c.args.notices.now.items in
     let new = c.show_view-in-Read.new.notices.items in
-    on_ok_map c.show_view-in-Read.result (λ h. seen_notices grammars rules path bytes (opened.Read v) is only v.lang v.bytes (known_tree v) (refl, refl) (λ l t s. s) is.2.bytes_are old mid new (sym (append-nil c.args.notices.now.items)) h) c.show_view-in-Read.ensures.notices
+    on_ok_map c.show_view-in-Read.result (λ h. seen_notices grammars rules path bytes (opened.Read v) is only v.lang v.bytes v.tree (refl, refl) (λ l t s. s) is.2.bytes_are old mid new (sym (append-nil c.args.notices.now.items)) h) c.show_view-in-Read.ensures.notices

@@ -1,4 +1,4 @@
-use Rattle.std.proofs.Common.{◌↔◌, ℕ, List, sym, subst}
+use Rattle.std.proofs.Common.{◌↔◌, ℕ, List, sym, subst, ◌∙◌}
 use Rattle.node_tree.specs.declared.view.FileView.{FileView}
 use Rattle.rule_form.specs.declared.rule.Rule.{Rule}
 use Rattle.std.specs.List.{flat_map}
@@ -9,8 +9,7 @@ use Rattle.scan_session.specs.declared.looking.Judged.{Judged}
 use Rattle.scan_session.specs.Hits.{Hit, hit_cmp}
 use Rattle.scan_session.specs.Reports.{reported_cmp}
 use Rattle.scan_session.specs.Sets.{IsExactly}
-use Rattle.scan_session.specs.Judging.{IsJudged, AreAllPlaced, AreReported, judged_notices}
-use Rattle.scan_session.specs.Looking.{own_leaf}
+use Rattle.scan_session.specs.Judging.{IsJudged, AreAllPlaced, AreReported, judged_notices, named_leaf}
 use Rattle.scan_session.specs.Fresh.{IsFoundIn, IsNotedIn}
 use Rattle.scan_session.proofs.Members.{appended, on_ok}
 use Rattle.scan_session.proofs.Hits.{found_all, shown_all, numbered, hits_numbered, hits_placed, results_exactly, noted_exactly, if_reported}
@@ -26,7 +25,7 @@ note_judged-requires g c =
     let path = c.args.path.now in
     let rules = c.args.running.now in
     let found = c.as_slice-found.result.now in
-    numbered path v.lang v.bytes (known_tree v) rules found (found_all path v.lang v.bytes (known_tree v) rules c.in_ok-judged.judged.items found c.as_slice-found.ensures.value (subst (Found path rules c.in_ok-judged.judged.items) c.in_ok-ready.ensures c.in_ok-judged.ensures.judged))
+    numbered path v.lang v.bytes (known_tree v) rules found (found_all path v.lang v.bytes (known_tree v) rules c.in_ok-judged.judged.items found c.as_slice-found.ensures.value (subst (Found path rules c.in_ok-judged.judged.items) (c.in_ok-file.ensures ∙ c.requires) c.in_ok-judged.ensures.judged))
 
 pub report_rows-requires-clause-numbered : goal.report_rows-requires-clause-numbered
 report_rows-requires-clause-numbered g c =
@@ -34,7 +33,7 @@ report_rows-requires-clause-numbered g c =
     let path = c.args.path.now in
     let rules = c.args.running.now in
     let found = c.as_slice-found.result.now in
-    let all = found_all path v.lang v.bytes (known_tree v) rules c.in_ok-judged.judged.items found c.as_slice-found.ensures.value (subst (Found path rules c.in_ok-judged.judged.items) c.in_ok-ready.ensures c.in_ok-judged.ensures.judged) in
+    let all = found_all path v.lang v.bytes (known_tree v) rules c.in_ok-judged.judged.items found c.as_slice-found.ensures.value (subst (Found path rules c.in_ok-judged.judged.items) (c.in_ok-file.ensures ∙ c.requires) c.in_ok-judged.ensures.judged) in
     let whole = shown_all rules found c.in_ok-unsorted.unsorted.items c.in_ok-rows.rows.items c.as_slice.result.now c.as_slice.ensures.value c.in_ok-rows.ensures.same c.in_ok-unsorted.ensures in
     hits_numbered path v.lang v.bytes (known_tree v) rules found all c.as_slice.result.now whole
 
@@ -44,11 +43,11 @@ report_rows-requires-clause-placed g c =
     let path = c.args.path.now in
     let rules = c.args.running.now in
     let found = c.as_slice-found.result.now in
-    let all = found_all path v.lang v.bytes (known_tree v) rules c.in_ok-judged.judged.items found c.as_slice-found.ensures.value (subst (Found path rules c.in_ok-judged.judged.items) c.in_ok-ready.ensures c.in_ok-judged.ensures.judged) in
+    let all = found_all path v.lang v.bytes (known_tree v) rules c.in_ok-judged.judged.items found c.as_slice-found.ensures.value (subst (Found path rules c.in_ok-judged.judged.items) (c.in_ok-file.ensures ∙ c.requires) c.in_ok-judged.ensures.judged) in
     let whole = shown_all rules found c.in_ok-unsorted.unsorted.items c.in_ok-rows.rows.items c.as_slice.result.now c.as_slice.ensures.value c.in_ok-rows.ensures.same c.in_ok-unsorted.ensures in
     let P : List Judged → Type 0 = AreAllPlaced v.bytes in
     let Q : FileView → Type 0 = λ w. AreAllPlaced w.bytes c.in_ok-judged.judged.items in
-    hits_placed path v.lang v.bytes (known_tree v) rules found all c.as_slice.result.now whole (subst P (sym c.as_slice-found.ensures.value) (subst Q c.in_ok-ready.ensures c.in_ok-judged.ensures.placed))
+    hits_placed path v.lang v.bytes (known_tree v) rules found all c.as_slice.result.now whole (subst P (sym c.as_slice-found.ensures.value) (subst Q (c.in_ok-file.ensures ∙ c.requires) c.in_ok-judged.ensures.placed))
 
 pub returns-clause-results : goal.returns-clause-results
 returns-clause-results g c apart =
@@ -57,11 +56,11 @@ returns-clause-results g c apart =
     let rules = c.args.running.now in
     let found = c.as_slice-found.result.now in
     let shown = c.as_slice.result.now in
-    let all = found_all path v.lang v.bytes (known_tree v) rules c.in_ok-judged.judged.items found c.as_slice-found.ensures.value (subst (Found path rules c.in_ok-judged.judged.items) c.in_ok-ready.ensures c.in_ok-judged.ensures.judged) in
+    let all = found_all path v.lang v.bytes (known_tree v) rules c.in_ok-judged.judged.items found c.as_slice-found.ensures.value (subst (Found path rules c.in_ok-judged.judged.items) (c.in_ok-file.ensures ∙ c.requires) c.in_ok-judged.ensures.judged) in
     let whole = shown_all rules found c.in_ok-unsorted.unsorted.items c.in_ok-rows.rows.items shown c.as_slice.ensures.value c.in_ok-rows.ensures.same c.in_ok-unsorted.ensures in
     let P : List Hit → Type 0 = IsAscending hit_cmp in
     let up = subst P (sym c.as_slice.ensures.value) c.in_ok-rows.ensures.ordered in
-    if_reported (AreReported path v.bytes rules shown) (IsExactly reported_cmp (IsFoundIn own_leaf rules path v.lang v.bytes (known_tree v))) c.report_rows.result (λ rs are. results_exactly path v.lang v.bytes (known_tree v) rules found all shown whole apart rs are up) c.report_rows.ensures
+    if_reported (AreReported path v.bytes rules shown) (IsExactly reported_cmp (IsFoundIn (named_leaf v.known) rules path v.lang v.bytes v.tree)) c.report_rows.result (λ rs are. results_exactly path v.lang v.bytes (known_tree v) rules found all shown whole apart rs are up) c.report_rows.ensures
 
 pub returns-clause-notices : goal.returns-clause-notices
 returns-clause-notices g c =
@@ -69,7 +68,7 @@ returns-clause-notices g c =
     let path = c.args.path.now in
     let rules = c.args.running.now in
     let found = c.as_slice-found.result.now in
-    let all = found_all path v.lang v.bytes (known_tree v) rules c.in_ok-judged.judged.items found c.as_slice-found.ensures.value (subst (Found path rules c.in_ok-judged.judged.items) c.in_ok-ready.ensures c.in_ok-judged.ensures.judged) in
+    let all = found_all path v.lang v.bytes (known_tree v) rules c.in_ok-judged.judged.items found c.as_slice-found.ensures.value (subst (Found path rules c.in_ok-judged.judged.items) (c.in_ok-file.ensures ∙ c.requires) c.in_ok-judged.ensures.judged) in
     let old = c.args.notices.now.items in
     let new = c.note_judged.new.notices.items in
-    on_ok (Adds old new (IsNotedIn own_leaf rules path v.lang v.bytes (known_tree v))) c.report_rows.result (appended old new (flat_map (judged_notices path rules) found) (IsNotedIn own_leaf rules path v.lang v.bytes (known_tree v)) c.in_ok-note_judged.ensures (noted_exactly path v.lang v.bytes (known_tree v) rules found all))
+    on_ok (Adds old new (IsNotedIn (named_leaf v.known) rules path v.lang v.bytes v.tree)) c.report_rows.result (appended old new (flat_map (judged_notices path rules) found) (IsNotedIn (named_leaf v.known) rules path v.lang v.bytes v.tree) c.in_ok-note_judged.ensures (noted_exactly path v.lang v.bytes (known_tree v) rules found all))

@@ -1,0 +1,4 @@
+pub mod Each
+pub mod Gathering
+pub mod Hits
+pub mod Once

@@ -1,0 +1,78 @@
+//! Trees in which data is followed.
+
+ghost use Rattle.std.specs.Prelude.{◌≡◌, ℕ, IfOk, Err};
+ghost use Rattle.taint_flow.specs.declared.fault.TaintFault.TheVariants.{TooLarge};
+ghost use Rattle.taint_flow.specs.Taint.{AreHits};
+ghost use Rattle.taint_flow.specs.Sizes.{NoneLarge, FirstLarge};
+ghost use Rattle.taint_judge.specs.Flows.{IsFlowIn};
+
+use node_tree::{FileView, List, Memory, Node};
+use point_nodes::IndexedTree;
+use std::alloc::Global;
+use std::marker::Model;
+use taint_flow::{TaintFault, TaintHit, TaintSets, taint, taint_in};
+use unit_names::{Scope, scopes_of};
+
+/// A tree in which many rules follow data: its nodes are found by number, and its units have their graphs. Contracts see the tree.
+#[derive(Drop)]
+pub struct FlowTree<'t> {
+    root: &'t Node,
+    nodes: IndexedTree<'t>,
+    units: List<Scope>,
+}
+
+impl<'t> Model for FlowTree<'t> {
+    ghost use Rattle.node_tree.specs.declared.node.Node.{Node as node};
+    ghost use Rattle.node_tree.specs.contracts.node.Node as node_contracts;
+
+    ghost Value = { node };
+
+    ghost coded = { node_contracts.the_row.coded };
+
+    ghost use Rattle.taint_judge.specs.Flows.{IsFlowOf};
+
+    ghost view = { λ f. f.root.now };
+
+    ghost invariant = { λ f. IsFlowOf f.root.now f.nodes f.units };
+}
+
+impl<'t> FlowTree<'t> {
+    /// The tree, ready for data to be followed in it.
+    pub fn of(alloc: Global, root: &'t Node) -> Result<FlowTree<'t>, Memory>
+        ensures { IfOk result (λ tree. tree ≡ root.now) }
+    {
+        Ok(FlowTree {
+            root,
+            nodes: IndexedTree::of(alloc, root)?,
+            units: scopes_of(root)?,
+        })
+    }
+
+    // The sinks that are hit, each with the least source that hits it.
+    fn hits(&self, alloc: Global, sets: &TaintSets) -> Result<List<TaintHit>, TaintFault>
+        ensures hits { IfOk result (AreHits self.now sets.now) }
+        ensures fits { IfOk result (λ _. NoneLarge self.now sets.now) }
+        ensures large { (at : ℕ) → result ≡ Err (TooLarge at) → FirstLarge self.now sets.now at }
+    {
+        taint_in(alloc, self.root, &self.nodes, self.units.as_slice(), sets)
+    }
+}
+
+/// The sinks of a file that are hit, each with the least source that hits it. What it takes to follow data is made here, unless
+/// it is lent.
+pub fn hits_in(
+    alloc: Global,
+    view: &FileView,
+    flow: Option<&FlowTree<'_>>,
+    sets: &TaintSets,
+) -> Result<List<TaintHit>, TaintFault>
+    requires flow { IsFlowIn view.now flow }
+    ensures hits { IfOk result (AreHits view.now.tree sets.now) }
+    ensures fits { IfOk result (λ _. NoneLarge view.now.tree sets.now) }
+    ensures large { (at : ℕ) → result ≡ Err (TooLarge at) → FirstLarge view.now.tree sets.now at }
+{
+    match flow {
+        Some(tree) => tree.hits(alloc, sets),
+        None => taint(alloc, &view.tree, sets),
+    }
+}
