@@ -1,0 +1,5 @@
+pub mod Giving
+pub mod Paths
+pub mod Fitting
+pub mod Followed
+pub mod Sought
