@@ -21,7 +21,7 @@ PROGRAM = r'''//! Fills a store, and asks it.
 #![tactic(auto)]
 
 use node_tree::{Bytes, List, Memory, Shift};
-use piece_form::{PatternKey, Piece, PieceKey};
+use piece_form::{KnownNames, PatternKey, Piece, PieceKey};
 use piece_store::{Answer, Row, Store};
 use std::alloc::Global;
 use std::marker::Model;
@@ -92,7 +92,7 @@ fn pieces(alloc: Global, text: &str) -> Result<Vec<PieceKey>, Memory> {
             lang: node_tree::Lang::Python,
             bytes: Bytes::from_slice(alloc, &text.as_bytes()[from as usize..kid.span.to as usize])?,
             tree: kid.copy_shifted(Shift::Earlier(from))?,
-            known: List::new(alloc),
+            known: KnownNames::of(List::new(alloc)),
         };
         keys.push(PieceKey::of(alloc, &piece)?)?;
     }
@@ -206,6 +206,13 @@ fn run(rt: &HostRuntime, files: u32, patterns: u32) -> Result<(), Memory> {
         }
     }
     let _ = println!(rt; "look {looking} mark {marking} take {taking} found {found}");
+    let start = now(rt)?;
+    let mut handed = 0u64;
+    for pair in store.pairs() {
+        handed += pair.path.len().min(1) as u64;
+    }
+    let time = now(rt)?.saturating_sub(start);
+    let _ = println!(rt; "hand_out {time} handed {handed}");
     store.turn();
     let start = now(rt)?;
     for file in 0..files {
@@ -253,7 +260,7 @@ def main():
     print(said)
     numbers = {word: int(number) for word, number in re.findall(r'(\w+) (\d+)', said)}
     pairs = numbers['pairs']
-    for word in ('keep', 'look', 'mark'):
+    for word in ('keep', 'look', 'mark', 'hand_out'):
         print(f'{word}: {numbers[word] / pairs / 1000:.4f} us a pair')
     for word in ('give', 'take'):
         print(f'{word}: {numbers[word] / numbers["pieces"] / 1000:.2f} us a piece')

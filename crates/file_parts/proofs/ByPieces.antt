@@ -1,6 +1,6 @@
 -- The leaf of a file from those of its parts.
-use Rattle.std.proofs.Common.{◌≡◌, ℕ, ◌+◌, List, [], ◌∷◌, ◌++◌, ◌⊎◌, inl, inr, ◌↔◌, map, refl, sym, ap, ◌∙◌, subst, Bool, true, false}
-use Rattle.std.specs.Prelude.{Result, Ok, Err, IfOk, not, ◌&&◌, ◌||◌, if◌then◌else◌}
+use Rattle.std.proofs.Common.{◌≡◌, ℕ, ◌+◌, List, [], ◌∷◌, ◌++◌, ◌⊎◌, inl, inr, ◌↔◌, map, refl, sym, ap, subst, Bool, true, false}
+use Rattle.std.specs.Prelude.{not, ◌&&◌, ◌||◌, if◌then◌else◌}
 use Rattle.std.specs.List.{list_all}
 use Rattle.node_tree.specs.declared.node.Node.{Node}
 use Rattle.node_tree.specs.declared.kind.Kind.{Kind}
@@ -9,17 +9,14 @@ use Rattle.node_tree.specs.declared.view.FileView.{FileView}
 use Rattle.node_tree.specs.declared.view.Pattern.{Pattern}
 use Rattle.node_tree.specs.declared.view.Shape.{Shape}
 use Rattle.node_tree.specs.declared.view.Shape.TheVariants.{Expr, Run}
-use Rattle.node_tree.specs.Tree.{kind_of, kids_of, span_of, pre_of}
+use Rattle.node_tree.specs.Tree.{kind_of, kids_of}
 use Rattle.node_tree.specs.Numbers.{Numbered, count_of, root_of, siblings, kids_at}
 use Rattle.node_match.specs.Sets.{Among}
 use Rattle.piece_form.specs.declared.piece.Placed.{Placed}
 use Rattle.piece_form.specs.Cut.{piece_at, pieces_from, pieces_of}
 use Rattle.tree_match.specs.declared.leaf.Leaf.{Leaf}
-use Rattle.tree_match.specs.declared.leaf.Leaf.TheVariants.{Full, Crowded}
 use Rattle.tree_match.specs.Leaf.{IsLeaf}
-use Rattle.tree_match.specs.Members.{Member, IsMember, KnownTree, known_tree}
-use Rattle.tree_match.specs.Placed.{IsLeafPlaced}
-use Rattle.tree_match.proofs.Placed.{leaves_placed}
+use Rattle.tree_match.specs.Members.{Member, IsMember, known_tree}
 use Rattle.piece_match.specs.declared.unite.PlacedLeaf.{PlacedLeaf}
 use Rattle.piece_match.specs.Moved.{Moved, moved_leaf}
 use Rattle.piece_match.specs.Pieces.{is_root, stands_alone, falls_apart, is_cut, RootRun, MemberOfPiece, IsPieceMember, known_piece, IsMemberUnder}
@@ -28,7 +25,22 @@ use Rattle.piece_match.proofs.Amongs.{among_first, among_second, among_either}
 use Rattle.piece_match.proofs.Later.{leaf_moved}
 use Rattle.piece_match.proofs.Splitting.{split, leaf_as, union_leaf}
 use Rattle.piece_match.proofs.Standing.{stands, still, kid_placed, kid_node}
-use Rattle.file_parts.specs.Parts.{whole_part, is_run, needs_whole, parts_for, AreLeavesIn}
+use Rattle.file_parts.specs.Parts.{whole_part, is_run}
+
+-- the pattern is matched in the whole file: for its runs, or since it can't be matched statement by statement
+abbrev pub needs_whole : Pattern → FileView → Bool
+needs_whole pattern view = is_run pattern.shape || not (is_cut pattern view.tree)
+
+-- the pieces of one view that a pattern is matched in, in order
+abbrev pub parts_for : Pattern → FileView → List Placed
+parts_for pattern view = (if is_cut pattern view.tree then pieces_of view else []) ++ (if needs_whole pattern view then whole_part view ∷ [] else [])
+
+-- these are the leaves of a pattern in those pieces, each with where its piece starts
+abbrev pub AreLeavesIn : Pattern → List Placed → List PlacedLeaf → Type 0
+AreLeavesIn pattern [] [] = Unit {0}
+AreLeavesIn pattern [] (l ∷ ls) = ⊥
+AreLeavesIn pattern (p ∷ ps) [] = ⊥
+AreLeavesIn pattern (p ∷ ps) (l ∷ ls) = (l.start ≡ p.start) × IsLeaf (IsPieceMember pattern (known_piece p.piece)) l.leaf.now × AreLeavesIn pattern ps ls
 
 -- the members of a part where it stands
 abbrev PartSet : Pattern → Placed → Member → Type 0
@@ -171,11 +183,8 @@ module _ (pattern : Pattern) (view : FileView) where
       let P : ℕ → Type 0 = λ by. IsLeaf (PartSet pattern p) (moved_leaf by l.leaf.now) in
       (subst P (sym e) (leaf_moved p.start (IsPieceMember pattern (known_piece p.piece)) l.leaf.now x), moved_leaves ps ls rest)
 
-  pub joined : {E : Type 0} (ls : List PlacedLeaf) (r : Result Leaf E) → AreLeavesIn pattern (parts_for pattern view) ls → IfOk r (λ leaf. IsUnion (map moved_part ls) leaf) → IfOk r (λ leaf. IsLeaf (IsMember pattern (known_tree view)) leaf)
-  joined ls (Ok leaf) all is =
+  -- the union of the leaves in the pieces is the leaf in the view
+  pub union_is : (ls : List PlacedLeaf) (leaf : Leaf) → AreLeavesIn pattern (parts_for pattern view) ls → IsUnion (map moved_part ls) leaf → IsLeaf (IsMember pattern (known_tree view)) leaf
+  union_is ls leaf all is =
       leaf_as (InAny (PartSet pattern) (parts_for pattern view)) (IsMember pattern (known_tree view)) leaf whole_set
       (union_leaf (PartSet pattern) (parts_for pattern view) (map moved_part ls) leaf (moved_leaves (parts_for pattern view) ls all) is)
-  joined ls (Err e) all is = tt
-
-  pub joined_placed : {E : Type 0} (ls : List PlacedLeaf) (r : Result Leaf E) → AreLeavesIn pattern (parts_for pattern view) ls → IfOk r (λ leaf. IsUnion (map moved_part ls) leaf) → IfOk r (λ leaf. IsLeafPlaced view.bytes leaf)
-  joined_placed ls r all is = leaves_placed view.bytes pattern (known_tree view) r view.placed (joined ls r all is)

@@ -1,1 +1,5 @@
 pub mod ByPieces
+pub mod Once
+pub mod Resolving
+pub mod Splits
+pub mod Through

@@ -1,2 +1,4 @@
-pub mod Listed
+pub mod Seen
 pub mod Parts
+pub mod Leaves
+pub mod Held

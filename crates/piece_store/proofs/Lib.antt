@@ -1,6 +1,7 @@
 pub mod BitLaws
 pub mod Outcomes
-pub mod Pairs
+pub mod PairLists
+pub mod ByNumber
 pub mod RowLaws
 pub mod RowPuts
 pub mod Settled

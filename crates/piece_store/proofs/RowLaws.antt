@@ -6,7 +6,7 @@ use Rattle.std.proofs.lemmas.Cmp.{ranked}
 use Rattle.piece_store.specs.declared.words.Word.{Word}
 use Rattle.piece_store.specs.Bits.{no_word}
 use Rattle.piece_store.specs.Slots.{turned}
-use Rattle.piece_store.proofs.Pairs.{is_equal}
+use Rattle.piece_store.proofs.ByNumber.{is_equal}
 
 -- a word more that says nothing
 pub blank_last : (xs : List Word) (k : ℕ) → get_or (xs ++ no_word ∷ []) k no_word ≡ get_or xs k no_word

@@ -7,7 +7,7 @@ use Rattle.std.specs.Cmp.{IsTotalOrder}
 use Rattle.std.specs.BTreeMap.{BTreeMap, get}
 use Rattle.piece_store.specs.declared.row.Row.{Row}
 use Rattle.piece_store.specs.Slots.{slot, row_slot, in_rows, put_at, put_for}
-use Rattle.piece_store.proofs.Pairs.{is_equal, same_found}
+use Rattle.piece_store.proofs.ByNumber.{is_equal, same_found}
 
 module _ {P V : Type 0} (R : P → P → Ordering) (total : IsTotalOrder R) (old new : BTreeMap P (Row V)) (piece : P) (w : Row V) (puts : (q : P) → get R new q ≡ cond (is_eq (R piece q)) (Some w) (get R old q)) where
   at_piece : (q : P) → is_eq (R piece q) ≡ true → get R old piece ≡ get R old q

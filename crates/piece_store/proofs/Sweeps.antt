@@ -9,7 +9,7 @@ use Rattle.std.specs.Ordering.{is_eq}
 use Rattle.std.specs.Cmp.{IsTotalOrder}
 use Rattle.std.specs.Map.{lookup, keys_of}
 use Rattle.std.specs.Map.Calls.{RetainsPairs}
-use Rattle.piece_store.proofs.Pairs.{is_equal}
+use Rattle.piece_store.proofs.ByNumber.{is_equal}
 
 -- a map of which `retain` changes values and takes out values: after is what is seen of the map afterwards, and before what is
 -- seen of it before, at the key that the test tells

@@ -5,6 +5,7 @@
 #![tactic(auto)]
 
 mod answer;
+mod listing;
 mod row;
 mod rows;
 mod shelf;
@@ -13,6 +14,7 @@ mod table;
 mod words;
 
 pub use answer::Answer;
+pub use listing::{Pair, Pairs, RowPairs, TablePairs};
 pub use row::Row;
 pub use shelf::Shelf;
 pub use store::Store;

@@ -6,7 +6,7 @@ use Rattle.std.specs.BTreeMap.{get}
 use Rattle.piece_store.specs.Kept.{answer_of, kept, put_pair}
 use Rattle.piece_store.specs.Views.{at, put_there}
 use Rattle.piece_store.proofs.Outcomes.{on_ok}
-use Rattle.piece_store.proofs.Pairs.{by_numbers, pair_put}
+use Rattle.piece_store.proofs.ByNumber.{by_numbers, pair_put}
 use Rattle.piece_store.proofs.store.Store.keep.Goals as goal
 
 pub returns-clause-ok : goal.returns-clause-ok

@@ -4,7 +4,7 @@ use Rattle.std.specs.BTreeMap.{get}
 use Rattle.piece_store.specs.Kept.{answer_of, by_number, kept, put_pair}
 use Rattle.piece_store.specs.Slots.{marked}
 use Rattle.piece_store.specs.Views.{at, put_there}
-use Rattle.piece_store.proofs.Pairs.{by_numbers, pair_put, met_answer}
+use Rattle.piece_store.proofs.ByNumber.{by_numbers, pair_put, met_answer}
 use Rattle.piece_store.proofs.store.Store.mark.Goals as goal
 
 pub returns-in-Some-clause-met : goal.returns-in-Some-clause-met

@@ -1,7 +1,7 @@
 use Rattle.std.proofs.Common.{sym, ap, arith}
 use Rattle.piece_store.specs.Kept.{answer_of}
 use Rattle.piece_store.specs.Views.{at}
-use Rattle.piece_store.proofs.Pairs.{number_kept}
+use Rattle.piece_store.proofs.ByNumber.{number_kept}
 use Rattle.piece_store.proofs.store.Store.number.Goals as goal
 
 pub returns-clause-same : goal.returns-clause-same
