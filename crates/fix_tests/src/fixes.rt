@@ -31,6 +31,7 @@ fn result_at(alloc: Global, path: &str, span: Span, fix: &str) -> Result<Reporte
             binding: Binding::empty(alloc),
             source: None,
         },
+        trace: List::new(alloc),
     })
 }
 

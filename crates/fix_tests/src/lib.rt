@@ -1,4 +1,4 @@
-//! Tests of fixes that are chosen and applied, and of comments that quiet.
+//! Tests of fixes that are chosen and applied, of comments that quiet, and of the lines of reports with traces.
 #![tactic(auto)]
 
 #[cfg(test)]
@@ -6,3 +6,5 @@ mod fixes;
 mod placed;
 #[cfg(test)]
 mod quieted;
+#[cfg(test)]
+mod traced;

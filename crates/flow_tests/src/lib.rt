@@ -1,4 +1,4 @@
-//! Tests of control-flow graphs, and of what their points assign.
+//! Tests of control-flow graphs, of what their points assign, of known names, and of data that is followed.
 #![tactic(auto)]
 
 #[cfg(test)]
@@ -6,4 +6,8 @@ mod assigned;
 #[cfg(test)]
 mod graphs;
 #[cfg(test)]
+mod known;
+#[cfg(test)]
 mod source;
+#[cfg(test)]
+mod tainted;

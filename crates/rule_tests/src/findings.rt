@@ -72,8 +72,8 @@ fn leaves_of<L: Ledger>(
     Ok(leaves)
 }
 
-// What the first part of a rule finds in a file of its language: a line for each finding, with the range and the names, or the
-// notice. Before them comes the tree of a file that can only be searched.
+// What the first part of a rule finds in a file of its language: a line for each finding, with the range, the names and the range
+// that its data comes from, or the notice. Before them comes the tree of a file that can only be searched.
 fn found<L: Ledger>(
     alloc: Global,
     blank: Blank,
@@ -110,6 +110,9 @@ fn found<L: Ledger>(
         for bound in finding.binding.bounds() {
             let (name, span) = (bound.name.as_str(), bound.span);
             write!(lines, " {name}={}..{}", span.from, span.to)?;
+        }
+        if let Some(source) = finding.source {
+            write!(lines, " from {}..{}", source.from, source.to)?;
         }
         lines.push_str("\n")?;
     }
@@ -167,6 +170,10 @@ fn finds_members(rt: HostRuntime) -> Result<(), Fail> {
         "json ⇒   patterns:\n  - pattern: '[..., $Y, ...]'\n  - metavariable-regex:\n      metavariable: $Y\n      regex: ''\n ⇒ {\"k\":[1,\"s\"]} ⇒ 5..12 $Y=6..7\n5..12 $Y=8..11\n",
         "json ⇒   patterns:\n  - pattern: '[..., $Y, ...]'\n  - metavariable-regex:\n      metavariable: $X\n      regex: ''\n ⇒ {\"k\":[1,\"s\"]} ⇒ ",
         "python ⇒   patterns:\n  - pattern: f($X)\n  - pattern-not-regex: '2'\n ⇒ f(1)\nf(2)\n ⇒ 0..4 $X=2..3\n",
+        // Data that is followed: one finding for each member of the sinks, with the first source.
+        "python ⇒   mode: taint\n  pattern-sources:\n  - pattern: b()\n  - pattern: a()\n  pattern-sinks:\n  - pattern: f($X)\n  - pattern: f(...)\n  - pattern: f($X)\n ⇒ x = a() + b()\nf(x)\nf(y)\n ⇒ 14..18 from 4..7\n14..18 $X=16..17 from 4..7\n",
+        "python ⇒   mode: taint\n  pattern-sources:\n  - pattern: $S.get\n  pattern-sinks:\n  - pattern: f($X)\n  pattern-sanitizers:\n  - pattern: int(...)\n ⇒ x = s.get\nf(int(x))\nf(x)\n ⇒ 20..24 $X=22..23 from 4..9\n",
+        "regex ⇒   mode: taint\n  pattern-sources:\n  - pattern-regex: a\n  pattern-sinks:\n  - pattern-regex: b\n ⇒ ab ⇒ ",
     ];
     for row in rows {
         let (lang, rest) = parted(row);
@@ -241,6 +248,25 @@ fn keeps_to_its_limits(rt: HostRuntime) -> Result<(), Fail> {
         if count > 1 {
             found = format!(in rt.alloc(); "{count} lines")?;
         }
+        same(row, found.as_str(), wanted)?;
+    }
+    Ok(())
+}
+
+// The lists of a rule and what is found in a file of 10,001 zeros: the list and the numbers that lead to the first set of more
+// than 10,000 members.
+#[test]
+fn names_the_list_of_a_set(rt: HostRuntime) -> Result<(), Fail> {
+    let rows = [
+        "  mode: taint\n  pattern-sinks:\n  - pattern: 0\n  pattern-sources:\n  - pattern: 1\n  - pattern-either:\n    - pattern: 1\n    - pattern: 0\n ⇒ crowded 'sources.1.1'",
+        "  mode: taint\n  pattern-sources:\n  - pattern: 1\n  pattern-sanitizers:\n  - pattern: 0\n  pattern-sinks:\n  - pattern: 2\n  - pattern: 0\n ⇒ crowded 'sinks.1'",
+        "  mode: taint\n  pattern-sources:\n  - pattern: 1\n  pattern-propagators:\n  - pattern: 0\n    from: $X\n    to: $X\n  pattern-sanitizers:\n  - pattern: 0\n  pattern-sinks:\n  - pattern: 2\n ⇒ crowded 'sanitizers.0'",
+        "  mode: taint\n  pattern-sources:\n  - pattern: 1\n  pattern-propagators:\n  - pattern: 0\n    from: $X\n    to: $X\n  pattern-sinks:\n  - pattern: 2\n ⇒ crowded 'propagators.0'",
+    ];
+    let text = repeated(rt.alloc(), &[(1, "[0"), (10_000, ",0"), (1, "]")])?;
+    for row in rows {
+        let (formula, wanted) = parted(row);
+        let found = found_in(rt.alloc(), "json", formula, text.as_str())?;
         same(row, found.as_str(), wanted)?;
     }
     Ok(())

@@ -5,6 +5,7 @@ use node_tree::List;
 use rx_text::RealPatterns;
 use shown::{parted, same};
 use std::alloc::Global;
+use std::fmt::Write;
 use std::test::Fail;
 
 // How a run over these pieces ends, of which these calls fail.
@@ -86,6 +87,18 @@ fn prints_where_a_pattern_matches(rt: HostRuntime) -> Result<(), Fail> {
         "c ⇒ (T)$X ⇒ void f(void) { g((T)a); } ⇒ 17..21 $X=20..21\n",
         "c ⇒ if (b) x(); else y(); ⇒ void f(void) { if (a) if (b) x(); else y(); } ⇒ 22..43\n",
         "c ⇒ printf($F, ...) ⇒ void f(void) { printf(\"%\" PRIu64 \"\\n\", va_arg(p, int)); } ⇒ 15..54 $F=22..37\n",
+        // Names that hold a literal on each route to their point.
+        "python ⇒ f(\"a\") ⇒ x = \"a\"\nf(x)\n ⇒ 8..12\n",
+        "python ⇒ f(\"...\") ⇒ x = \"a\"\nf(x)\n ⇒ 8..12\n",
+        "python ⇒ f(\"a\") ⇒ x = \"a\"\nif c: x = \"b\"\nf(x)\n ⇒ ",
+        "python ⇒ f(\"b\") ⇒ x = \"a\"\nif c: x = \"b\"\nf(x)\n ⇒ ",
+        "python ⇒ 2 ⇒ x = 1\nx = 2\ny = x\n ⇒ 10..11\n16..17\n",
+        "python ⇒ f(1) ⇒ x = 1\nwhile c:\n    f(x)\n    x = 2\n ⇒ ",
+        "python ⇒ f(\"a\") ⇒ K = \"a\"\ndef g():\n    f(K)\n ⇒ 21..25\n",
+        "python ⇒ f(\"a\") ⇒ K = \"a\"\ndef g():\n    f(K)\nK = \"b\"\n ⇒ ",
+        "python ⇒ f(\"a\") ⇒ K = \"a\"\ndef g(K):\n    f(K)\n ⇒ ",
+        "c ⇒ g(5) ⇒ void f(void) { int a = 5; g(a); } ⇒ 26..30\n",
+        "c ⇒ g(5) ⇒ void f(void) { int a = 5; h(&a); g(a); } ⇒ ",
         "c ⇒ 1 ⇒ int main( { ⇒ BadTarget",
         "c ⇒ int main( { ⇒  ⇒ BadPattern",
     ];
@@ -101,6 +114,33 @@ fn prints_where_a_pattern_matches(rt: HostRuntime) -> Result<(), Fail> {
             [0, 0, 0],
         )?;
         same(row, found.as_str(), wanted)?;
+    }
+    Ok(())
+}
+
+// So many statements that each assign a number to a name of its own, and then a call with one of these names.
+fn assigned_and_called(alloc: Global, count: u32) -> Result<String, Fail> {
+    let mut text = String::new(alloc);
+    for number in 0..count {
+        writeln!(text, "a{number} = {number}")?;
+    }
+    text.push_str("f(a7)\n")?;
+    Ok(text)
+}
+
+// 303 points times 301 names times 301 literals and one are within the limit of 50,000,000, 403 times 401 times 401 are not.
+#[test]
+fn knows_no_names_over_the_limit(rt: HostRuntime) -> Result<(), Fail> {
+    for (count, wanted) in [(300, "3080..3085\n"), (400, "")] {
+        let text = assigned_and_called(rt.alloc(), count)?;
+        let found = matched(
+            rt.alloc(),
+            "python",
+            "f(7)",
+            &[(1, text.as_bytes())],
+            [0, 0, 0],
+        )?;
+        same("f(7)", found.as_str(), wanted)?;
     }
     Ok(())
 }

@@ -97,6 +97,15 @@ fn prints_what_a_rule_finds(rt: HostRuntime) -> Result<(), Fail> {
             "python ⇒   patterns:\n  - pattern: f($X)\n  - pattern-inside: \"def $F(...): ...\"\n ⇒ a.py ⇒ def g():\n    f(1)\nf(2)\n",
             "{\"notices\":[],\"results\":[{\"check_id\":\"p\",\"end\":{\"col\":9,\"line\":2,\"offset\":17},\"extra\":{\"message\":\"m\",\"metavars\":{\"$F\":[4,5],\"$X\":[15,16]},\"severity\":\"INFO\"},\"path\":\"a.py\",\"start\":{\"col\":5,\"line\":2,\"offset\":13}}]}\n",
         ),
+        // A name that is known to hold a literal, unless the rule says that none is.
+        (
+            "python ⇒   pattern: f(\"a\")\n ⇒ a.py ⇒ x = \"a\"\nf(x)\n",
+            "{\"notices\":[],\"results\":[{\"check_id\":\"p\",\"end\":{\"col\":5,\"line\":2,\"offset\":12},\"extra\":{\"message\":\"m\",\"metavars\":{},\"severity\":\"INFO\"},\"path\":\"a.py\",\"start\":{\"col\":1,\"line\":2,\"offset\":8}}]}\n",
+        ),
+        (
+            "python ⇒   pattern: f(\"a\")\n  options:\n    constant_propagation: false\n ⇒ a.py ⇒ x = \"a\"\nf(x)\n",
+            NOTHING,
+        ),
         // Texts that are only searched, one of them a file without a tree.
         ("regex ⇒   pattern-regex: a+\n ⇒ n.txt ⇒ caab\n", A_PLUS),
         (
@@ -375,6 +384,105 @@ fn passes_over_rules_with_refused_texts(rt: HostRuntime) -> Result<(), Fail> {
             [0, 0, 0],
             &mut patterns,
         )?;
+        same(wanted, found.as_str(), wanted)?;
+    }
+    Ok(())
+}
+
+// A rule that follows data from requests to statements.
+const STATEMENTS: &[u8] =
+    b"rules:\n- id: sqli\n  mode: taint\n  languages: [python]\n  severity: ERROR\n  message: >-\n    Tainted data reaches\n    $DB.execute.\n  pattern-sources:\n  - pattern: $REQ.args.get(...)\n  pattern-sinks:\n  - pattern: $DB.execute(...)\n  pattern-sanitizers:\n  - pattern: clean(...)\n";
+
+// One that follows it from `src` to `sink`, and the same with what carries it on.
+const CALLED: &[u8] =
+    b"rules:\n- id: p\n  mode: taint\n  languages: [python]\n  severity: INFO\n  message: m\n  pattern-sources:\n  - pattern: src()\n  pattern-sinks:\n  - pattern: sink(...)\n";
+
+const CARRIED: &[u8] =
+    b"  pattern-propagators:\n  - pattern: $A.add($B)\n    from: $B\n    to: $A\n";
+
+// The words before the folder, the pieces of the rules, the file and how the run ends.
+#[test]
+fn follows_data(rt: HostRuntime) -> Result<(), Fail> {
+    let scan: &[&str] = &["scan", "--config", "r.yaml", "src"];
+    let errors: &[&str] = &["scan", "--error", "--config", "r.yaml", "src"];
+    let statements: &[(u32, &[u8])] = &[(1, STATEMENTS)];
+    let rows: [(&[&str], &[(u32, &[u8])], &[u8], &str); 7] = [
+        (
+            scan,
+            statements,
+            b"def show(req):\n    u = req.args.get(\"u\")\n    q = f\"select {u}\"\n    cur.execute(q)\n",
+            "{\"notices\":[],\"results\":[{\"check_id\":\"sqli\",\"end\":{\"col\":19,\"line\":4,\"offset\":81},\"extra\":{\"message\":\"Tainted data reaches cur.execute.\",\"metavars\":{\"$DB\":[67,70]},\"severity\":\"ERROR\",\"source\":[23,40]},\"path\":\"src/a.py\",\"start\":{\"col\":5,\"line\":4,\"offset\":67}}]}\n",
+        ),
+        (
+            errors,
+            statements,
+            b"def show(req):\n    u = req.args.get(\"u\")\n    q = f\"select {u}\"\n    cur.execute(q)\n",
+            "Findings{\"notices\":[],\"results\":[{\"check_id\":\"sqli\",\"end\":{\"col\":19,\"line\":4,\"offset\":81},\"extra\":{\"message\":\"Tainted data reaches cur.execute.\",\"metavars\":{\"$DB\":[67,70]},\"severity\":\"ERROR\",\"source\":[23,40]},\"path\":\"src/a.py\",\"start\":{\"col\":5,\"line\":4,\"offset\":67}}]}\n",
+        ),
+        // It is made clean on one way, and then on both.
+        (
+            scan,
+            statements,
+            b"def f(req):\n    u = req.args.get(\"u\")\n    if ok:\n        u = clean(u)\n    cur.execute(u)\n",
+            "{\"notices\":[],\"results\":[{\"check_id\":\"sqli\",\"end\":{\"col\":19,\"line\":5,\"offset\":88},\"extra\":{\"message\":\"Tainted data reaches cur.execute.\",\"metavars\":{\"$DB\":[74,77]},\"severity\":\"ERROR\",\"source\":[20,37]},\"path\":\"src/a.py\",\"start\":{\"col\":5,\"line\":5,\"offset\":74}}]}\n",
+        ),
+        (
+            scan,
+            statements,
+            b"def f(req):\n    u = req.args.get(\"u\")\n    if ok:\n        u = clean(u)\n    else:\n        u = clean(u)\n    cur.execute(u)\n",
+            NOTHING,
+        ),
+        // It comes round a loop.
+        (
+            scan,
+            statements,
+            b"def f(req):\n    a = 0\n    while go():\n        cur.execute(a)\n        a = req.args.get(\"u\")\n",
+            "{\"notices\":[],\"results\":[{\"check_id\":\"sqli\",\"end\":{\"col\":23,\"line\":4,\"offset\":60},\"extra\":{\"message\":\"Tainted data reaches cur.execute.\",\"metavars\":{\"$DB\":[46,49]},\"severity\":\"ERROR\",\"source\":[73,90]},\"path\":\"src/a.py\",\"start\":{\"col\":9,\"line\":4,\"offset\":46}}]}\n",
+        ),
+        // It is carried on by a call, and isn't without that.
+        (
+            scan,
+            &[(1, CALLED), (1, CARRIED)],
+            b"u = src()\na.add(u)\nsink(a)\n",
+            "{\"notices\":[],\"results\":[{\"check_id\":\"p\",\"end\":{\"col\":8,\"line\":3,\"offset\":26},\"extra\":{\"message\":\"m\",\"metavars\":{},\"severity\":\"INFO\",\"source\":[4,9]},\"path\":\"src/a.py\",\"start\":{\"col\":1,\"line\":3,\"offset\":19}}]}\n",
+        ),
+        (
+            scan,
+            &[(1, CALLED)],
+            b"u = src()\na.add(u)\nsink(a)\n",
+            NOTHING,
+        ),
+    ];
+    for (words, rules, text, wanted) in rows {
+        let files = files_of(rt.alloc(), &[("r.yaml", rules), ("src/a.py", &[(1, text)])])?;
+        let found = scanned(rt.alloc(), words, files, [0, 0, 0])?;
+        same(wanted, found.as_str(), wanted)?;
+    }
+    Ok(())
+}
+
+// How many lines get data from a source before the sink, and how the run ends.
+#[test]
+fn follows_data_in_so_much(rt: HostRuntime) -> Result<(), Fail> {
+    let rows: [(u32, &str); 2] = [
+        (
+            300,
+            "{\"notices\":[],\"results\":[{\"check_id\":\"p\",\"end\":{\"col\":9,\"line\":301,\"offset\":3798},\"extra\":{\"message\":\"m\",\"metavars\":{},\"severity\":\"INFO\",\"source\":[82,87]},\"path\":\"a.py\",\"start\":{\"col\":1,\"line\":301,\"offset\":3790}}]}\n",
+        ),
+        (
+            400,
+            "{\"notices\":[{\"detail\":\"0\",\"kind\":\"FlowTooLarge\",\"path\":\"a.py\",\"rule\":\"p\"}],\"results\":[]}\n",
+        ),
+    ];
+    for (count, wanted) in rows {
+        let mut text = String::new(rt.alloc());
+        for number in 0..count {
+            text.push_str(format!(in rt.alloc(); "a{number} = src()\n")?.as_str())?;
+        }
+        text.push_str("sink(a7)\n")?;
+        let mut files = files_of(rt.alloc(), &[("r.rules", &[(1, CALLED)])])?;
+        files.push(file_of(rt.alloc(), "a.py", text.as_str())?)?;
+        let found = scanned(rt.alloc(), OTHERS, files, [0, 0, 0])?;
         same(wanted, found.as_str(), wanted)?;
     }
     Ok(())
