@@ -1,0 +1,74 @@
+#!/usr/bin/env python3
+"""Measures what a rule that follows data adds to a scan.
+
+    tools/measure_taint.py [PROGRAM]
+
+PROGRAM is the program as `./semscan` built it, if none is given. It scans one generated file by a rule for calls that the file lacks, and by a
+rule that follows data from `src(...)` to `sink(...)`; processor times of whole runs, each the least of three.
+"""
+import json
+import os
+import resource
+import subprocess
+import sys
+import tempfile
+
+from measure_json import PROGRAM
+
+HEAD = 'rules:\n- id: r\n  languages: [python]\n  severity: INFO\n  message: m\n'
+PLAIN = HEAD + '  pattern: zzz_nothing(...)\n'
+TAINT = HEAD + '  mode: taint\n  pattern-sources:\n  - pattern: src(...)\n  pattern-sinks:\n  - pattern: sink(...)\n'
+
+
+def one_source(lines):
+    moved = ''.join('    a%d = f(a%d, b)\n' % (k % 7, (k + 1) % 7) for k in range(lines))
+    return 'def f(b):\n    a0 = src()\n' + moved + '    sink(a0)\n'
+
+
+def functions(count):
+    return ''.join('def f%d(b):\n    a = src()\n    sink(a)\n' % k for k in range(count))
+
+
+def many_sources(count):
+    return 'def f(b):\n' + ''.join('    a%d = src(%d)\n' % (k, k) for k in range(count)) + ''.join('    sink(a%d)\n' % k for k in range(count))
+
+
+def no_source(sinks):
+    return 'def f(b):\n' + ''.join('    sink(a%d)\n' % k for k in range(sinks))
+
+
+CASES = [('lines between one source and one sink', one_source, (5_000, 10_000, 20_000)), ('functions with a source and a sink each', functions, (2_500, 5_000, 10_000)),
+         ('sources, names and sinks in one function', many_sources, (50, 100, 200)), ('sinks without a source', no_source, (2_000, 4_000, 8_000))]
+
+
+def took(words, folder):
+    """The least processor time of three runs, and what the last one printed."""
+    times = []
+    for _ in range(3):
+        before = resource.getrusage(resource.RUSAGE_CHILDREN)
+        run = subprocess.run(words, cwd=folder, capture_output=True, check=True)
+        after = resource.getrusage(resource.RUSAGE_CHILDREN)
+        times.append(after.ru_utime + after.ru_stime - before.ru_utime - before.ru_stime)
+    return min(times), run.stdout
+
+
+def main():
+    program = os.path.abspath(sys.argv[1] if sys.argv[1:] else PROGRAM)
+    with tempfile.TemporaryDirectory() as folder:
+        os.mkdir(os.path.join(folder, 'src'))
+        for name, text in (('plain.yaml', PLAIN), ('taint.yaml', TAINT)):
+            with open(os.path.join(folder, name), 'w') as f:
+                f.write(text)
+        for name, text, sizes in CASES:
+            for size in sizes:
+                with open(os.path.join(folder, 'src', 'a.py'), 'w') as f:
+                    f.write(text(size))
+                plain, _ = took([program, 'scan', '--config', 'plain.yaml', 'src'], folder)
+                taint, line = took([program, 'scan', '--config', 'taint.yaml', 'src'], folder)
+                report = json.loads(line)
+                print('%6d %-42s plain %6.1f ms, taint %6.1f ms, ratio %.2f; %d findings, %d notices' % (
+                    size, name + ':', 1e3 * plain, 1e3 * taint, taint / plain, len(report['results']), len(report['notices'])))
+
+
+if __name__ == '__main__':
+    main()
