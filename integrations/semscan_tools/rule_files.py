@@ -13,7 +13,6 @@ from .report_line import Report, read_report
 
 MARK = re.compile(r'\b(not found|found): *([\w.-]+(?:, *[\w.-]+)*)')
 RULE = re.compile(r'^ *- id: *["\']?([^"\'\s#]+)', re.MULTILINE)
-WAITS = 'OutsideProfile'
 Place = tuple[str, int, str]
 
 
@@ -26,11 +25,10 @@ class Marks:
 
 @dataclass
 class Outcome:
-    """What came of the test of a rule file: how many rules and marks it has, the faults, and the rules that don't run yet."""
+    """What came of the test of a rule file: how many rules and marks it has, and the faults."""
     rules: int
     marks: int
     faults: list[str]
-    waiting: list[str]
 
 
 def read_text(path: str) -> str:
@@ -121,12 +119,6 @@ def marked_badly(ids: list[str], marks: Marks) -> Iterator[str]:
         yield '%s: a mark names a rule that is not there' % rule
 
 
-def waiting_rules(report: Report, ids: list[str]) -> dict[str, str]:
-    """The rules that follow data, which don't run yet, with their keys: the scan tells it of the entry as a whole."""
-    return {notice.rule: notice.detail for notice in report.notices
-            if notice.kind == WAITS and notice.rule in ids and notice.detail == 'rules.%d' % ids.index(notice.rule)}
-
-
 def test_rules(program: str, rule_file: str) -> Outcome:
     """Compares what the rules of a file find in the examples beside it with their marks, both ways."""
     examples, marks = examples_of(rule_file), Marks()
@@ -136,10 +128,7 @@ def test_rules(program: str, rule_file: str) -> Outcome:
         marks_of(os.path.basename(example), read_text(example), marks)
     ids = ids_of(read_text(rule_file))
     report = scan_examples(program, rule_file, examples)
-    waiting = waiting_rules(report, ids)
     found = {(finding.path.removeprefix('code/'), finding.start.line, finding.rule) for finding in report.findings}
-    running = Marks({place for place in marks.found if place[2] not in waiting}, marks.absent)
-    faults = [*said_wrong(found, running), *marked_badly(ids, marks)]
-    faults += ['%s: the notice %s (%s)' % (notice.rule or notice.path, notice.kind, notice.detail)
-               for notice in report.notices if notice.rule not in waiting]
-    return Outcome(len(ids), len(marks.found) + len(marks.absent), ['%s: %s' % (rule_file, fault) for fault in faults], sorted(waiting))
+    faults = [*said_wrong(found, marks), *marked_badly(ids, marks)]
+    faults += ['%s: the notice %s (%s)' % (notice.rule or notice.path, notice.kind, notice.detail) for notice in report.notices]
+    return Outcome(len(ids), len(marks.found) + len(marks.absent), ['%s: %s' % (rule_file, fault) for fault in faults])

@@ -31,8 +31,6 @@ class Rules(InFolder):
         self.assertEqual((found.returncode, found.stderr), (0, b''), said)
         self.assertIn('in %d files' % len(FILES), said)
         self.assertIn(', 0 differences\n', said)
-        for waiting in re.findall('(.*) follows data', said):
-            self.assertRegex(waiting, '^python-request-to-')  # rules/flow
 
     @needs_program
     def test_all_rules_load_together_without_a_notice(self):

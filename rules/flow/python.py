@@ -1,4 +1,4 @@
-"""Examples of the rules of python.yaml, which are compared when semscan follows data."""
+"""Examples of the rules of python.yaml."""
 import os
 import shlex
 

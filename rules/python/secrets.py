@@ -82,5 +82,6 @@ def passwords(settings, environment):
     password = ""  # not found: python-password-in-code
     password_field = "password"  # not found: python-password-in-code
     connect(host="db.example", password="correct horse")  # found: python-password-as-argument
-    connect(host="db.example", password=db_password)  # not found: python-password-as-argument
+    connect(host="db.example", password=db_password)  # found: python-password-as-argument
+    connect(host="db.example", password=password)  # not found: python-password-as-argument
     return password, password_field
