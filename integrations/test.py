@@ -2,7 +2,8 @@
 """Runs all tests of the folders integrations and rules.
 
 Those that need the built program use the one that SEMSCAN names, else crates/semscan/out/semscan; where there is none they are
-skipped, and so are those that need Dask or pre-commit where these are not installed.
+skipped, and so are those that need a word which that program doesn't have yet, or Dask, pre-commit, Neovim or Emacs where these
+are not installed.
 """
 import collections
 import os

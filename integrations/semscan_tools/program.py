@@ -48,10 +48,10 @@ def check_words(words: list[str], folder: str) -> None:
         raise Refusal(faults[0])
 
 
-def run_scan(program: str, words: list[str], folder: str) -> subprocess.CompletedProcess:
-    """A scan in a folder by these words, which come after `scan`."""
+def run_scan(program: str, words: list[str], folder: str, word: str = 'scan') -> subprocess.CompletedProcess:
+    """A scan in a folder by these words, which come after `scan`, or after another word of the program."""
     try:
-        return subprocess.run([program, 'scan', *words], cwd=folder, stdin=subprocess.DEVNULL, capture_output=True, check=False)
+        return subprocess.run([program, word, *words], cwd=folder, stdin=subprocess.DEVNULL, capture_output=True, check=False)
     except (OSError, ValueError) as error:
         raise Refusal("%s can't be run: %s" % (program, error), NO_PROGRAM) from None
 

@@ -120,10 +120,14 @@ def value_of(line: bytes) -> Any:
     return value
 
 
-def read_report(line: bytes) -> Report:
-    """The report that a line says, or a refusal that tells what is wrong with it."""
-    value = value_of(line)
+def report_of(value: Any) -> Report:
+    """The report that a value is, or a refusal that tells what is wrong with it."""
     results, notices = (member(value, key, list, 'the line') for key in ('results', 'notices'))
     return Report(
         findings=tuple(finding_of(result, 'result %d' % k) for k, result in enumerate(results, 1)),
         notices=tuple(notice_of(notice, 'notice %d' % k) for k, notice in enumerate(notices, 1)))
+
+
+def read_report(line: bytes) -> Report:
+    """The report that a line says."""
+    return report_of(value_of(line))

@@ -105,5 +105,5 @@ class Jobs(InFolder):
         self.assertIn(b'src/a.py:1:1: error:', found.stdout)
 
     def test_programs_can_be_run(self):
-        for name in ('semscan-report', 'semscan-shards', 'semscan-rules', 'test.py'):
+        for name in ('semscan-report', 'semscan-shards', 'semscan-rules', 'semscan-lsp', 'semscan-fix', 'test.py'):
             self.assertTrue(os.stat(os.path.join(INTEGRATIONS, name)).st_mode & stat.S_IXUSR, name)

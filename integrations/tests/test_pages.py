@@ -1,9 +1,11 @@
-"""docs/INTEGRATIONS.md and docs/FROM_SEMGREP.md say what is so."""
+"""README.md, docs/INTEGRATIONS.md and docs/FROM_SEMGREP.md say what is so."""
 import json
 import os
 import re
+import shlex
+import subprocess
 
-from .support import INTEGRATIONS, TOP, InFolder, needs_program, run, scan
+from .support import INTEGRATIONS, PROGRAM, TOP, InFolder, needs_program, run, scan
 
 HEAD = 'rules:\n- id: r\n  languages: [%s]\n  severity: %s\n  message: m\n'
 ROWS = [  # the language, the severity, what else a rule says, and the kind and key of its notice, if it has one
@@ -37,9 +39,47 @@ MATCHES = [  # the pattern, the code, and the lines that are found
 ]
 
 
-def page(name):
-    with open(os.path.join(TOP, 'docs', name), encoding='utf-8') as file:
+def page(name, folder='docs'):
+    with open(os.path.join(TOP, folder, name), encoding='utf-8') as file:
         return file.read()
+
+
+def blocks_of(text):
+    """The blocks of code of a page, of whatever language."""
+    return re.findall(r'^```[a-z]*\n(.*?)^```$', text, re.DOTALL | re.MULTILINE)
+
+
+def commands_of(text):
+    """The commands of a page, each with what stands under it: in its blocks a command begins with a dollar sign."""
+    for block in blocks_of(text):
+        for piece in re.split(r'^\$ ', block, flags=re.MULTILINE)[1:]:
+            command, _, said = piece.partition('\n')
+            yield command, said
+
+
+class Readme(InFolder):
+    """README.md: its commands print what it says, where a line with three dots stands for any lines."""
+
+    def test_commands_are_found(self):
+        self.assertEqual(list(commands_of('```\n$ a b\nc\n$ d\n```\n```\ne\n```\n')), [('a b', 'c\n'), ('d', '')])
+        self.assertGreater(len(list(commands_of(page('README.md', '.')))), 6)
+
+    @needs_program
+    def test_commands(self):
+        for command, said in commands_of(page('README.md', '.')):
+            words = command.replace('./semscan ', shlex.quote(PROGRAM) + ' ')
+            ran = subprocess.run(['bash', '-c', words], cwd=TOP, capture_output=True, check=False, env={**os.environ, 'SEMSCAN': PROGRAM})
+            pieces = ['\n' + piece for piece in re.split(r'^\.\.\.\n', said, flags=re.MULTILINE)]
+            at, printed = 0, '\n' + ran.stdout.decode()
+            for piece in pieces:
+                self.assertIn(piece, printed[at:], command)
+                at = printed.index(piece, at) + len(piece) - 1
+            self.assertTrue(len(pieces) > 1 or printed == pieces[0], command)
+
+    def test_pages_that_are_named_are_there(self):
+        for name in ['README.md', *(os.path.join('docs', name) for name in os.listdir(os.path.join(TOP, 'docs')))]:
+            for found in re.findall(r'\b(docs/[A-Z_]+\.md|tools/[a-z_]+\.py|integrations/[a-z-]+(?:\.py)?|examples/[a-z./]+)\b', page(name, '.')):
+                self.assertTrue(os.path.exists(os.path.join(TOP, found)), '%s names %s' % (name, found))
 
 
 class Integrations(InFolder):
@@ -47,7 +87,7 @@ class Integrations(InFolder):
 
     @needs_program
     def test_pictures(self):
-        blocks = re.findall('```\n(.*?)```', page('INTEGRATIONS.md'), re.DOTALL)
+        blocks = blocks_of(page('INTEGRATIONS.md'))
         found = run('semscan-report', 'scan', '--config', 'examples/rules.yaml', 'examples/shop', cwd=TOP)
         pictures = [block for block in blocks if block.startswith(('examples/', '17 '))]
         self.assertEqual(len(pictures), 2)
@@ -58,7 +98,7 @@ class Integrations(InFolder):
 
     def test_all_that_is_there_is_told(self):
         text = page('INTEGRATIONS.md')
-        for name in os.listdir(os.path.join(INTEGRATIONS, 'build-servers')) + ['semscan-report', 'semscan-shards', 'semscan-rules']:
+        for name in os.listdir(os.path.join(INTEGRATIONS, 'build-servers')) + ['semscan-report', 'semscan-shards', 'semscan-rules', 'semscan-lsp', 'semscan-fix']:
             self.assertIn(name, text)
 
 
