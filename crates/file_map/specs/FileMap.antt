@@ -1,5 +1,5 @@
 -- Files by path, and the limits on them.
-use Rattle.std.specs.Prelude.{◌≡◌, ℕ, List, ⊤, Option, None, Some, length, sum_by, nat_lt, if◌then◌else◌}
+use Rattle.std.specs.Prelude.{◌≡◌, ℕ, List, ⊤, Option, None, Some, length, take, sum_by, nat_lt, if◌then◌else◌}
 use Rattle.std.specs.Map.{lookup, remove_entry, values_of}
 use Rattle.std.specs.BTreeMap.{insert_entry, is_at}
 use Rattle.scan_world.specs.Files.{Files, path_cmp}
@@ -11,6 +11,10 @@ use Rattle.file_map.specs.declared.fault.PutFault.TheVariants as faults
 -- a path, and what is kept of the bytes there
 abbrev pub File : Type 0
 File = List ℕ × List ℕ
+
+-- the file with the bytes that are kept of it
+abbrev pub front : File → File
+front file = (file.0, take 1000001 file.1)
 
 -- the bytes of the file at a path, of files in order of path
 abbrev pub bytes_at : List ℕ → Files → Option (List ℕ)

@@ -14,10 +14,10 @@ use std::rc::Rc;
 use std::string::String;
 
 // The most files.
-const MOST_FILES: usize = 10_000;
+pub(crate) const MOST_FILES: usize = 10_000;
 
 // The most bytes of all files.
-const MOST_BYTES: usize = 33_554_432;
+pub(crate) const MOST_BYTES: usize = 33_554_432;
 
 // The most bytes that are kept of a file: one more than a file may have that is scanned.
 const MOST_KEPT: usize = 1_000_001;
@@ -27,7 +27,7 @@ const MOST_KEPT: usize = 1_000_001;
 #[derive(Drop)]
 pub struct FileMap {
     pub(crate) by_path: BTreeMap<String, Rc<Bytes>>,
-    bytes: usize,
+    pub(crate) bytes: usize,
     pub(crate) alloc: Global,
 }
 
@@ -45,7 +45,7 @@ impl Model for FileMap {
 }
 
 // At most the first 1,000,001 bytes.
-fn front_of(alloc: Global, bytes: &[u8]) -> Result<Bytes, Memory>
+pub(crate) fn front_of(alloc: Global, bytes: &[u8]) -> Result<Bytes, Memory>
     ensures { IfOk result (λ front. front ≡ take 1000001 bytes.now) }
 {
     Bytes::from_slice(alloc, &bytes[..MOST_KEPT.min(bytes.len())])
@@ -126,6 +126,7 @@ impl FileMap {
     /// Puts a file, of which at most the first 1,000,001 bytes are kept.
     pub fn put(&mut self, path: &str, bytes: &[u8]) -> Result<(), PutFault>
         ensures put { OnOk result (self.new ≡ with_file self.old (path.now, take 1000001 bytes.now)) }
+        ensures within { OnOk result (over_limit (with_file self.old (path.now, take 1000001 bytes.now)) ≡ None) }
         ensures over { IfErr result (TellsOver (over_limit (with_file self.old (path.now, take 1000001 bytes.now)))) }
         ensures refused { OnErr result (self.new ≡ self.old) }
     {

@@ -4,8 +4,9 @@
 mod fault;
 mod file_map;
 mod limit;
+mod replace;
 mod sync;
 
-pub use fault::PutFault;
+pub use fault::{PutFault, SyncFault};
 pub use file_map::FileMap;
 pub use limit::LimitKind;

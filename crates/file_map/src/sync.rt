@@ -82,6 +82,7 @@ impl FileMap {
     /// first file with which the files, those outside the prefix among them, are too many or have too many bytes.
     pub fn sync<T: Tree>(&mut self, tree: &mut T, prefix: &str) -> Result<(), SyncFault>
         ensures synced { OnOk result (Syncs (T.files tree.old) prefix.now self.old self.new) }
+        ensures within { OnOk result (SyncPasses (T.files tree.old) prefix.now self.old None) }
         ensures over { IfErr result (TellsLimit (SyncPasses (T.files tree.old) prefix.now self.old)) }
         ensures refused { OnErr result (self.new ≡ self.old) }
         ensures kept { KeepsFiles (T.files tree.old) (T.files tree.new) }

@@ -1,5 +1,5 @@
 use Rattle.std.proofs.Common.{◌∙◌}
-use Rattle.std.specs.Prelude.{Some}
+use Rattle.std.specs.Prelude.{None, Some}
 use Rattle.std.proofs.lemmas.Result.{err_from_is_err_and}
 use Rattle.folder_files.proofs.Reading.{rest_read}
 use Rattle.file_map.specs.Sync.{ReadPasses, SyncPasses}
@@ -31,3 +31,10 @@ returns-clause-synced g c =
     let now = g.T.Tree.files c.taken_under.new.tree in
     let r = both_put told now c.in-Ok.ensures.kept c.args.prefix.now c.in-Ok.paths c.in-Ok.ensures.taken c.args.self.now c.in_ok-files.files c.in_ok-files.ensures.put c.put_read.new.self c.in_ok-put_read.ensures.put in
     (r.0, r.1, c.files.view_is ∙ r.2)
+
+pub returns-clause-within : goal.returns-clause-within
+returns-clause-within g c =
+    let told = g.T.Tree.files c.args.tree.now in
+    let now = g.T.Tree.files c.taken_under.new.tree in
+    let far = c.in_ok-put_read.ensures.put in
+    both_pass told now c.in-Ok.ensures.kept c.args.prefix.now c.in-Ok.paths c.in-Ok.ensures.taken c.args.self.now c.in_ok-files.files c.in_ok-files.ensures.put None (record { files = far.files; are_read = far.are_read; passes = far.within })

@@ -1,0 +1,2 @@
+pub mod RuleMap
+pub mod Kept
