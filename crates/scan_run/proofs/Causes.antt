@@ -1,8 +1,9 @@
 -- What the end of a scan says of the counts.
 use Rattle.std.proofs.Common.{◌≡◌, ℕ, subst}
-use Rattle.scan_run.specs.declared.status.Status.{Status}
-use Rattle.scan_run.specs.declared.status.Status.TheVariants as statuses
-use Rattle.scan_run.specs.Status.{IsAnswer, IsFinished, HasReadingCause, HasConfigCause}
+use Rattle.run_status.specs.declared.status.Status.{Status}
+use Rattle.run_status.specs.declared.status.Status.TheVariants as statuses
+use Rattle.run_status.specs.Status.{IsAnswer, IsFinished}
+use Rattle.scan_run.specs.Status.{HasReadingCause, HasConfigCause}
 
 module _ (f f' : ℕ) where
   pub reading_unfinished : (s : Status) → HasReadingCause f f' s → IsFinished s → ⊥
@@ -18,6 +19,7 @@ module _ (f f' : ℕ) where
   reading_unfinished statuses.NoSuchPath h d = d
   reading_unfinished statuses.BadTarget h d = d
   reading_unfinished statuses.BadPattern h d = d
+  reading_unfinished (statuses.BadCommand place) h d = d
 
   module _ (a a' : ℕ) where
     pub config_kept : (s : Status) → HasConfigCause f f' a a' s → IsAnswer s → f' ≡ f
@@ -33,6 +35,7 @@ module _ (f f' : ℕ) where
     config_kept statuses.NoSuchPath h w = h.0
     config_kept statuses.BadTarget h w = absurd h
     config_kept statuses.BadPattern h w = absurd h
+    config_kept (statuses.BadCommand place) h w = absurd h
 
     -- what is said of the status that it is
     pub config_at : (s t : Status) → HasConfigCause f f' a a' s → s ≡ t → HasConfigCause f f' a a' t

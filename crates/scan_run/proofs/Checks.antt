@@ -7,11 +7,11 @@ use Rattle.std.specs.Io.KnownBytes.{Appends}
 use Rattle.std.proofs.lemmas.List.{append-nil}
 use Rattle.scan_world.specs.Streams.{AppendsFront}
 use Rattle.json_check.specs.Viable.{IsFirstBad, IsLongestViable}
-use Rattle.scan_run.specs.declared.status.Status.{Status}
-use Rattle.scan_run.specs.declared.status.Status.TheVariants.{OverLimit, Done, BadTarget}
-use Rattle.scan_run.specs.declared.status.LimitKind.TheVariants.{Target}
+use Rattle.run_status.specs.declared.status.Status.{Status}
+use Rattle.run_status.specs.declared.status.Status.TheVariants.{OverLimit, Done, BadTarget}
+use Rattle.file_map.specs.declared.limit.LimitKind.TheVariants.{Target}
 use Rattle.scan_run.specs.Streams.{Tells, IsTarget, IsTooLong}
-use Rattle.scan_run.specs.Ways.{Printed, PrintedFront, IsOnlyEnd}
+use Rattle.run_status.specs.Ways.{Printed, PrintedFront, IsOnlyEnd}
 use Rattle.scan_run.specs.Checking.{check_line, CheckEnds, over_limit, bad_target, checked, Checks}
 use Rattle.scan_run.proofs.Streaming.{nothing_written}
 

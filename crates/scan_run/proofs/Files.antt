@@ -14,9 +14,9 @@ use Rattle.scan_session.specs.declared.scanner.Scanner.{Scanner}
 use Rattle.scan_session.specs.Fresh.{file_cmp}
 use Rattle.scan_session.specs.Scans.{Scans}
 use Rattle.scan_session.proofs.Scans.{scans_then}
-use Rattle.scan_run.specs.declared.status.Status.{Status}
+use Rattle.run_status.specs.declared.status.Status.{Status}
 use Rattle.scan_run.specs.Taking.{File, IsTaken, AreTaken, IsKept, AreRead, AreFiles, limit_end, IsOver, ReadingEnds, FilesEnd}
-use Rattle.scan_run.specs.Status.{IsAnswer}
+use Rattle.run_status.specs.Status.{IsAnswer}
 use Rattle.scan_run.specs.Scan.{grammars}
 use Rattle.scan_run.specs.Scanned.{ScansRead, ScansFiles}
 use Rattle.scan_run.proofs.Limits.{bytes_of, limit_after, count_more}

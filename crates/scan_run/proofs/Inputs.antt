@@ -3,9 +3,10 @@ use Rattle.std.proofs.Common.{◌≡◌, ℕ, ◌≤◌, List, [], ◌++◌, len
 use Rattle.std.specs.Prelude.{Option, Some, None}
 use Rattle.std.specs.Io.KnownBytes.{Consumes, IsAtEnd}
 use Rattle.std.proofs.lemmas.List.{append-nil}
-use Rattle.scan_run.specs.declared.status.Status.{Status}
-use Rattle.scan_run.specs.declared.status.Status.TheVariants as statuses
-use Rattle.scan_run.specs.Status.{IsAnswer, HasInputCause, IsOfInput}
+use Rattle.run_status.specs.declared.status.Status.{Status}
+use Rattle.run_status.specs.declared.status.Status.TheVariants as statuses
+use Rattle.run_status.specs.Status.{IsAnswer}
+use Rattle.scan_run.specs.Status.{HasInputCause, IsOfInput}
 use Rattle.scan_run.specs.Streams.{Tells, IsTarget, IsTooLong}
 
 -- whatever the source tells is some input
@@ -44,6 +45,7 @@ module _ (f f' : ℕ) where
   input_kept statuses.NoSuchPath h a = absurd h
   input_kept statuses.BadTarget h a = absurd h
   input_kept statuses.BadPattern h a = absurd h
+  input_kept (statuses.BadCommand place) h a = absurd h
 
   pub of_input : (s : Status) → HasInputCause f f' s → IsOfInput s
   of_input (statuses.OverLimit kind n) h = tt
@@ -58,3 +60,4 @@ module _ (f f' : ℕ) where
   of_input statuses.NoSuchPath h = h
   of_input statuses.BadTarget h = tt
   of_input statuses.BadPattern h = tt
+  of_input (statuses.BadCommand place) h = tt

@@ -3,9 +3,9 @@ use Rattle.std.proofs.Common.{◌≡◌, ℕ, ◌+◌, ◌<◌, ◌≤◌, Bool,
 use Rattle.std.specs.Prelude.{Option, Some, None, nat_lt, if◌then◌else◌}
 use Rattle.std.proofs.lemmas.Bool.{cond-true, cond-false}
 use Rattle.std.proofs.lemmas.Bool.Decides.{nat_tests}
-use Rattle.scan_run.specs.declared.status.Status.{Status}
-use Rattle.scan_run.specs.declared.status.Status.TheVariants.{OverLimit}
-use Rattle.scan_run.specs.declared.status.LimitKind.TheVariants as kinds
+use Rattle.run_status.specs.declared.status.Status.{Status}
+use Rattle.run_status.specs.declared.status.Status.TheVariants.{OverLimit}
+use Rattle.file_map.specs.declared.limit.LimitKind.TheVariants as kinds
 use Rattle.scan_run.specs.Taking.{File, limit_end, IsOver}
 
 -- the bytes of all files

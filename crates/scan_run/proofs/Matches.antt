@@ -21,16 +21,16 @@ use Rattle.scan_session.specs.Looking.{by_names}
 use Rattle.scan_session.specs.Needing.{Serves}
 use Rattle.scan_session.proofs.Judged.{leaf_one}
 use Rattle.scan_session.proofs.Named.{leaf_served}
-use Rattle.scan_run.specs.declared.status.Status.{Status}
-use Rattle.scan_run.specs.declared.status.Status.TheVariants.{OverLimit, BadTarget, BadPattern, TooMany, Done}
-use Rattle.scan_run.specs.declared.status.Status.TheVariants as statuses
-use Rattle.scan_run.specs.declared.status.LimitKind.TheVariants.{Target}
+use Rattle.run_status.specs.declared.status.Status.{Status}
+use Rattle.run_status.specs.declared.status.Status.TheVariants.{OverLimit, BadTarget, BadPattern, TooMany, Done}
+use Rattle.run_status.specs.declared.status.Status.TheVariants as statuses
+use Rattle.file_map.specs.declared.limit.LimitKind.TheVariants.{Target}
 use Rattle.scan_run.specs.Status.{HasInputCause, IsOfSearch, IsOfInput}
 use Rattle.scan_run.specs.Steps.{TakesSteps}
 use Rattle.scan_run.specs.Reading.{IsFileOf, IsOnlyFile, HasNoFile}
 use Rattle.scan_run.specs.Lines.{line_of}
 use Rattle.scan_run.specs.Streams.{Tells, IsTarget, IsTooLong}
-use Rattle.scan_run.specs.Ways.{Printed, PrintedFront, PrintedSome, IsOnlyEnd}
+use Rattle.run_status.specs.Ways.{Printed, PrintedFront, PrintedSome, IsOnlyEnd}
 use Rattle.scan_run.specs.Matching.{HasNoPattern, Having, has_members, SearchEnds, too_many, done, MatchEnds, bad_pattern, over_limit, bad_target, searched, Matches}
 use Rattle.scan_run.proofs.Streaming.{nothing_written}
 use Rattle.scan_run.proofs.Inputs.{some_input}
@@ -82,6 +82,7 @@ of_search (OverLimit kind n) h = absurd h
 of_search statuses.NoSuchPath h = absurd h
 of_search BadTarget h = absurd h
 of_search BadPattern h = absurd h
+of_search (statuses.BadCommand place) h = absurd h
 
 -- one step opened the file, and one searched it
 pub search_steps : (s : Status) (before opened after : ℕ) → IsOfSearch s → opened ≡ before + 1 → after ≡ opened + 1 → TakesSteps s before after
@@ -97,6 +98,7 @@ search_steps (OverLimit kind n) b o a h e f = absurd h
 search_steps statuses.NoSuchPath b o a h e f = absurd h
 search_steps BadTarget b o a h e f = absurd h
 search_steps BadPattern b o a h e f = absurd h
+search_steps (statuses.BadCommand place) b o a h e f = absurd h
 
 -- reading the input takes no step
 pub input_steps : (faults faults_after : ℕ) (s : Status) (steps : ℕ) → HasInputCause faults faults_after s → TakesSteps s steps steps
@@ -112,6 +114,7 @@ input_steps f f' (TooMany n) steps h = absurd h
 input_steps f f' statuses.NoSuchPath steps h = absurd h
 input_steps f f' BadTarget steps h = absurd h
 input_steps f f' BadPattern steps h = absurd h
+input_steps f f' (statuses.BadCommand place) steps h = absurd h
 
 -- ---- the file that bytes are
 

@@ -4,9 +4,9 @@ use Rattle.std.specs.Prelude.{Option, IsSome}
 use Rattle.node_tree.specs.declared.view.Lang.{Lang}
 use Rattle.scan_world.specs.Files.{Files}
 use Rattle.wire_words.specs.Commands.{Task, Request, Matching, Checking, Scanning}
-use Rattle.scan_run.specs.declared.status.Status.{Status}
-use Rattle.scan_run.specs.declared.status.Status.TheVariants.{Usage}
-use Rattle.scan_run.specs.Ways.{Ways, Printed, PrintedFront, PrintedSome, IsOnlyEnd}
+use Rattle.run_status.specs.declared.status.Status.{Status}
+use Rattle.run_status.specs.declared.status.Status.TheVariants.{Usage}
+use Rattle.run_status.specs.Ways.{Ways, Printed, PrintedFront, PrintedSome, IsOnlyEnd}
 use Rattle.scan_run.specs.Matching.{Matches}
 use Rattle.scan_run.specs.Checking.{Checks}
 use Rattle.scan_run.specs.Scan.{Scans}

@@ -6,9 +6,9 @@ use Rattle.scan_world.specs.Trees.{HasFront}
 use Rattle.pattern_read.specs.Patterns.{IsPatternOf}
 use Rattle.rule_files.specs.declared.rule_file.RuleFile.{RuleFile}
 use Rattle.rule_files.specs.RuleFiles.{IsRuleFile}
-use Rattle.scan_run.specs.declared.status.Status.{Status}
-use Rattle.scan_run.specs.declared.status.Status.TheVariants as statuses
-use Rattle.scan_run.specs.declared.status.LimitKind.TheVariants.{Rules}
+use Rattle.run_status.specs.declared.status.Status.{Status}
+use Rattle.run_status.specs.declared.status.Status.TheVariants as statuses
+use Rattle.file_map.specs.declared.limit.LimitKind.TheVariants.{Rules}
 use Rattle.scan_run.specs.Status.{HasReadingCause, IsOfLimit}
 use Rattle.scan_run.specs.Config.{entry_count, IsRules, ConfigEnds, absent, too_long, too_many_rules, IsOneFile, HasConfigEnd}
 
@@ -80,6 +80,7 @@ limit_cause f f' (statuses.TooMany n) e h = absurd h
 limit_cause f f' statuses.NoSuchPath e h = absurd h
 limit_cause f f' statuses.BadTarget e h = absurd h
 limit_cause f f' statuses.BadPattern e h = absurd h
+limit_cause f f' (statuses.BadCommand place) e h = absurd h
 
 -- a file of at most 262,145 bytes ends a scan as these bytes end it
 pub config_end : (told : Option Files) (path bytes slice : List ℕ) → slice ≡ bytes → length bytes ≤ 262145 → HasFront told path 262145 bytes → (s : Status) → ConfigEnds path (Some slice) s → IsOneFile path (Some slice) → HasConfigEnd told path s

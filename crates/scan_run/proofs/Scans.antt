@@ -15,10 +15,11 @@ use Rattle.scan_session.specs.Fresh.{IsFresh}
 use Rattle.scan_session.specs.Scans.{HasScanned}
 use Rattle.scan_session.proofs.Laws.{exclusive}
 use Rattle.wire_words.specs.Commands.{Task}
-use Rattle.scan_run.specs.declared.status.Status.{Status}
-use Rattle.scan_run.specs.declared.status.Status.TheVariants.{Done, Findings, TooMany}
-use Rattle.scan_run.specs.Status.{IsFinished, IsOfReport}
-use Rattle.scan_run.specs.Ways.{Printed, PrintedFront, IsOnlyEnd}
+use Rattle.run_status.specs.declared.status.Status.{Status}
+use Rattle.run_status.specs.declared.status.Status.TheVariants.{Done, Findings, TooMany}
+use Rattle.run_status.specs.Status.{IsFinished}
+use Rattle.scan_run.specs.Status.{IsOfReport}
+use Rattle.run_status.specs.Ways.{Printed, PrintedFront, IsOnlyEnd}
 use Rattle.scan_run.specs.Taking.{File, AreFiles, limit_end, FilesEnd}
 use Rattle.scan_run.specs.Scanned.{ScansFiles}
 use Rattle.scan_run.specs.Config.{IsConfig, IsRules, ConfigEnds, IsOneFile, HasRules, HasConfigEnd}

@@ -9,7 +9,7 @@ use Rattle.scan_world.specs.Streams.{AppendsFront}
 use Rattle.meta_bind.specs.declared.bound.Bound.{Bound}
 use Rattle.meta_bind.specs.Bounds.{seen}
 use Rattle.scan_run.specs.Lines.{bound_text}
-use Rattle.scan_run.specs.Streams.{AppendsSome}
+use Rattle.run_status.specs.Ways.{AppendsSome}
 
 pub nothing_read : (left : Option (List ℕ)) → Consumes left left []
 nothing_read None = tt

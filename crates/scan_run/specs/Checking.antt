@@ -3,9 +3,9 @@ use Rattle.std.specs.Prelude.{ℕ, ◌≤◌, List, [], ◌∷◌, ◌++◌, len
 use Rattle.std.specs.Fmt.{decimal}
 use Rattle.std.specs.Str.{IsUtf8}
 use Rattle.json_check.specs.Viable.{IsFirstBad}
-use Rattle.scan_run.specs.declared.status.Status.{Status}
-use Rattle.scan_run.specs.declared.status.Status.TheVariants.{OverLimit, Done, BadTarget}
-use Rattle.scan_run.specs.declared.status.LimitKind.TheVariants.{Target}
+use Rattle.run_status.specs.declared.status.Status.{Status}
+use Rattle.run_status.specs.declared.status.Status.TheVariants.{OverLimit, Done, BadTarget}
+use Rattle.file_map.specs.declared.limit.LimitKind.TheVariants.{Target}
 use Rattle.scan_run.specs.Streams.{Tells}
 
 -- `ok` where the input is JSON, else `bad` and the place where no JSON text goes on, and a line feed

@@ -5,9 +5,9 @@ use Rattle.scan_world.specs.Trees.{LacksFile, HasFront}
 use Rattle.pattern_read.specs.Patterns.{IsPatternOf}
 use Rattle.rule_files.specs.declared.rule_file.RuleFile.{RuleFile}
 use Rattle.rule_files.specs.RuleFiles.{IsRuleFile, outcomes_of}
-use Rattle.scan_run.specs.declared.status.Status.{Status}
-use Rattle.scan_run.specs.declared.status.Status.TheVariants.{OverLimit, NoSuchPath}
-use Rattle.scan_run.specs.declared.status.LimitKind.TheVariants.{RuleBytes, Rules}
+use Rattle.run_status.specs.declared.status.Status.{Status}
+use Rattle.run_status.specs.declared.status.Status.TheVariants.{OverLimit, NoSuchPath}
+use Rattle.file_map.specs.declared.limit.LimitKind.TheVariants.{RuleBytes, Rules}
 
 -- the tree has no config there, or at most the first 262,145 bytes of it are these
 abbrev pub IsConfig : Option Files → List ℕ → Option (List ℕ) → Type 0

@@ -2,7 +2,6 @@ pub mod Status
 pub mod Streams
 pub mod Lines
 pub mod Reading
-pub mod Ways
 pub mod Matching
 pub mod Checking
 pub mod Taking

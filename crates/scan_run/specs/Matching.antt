@@ -9,9 +9,9 @@ use Rattle.tree_match.specs.declared.leaf.Leaf.TheVariants.{Full, Crowded}
 use Rattle.tree_match.specs.Members.{Member}
 use Rattle.languages.specs.Trees.{AreKnown}
 use Rattle.scan_session.specs.Looking.{own_leaf}
-use Rattle.scan_run.specs.declared.status.Status.{Status}
-use Rattle.scan_run.specs.declared.status.Status.TheVariants.{OverLimit, TooMany, Done, BadTarget, BadPattern}
-use Rattle.scan_run.specs.declared.status.LimitKind.TheVariants.{Target}
+use Rattle.run_status.specs.declared.status.Status.{Status}
+use Rattle.run_status.specs.declared.status.Status.TheVariants.{OverLimit, TooMany, Done, BadTarget, BadPattern}
+use Rattle.file_map.specs.declared.limit.LimitKind.TheVariants.{Target}
 use Rattle.scan_run.specs.Reading.{IsFileOf, HasNoFile}
 use Rattle.scan_run.specs.Lines.{line_of}
 use Rattle.scan_run.specs.Streams.{Tells}

@@ -14,8 +14,8 @@ use Rattle.scan_session.specs.Running.{running}
 use Rattle.scan_session.specs.Quieted.{Grammars, grammars_of}
 use Rattle.scan_session.specs.Fresh.{IsResult, IsFresh}
 use Rattle.wire_words.specs.Commands.{Task}
-use Rattle.scan_run.specs.declared.status.Status.{Status}
-use Rattle.scan_run.specs.declared.status.Status.TheVariants.{TooMany, Done, Findings}
+use Rattle.run_status.specs.declared.status.Status.{Status}
+use Rattle.run_status.specs.declared.status.Status.TheVariants.{TooMany, Done, Findings}
 use Rattle.scan_run.specs.Taking.{File, AreFiles, limit_end}
 use Rattle.scan_run.specs.Config.{IsConfig, IsRules, ConfigEnds}
 

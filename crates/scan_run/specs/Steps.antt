@@ -1,7 +1,7 @@
 -- How many steps a match takes.
 use Rattle.std.specs.Prelude.{◌≡◌, ℕ, ◌+◌, ◌≤◌}
-use Rattle.scan_run.specs.declared.status.Status.{Status}
-use Rattle.scan_run.specs.declared.status.Status.TheVariants.{Done, OutputFault, TooMany, BadTarget, Memory}
+use Rattle.run_status.specs.declared.status.Status.{Status}
+use Rattle.run_status.specs.declared.status.Status.TheVariants.{Done, OutputFault, TooMany, BadTarget, Memory}
 
 -- the count before and after, by the status: one step opens the input, and one more matches a file that has a tree. So there
 -- is none where the pattern is refused, a read fails or the input is too long

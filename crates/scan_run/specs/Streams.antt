@@ -22,7 +22,3 @@ pub record IsTooLong (left : Option (List ℕ)) : Type 0 where
 -- the bytes grew by a piece of so many bytes, which was read
 abbrev pub TakesPiece : Option (List ℕ) → Option (List ℕ) → List ℕ → List ℕ → ℕ → Type 0
 TakesPiece left_old left_new old new n = (piece : List ℕ) × (new ≡ old ++ piece) × (length piece ≡ n) × Consumes left_old left_new piece
-
--- the first ones of these lines were written, each whole
-abbrev pub AppendsSome : Option (List ℕ) → Option (List ℕ) → List (List ℕ) → Type 0
-AppendsSome old new lines = (count : ℕ) × Appends old new (concat (take count lines))

@@ -4,9 +4,9 @@ use Rattle.path_glob.specs.Path.{IsPath, IsHidden, language}
 use Rattle.path_glob.specs.Segments.{segments}
 use Rattle.scan_world.specs.Files.{Files}
 use Rattle.scan_world.specs.Trees.{LacksFile, HasFront, IsListing}
-use Rattle.scan_run.specs.declared.status.Status.{Status}
-use Rattle.scan_run.specs.declared.status.Status.TheVariants.{OverLimit}
-use Rattle.scan_run.specs.declared.status.LimitKind.TheVariants as kinds
+use Rattle.run_status.specs.declared.status.Status.{Status}
+use Rattle.run_status.specs.declared.status.Status.TheVariants.{OverLimit}
+use Rattle.file_map.specs.declared.limit.LimitKind.TheVariants as kinds
 
 -- a file that was read: its path, and what is kept of its bytes
 abbrev pub File : Type 0

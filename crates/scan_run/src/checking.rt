@@ -3,13 +3,14 @@
 ghost use Rattle.std.specs.Prelude.{◌≡◌, IfOk, IsSome, string_bytes};
 ghost use Rattle.std.specs.Io.KnownBytes.{IsAtEnd};
 ghost use Rattle.scan_world.specs.Faults.{Rose};
-ghost use Rattle.scan_run.specs.Status.{IsAnswer, IsOfInput};
-ghost use Rattle.scan_run.specs.Ways.{Printed, PrintedFront, IsOnlyEnd};
+ghost use Rattle.run_status.specs.Status.{IsAnswer};
+ghost use Rattle.scan_run.specs.Status.{IsOfInput};
+ghost use Rattle.run_status.specs.Ways.{Printed, PrintedFront, IsOnlyEnd};
 ghost use Rattle.scan_run.specs.Checking.{check_line, Checks};
 
 use crate::input::read_target;
-use crate::status::Status;
 use json_check::first_bad;
+use run_status::Status;
 use scan_world::{Sink, Source};
 use std::alloc::{AllocError, Global};
 use std::str::from_utf8;

@@ -2,12 +2,13 @@
 
 ghost use Rattle.std.specs.Prelude.{◌≡◌, ◌≤◌, length, IfOk, IfErr, OnOk, Some};
 ghost use Rattle.scan_world.specs.Trees.{KeepsFiles};
-ghost use Rattle.scan_run.specs.Status.{IsAnswer, HasConfigCause, IsOfLimit};
+ghost use Rattle.run_status.specs.Status.{IsAnswer};
+ghost use Rattle.scan_run.specs.Status.{HasConfigCause, IsOfLimit};
 ghost use Rattle.scan_run.specs.Config.{IsRules, ConfigEnds, IsOneFile, HasRules, HasConfigEnd};
 
-use crate::status::{LimitKind, Status};
 use languages::Languages;
 use rule_files::{RuleFile, read_rule_file};
+use run_status::{LimitKind, Status};
 use scan_world::{Tree, TreeFault};
 use std::alloc::Global;
 

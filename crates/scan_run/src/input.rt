@@ -3,12 +3,13 @@
 ghost use Rattle.std.specs.Prelude.{◌≡◌, ◌<◌, ◌≤◌, length, IfOk, IfErr, OnOk, IsErrOf, vec_len};
 ghost use Rattle.std.specs.Io.KnownBytes.{Consumes, IsAtEnd};
 ghost use Rattle.scan_world.specs.Faults.{Rose};
-ghost use Rattle.scan_run.specs.Status.{IsAnswer, HasInputCause};
+ghost use Rattle.run_status.specs.Status.{IsAnswer};
+ghost use Rattle.scan_run.specs.Status.{HasInputCause};
 ghost use Rattle.scan_run.specs.Streams.{TakesPiece, IsTarget, IsTooLong};
-ghost use Rattle.scan_run.specs.declared.status.Status.TheVariants.{OverLimit as over_limit};
-ghost use Rattle.scan_run.specs.declared.status.LimitKind.TheVariants.{Target as target};
+ghost use Rattle.run_status.specs.declared.status.Status.TheVariants.{OverLimit as over_limit};
+ghost use Rattle.file_map.specs.declared.limit.LimitKind.TheVariants.{Target as target};
 
-use crate::status::{LimitKind, Status};
+use run_status::{LimitKind, Status};
 use scan_world::Source;
 use std::alloc::Global;
 

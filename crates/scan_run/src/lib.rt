@@ -8,8 +8,7 @@ mod input;
 mod matching;
 mod output;
 mod scan;
-mod status;
 mod taking;
 
 pub use entry::run;
-pub use status::{LimitKind, Status};
+pub use run_status::{LimitKind, Status};

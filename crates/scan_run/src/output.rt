@@ -5,7 +5,7 @@ ghost use Rattle.std.specs.List.{concat};
 ghost use Rattle.std.specs.Io.KnownBytes.{Appends};
 ghost use Rattle.scan_world.specs.Faults.{Rose};
 ghost use Rattle.scan_world.specs.Streams.{AppendsFront};
-ghost use Rattle.scan_run.specs.Streams.{AppendsSome};
+ghost use Rattle.run_status.specs.Ways.{AppendsSome};
 ghost use Rattle.scan_run.specs.Lines.{line_of};
 
 use meta_bind::Binding;

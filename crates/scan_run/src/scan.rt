@@ -4,19 +4,22 @@ ghost use Rattle.std.specs.Prelude.{◌≡◌, [], ◌∷◌, IfOk, IsSome};
 ghost use Rattle.scan_world.specs.Faults.{Rose};
 ghost use Rattle.scan_world.specs.Trees.{KeepsFiles};
 ghost use Rattle.wire_words.specs.Commands.{task_of};
-ghost use Rattle.scan_session.specs.Refused.{Gains, gained};
-ghost use Rattle.scan_run.specs.Status.{IsAnswer, IsFinished, IsOfReport};
-ghost use Rattle.scan_run.specs.Ways.{Printed, PrintedFront, IsOnlyEnd};
-ghost use Rattle.scan_run.specs.Scan.{status_of, ReportEnds, IsOneReport, Scans};
+ghost use Rattle.decided_texts.specs.Refused.{Gains, gained};
+ghost use Rattle.scan_session.specs.Scans.{HasScanned};
+ghost use Rattle.run_status.specs.Status.{IsAnswer, IsFinished};
+ghost use Rattle.run_status.specs.Ways.{Printed, PrintedFront, IsOnlyEnd};
+ghost use Rattle.scan_run.specs.Status.{IsOfReport};
+ghost use Rattle.scan_run.specs.Scan.{grammars, status_of, ReportEnds, IsOneReport, Scans};
 ghost use Rattle.scan_run.specs.Scanned.{AfterScanBy};
 
 use crate::config::read_config;
-use crate::status::Status;
 use crate::taking::scan_files;
+use decided_texts::DecidedTexts;
 use finding_json::{Report, report_text};
 use languages::Languages;
 use node_tree::{List, Memory, Steps};
 use rule_files::RuleFile;
+use run_status::Status;
 use rx_text::Patterns;
 use scan_session::{ScanFault, Scanner};
 use scan_world::{Sink, Tree};
@@ -42,6 +45,23 @@ fn one_file(alloc: Global, rules: RuleFile) -> Result<List<RuleFile>, Memory>
     let mut all = List::new(alloc);
     all.push(rules)?;
     Ok(all)
+}
+
+// A scan that has no file so far. The builder is asked for all texts of its rules.
+fn begin<'r, P: Patterns>(
+    alloc: Global,
+    languages: &'r Languages,
+    rules: &'r List<RuleFile>,
+    most: u64,
+    patterns: &mut P,
+) -> Result<Scanner<'r, Languages>, Memory>
+    ensures grows { Gains (P.refusals patterns.old) (P.refusals patterns.new) }
+    ensures begun { IfOk result (HasScanned grammars (gained (P.refusals patterns.old) (P.refusals patterns.new)) rules.now most []) }
+{
+    let mut decided = DecidedTexts::new(alloc);
+    let rules = rules.as_slice();
+    let scanner = Scanner::of(alloc, languages, rules, most, &mut decided, patterns)?;
+    Ok(scanner)
 }
 
 // Prints the report of a scan, in one write.
@@ -105,7 +125,7 @@ pub fn run_scan<T: Tree, K: Sink, P: Patterns, L: Ledger>(
         return Status::Memory;
     };
     let languages = Languages;
-    let Ok(mut scanner) = Scanner::of(alloc, &languages, &all, job.most, patterns) else {
+    let Ok(mut scanner) = begin(alloc, &languages, &all, job.most, patterns) else {
         return Status::Memory;
     };
     match scan_files(alloc, tree, job.prefix, &mut scanner, steps) {

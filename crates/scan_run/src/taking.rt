@@ -2,14 +2,15 @@
 
 ghost use Rattle.std.specs.Prelude.{◌≡◌, ◌↔◌, ◌+◌, ◌≤◌, ◌<◌, IsTrue, IfOk, IfErr, OnOk};
 ghost use Rattle.scan_world.specs.Trees.{KeepsFiles};
-ghost use Rattle.scan_run.specs.Status.{IsAnswer, IsOfLimit, HasReadingCause};
+ghost use Rattle.run_status.specs.Status.{IsAnswer};
+ghost use Rattle.scan_run.specs.Status.{IsOfLimit, HasReadingCause};
 ghost use Rattle.scan_run.specs.Taking.{IsTaken, AreTaken, IsOver, ReadingEnds, FilesEnd};
 ghost use Rattle.scan_run.specs.Scanned.{ScansRead, ScansFiles};
 
-use crate::status::{LimitKind, Status};
 use languages::Languages;
 use node_tree::{List, Memory, Steps, Text, Twin};
 use path_glob::{has_hidden, lang_of, path_ok};
+use run_status::{LimitKind, Status};
 use scan_session::Scanner;
 use scan_world::{Tree, TreeFault};
 use std::alloc::Global;

@@ -1,6 +1,6 @@
 pub mod Members
 pub mod Repeats
-pub mod Asking
+pub mod Deciding
 pub mod Taking
 pub mod Orders
 pub mod Quieted
@@ -12,5 +12,6 @@ pub mod Hits
 pub mod Named
 pub mod Scans
 pub mod Laws
+pub mod Later
 pub mod Others
 pub mod FixOrder

@@ -2,7 +2,7 @@
 use Rattle.std.proofs.Common.{◌≡◌, ℕ, suc, ◌+◌, Bool, true, false, cond, not, List, [], ◌∷◌, ◌++◌, nat_cmp, refl, sym, ap, ◌∙◌, subst, append_assoc, append-nil, add-one}
 use Rattle.std.specs.Prelude.{if◌then◌else◌, ◌||◌, Result, IfOk}
 use Rattle.std.specs.Borrow.{Bor}
-use Rattle.std.specs.List.{list_any, flat_map}
+use Rattle.std.specs.List.{flat_map}
 use Rattle.std.specs.Ordering.{is_eq}
 use Rattle.std.specs.Str.{bytes_eq}
 use Rattle.std.specs.BTreeSet.{BTreeSet, contains}
@@ -14,7 +14,7 @@ use Rattle.report_form.specs.declared.notice.Notice.{Notice}
 use Rattle.rule_files.specs.declared.rule_file.RuleFile.{RuleFile}
 use Rattle.rule_files.specs.RuleFiles.{outcomes_of}
 use Rattle.scan_session.specs.Running.{Stated, stated_at, stated_from, stated, texts_of, is_taken, has_refused, built, firsts, stated_notices, first_notices, repeat_notice, file_notices, rule_notices}
-use Rattle.scan_session.specs.Building.{Built, HoldsAll}
+use Rattle.decided_texts.specs.Decided.{Decisions, AreDecided}
 use Rattle.scan_session.specs.Taking.{HasJust, ids_after, run_of, rules_at, notices_at, firsts_after, notices_after}
 use Rattle.scan_session.proofs.Repeats.{firsts_are, notices_are}
 
@@ -38,14 +38,6 @@ files_on old new f left rest W h left-is new-is =
 
 pub files_end : (old : List Stated) (left : List RuleFile) (W : List Stated) → old ++ stated left ≡ W → left ≡ [] → old ≡ W
 files_end old left W h left-is = sym (ap (λ (fs : List RuleFile). old ++ stated fs) left-is ∙ append-nil old) ∙ h
-
--- ---- tests along lists
-
-pub any_found : {X : Type 0} (T : X → Bool) (all left : List X) (x : X) (rest : List X) → list_any T all ≡ list_any T left → left ≡ x ∷ rest → T x ≡ true → list_any T all ≡ true
-any_found T all left x rest h left-is e = h ∙ ap (list_any T) left-is ∙ ap (λ (b : Bool). b || list_any T rest) e
-
-pub any_past : {X : Type 0} (T : X → Bool) (all left : List X) (x : X) (rest : List X) → list_any T all ≡ list_any T left → left ≡ x ∷ rest → T x ≡ false → list_any T all ≡ list_any T rest
-any_past T all left x rest h left-is e = h ∙ ap (list_any T) left-is ∙ ap (λ (b : Bool). b || list_any T rest) e
 
 -- ---- ids
 
@@ -116,9 +108,9 @@ pub record SoFar (refused : List (List ℕ)) (all : List Stated) (before : List 
   pub rules_are : rules ++ built refused (firsts_after ids left) ≡ built refused (firsts_after [] all)
   pub notices_are : notices ++ notices_after refused ids left ≡ before ++ notices_after refused [] all
 
--- the same, where of the texts of all rules it is held what they came to
-abbrev pub TakesUp : Built → List Stated → List Notice → Ids → List Rule → List Notice → List Stated → Type 0
-TakesUp store all before taken rules notices left = (refused : List (List ℕ)) → HoldsAll store refused (texts_of all) → SoFar refused all before taken rules notices left × HoldsAll store refused (texts_of left)
+-- the same, where the texts of all rules are decided
+abbrev pub TakesUp : Decisions → List Stated → List Notice → Ids → List Rule → List Notice → List Stated → Type 0
+TakesUp d all before taken rules notices left = AreDecided d (texts_of all) → SoFar d.refused all before taken rules notices left × AreDecided d (texts_of left)
 
 pub takes : (refused : List (List ℕ)) (all : List Stated) (before : List Notice) (taken taken' : Ids) (rules rules' : List Rule) (notices notices' : List Notice) (left : List Stated) (s : Stated) (ss : List Stated)
     → (far : SoFar refused all before taken rules notices left) → left ≡ s ∷ ss → HasJust taken' (ids_after far.ids s) → rules' ≡ rules ++ rules_at refused far.ids s → notices' ≡ notices ++ notices_at refused far.ids s

@@ -1,5 +1,5 @@
 -- Which rules follow data.
-use Rattle.std.specs.Prelude.{ℕ, List}
+use Rattle.std.specs.Prelude.{List}
 use Rattle.node_tree.specs.declared.view.Lang.{Lang}
 use Rattle.rule_form.specs.declared.rule.Body.{Body}
 use Rattle.rule_form.specs.declared.rule.Body.TheVariants as bodies

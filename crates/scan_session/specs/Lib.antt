@@ -3,7 +3,6 @@ pub mod Notes
 pub mod NoteOrder
 pub mod Refused
 pub mod Running
-pub mod Building
 pub mod Taking
 pub mod Looking
 pub mod Needing

@@ -14,6 +14,7 @@ use Rattle.rule_files.specs.declared.rule_file.RuleContent.TheVariants as conten
 use Rattle.rule_files.specs.declared.rule_file.RuleFile.{RuleFile}
 use Rattle.rule_files.specs.RuleFiles.{outcomes_of}
 use Rattle.scan_session.specs.Notes.{notice, kind_of, feature_word}
+pub use Rattle.decided_texts.specs.Decided.{is_refused}
 
 -- a rule, the name of its file and the number of its entry there, from 0
 pub record Stated : Type 0 where
@@ -64,10 +65,6 @@ texts_of ss = flat_map (λ (s : Stated). s.rule.texts) ss
 -- each of these is one of those
 abbrev pub AreTextsOf : List RuleFile → List (List ℕ) → Type 0
 AreTextsOf files texts = (text : List ℕ) → Among texts text → Among (texts_of (stated files)) text
-
--- the text is one of the refused ones
-abbrev pub is_refused : List (List ℕ) → List ℕ → Bool
-is_refused refused text = list_any (λ other. bytes_eq other text) refused
 
 -- one of the rule's texts is, so that it doesn't run
 abbrev pub has_refused : List (List ℕ) → Rule → Bool

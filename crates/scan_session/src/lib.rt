@@ -8,7 +8,6 @@
 //! [`PatternReader`]: code_reader::PatternReader
 #![tactic(auto)]
 
-mod building;
 mod fault;
 mod following;
 mod looking;

@@ -1,18 +1,18 @@
 //! The rules that run, and the notices of rule files.
 
-ghost use Rattle.std.specs.Prelude.{◌≡◌, ◌++◌, ◌∷◌, ℕ, List as list, [], map, IfOk, OnOk};
+ghost use Rattle.std.specs.Prelude.{◌≡◌, ◌++◌, ◌∷◌, ℕ, List as list, [], true, map, IfOk, OnOk};
 ghost use Rattle.std.specs.List.{flat_map};
 ghost use Rattle.rule_files.specs.RuleFiles.{outcomes_of};
-ghost use Rattle.scan_session.specs.Refused.{gained};
-ghost use Rattle.scan_session.specs.Building.{Holds, HoldsAll, GainsOf};
+ghost use Rattle.decided_texts.specs.Decided.{is_decided, AreDecided};
+ghost use Rattle.decided_texts.specs.Deciding.{Decides, TakesAll};
 ghost use Rattle.scan_session.specs.Notes as notes;
 ghost use Rattle.scan_session.specs.Running as spec;
 ghost use Rattle.scan_session.specs.Taking as taking;
 
-use crate::building::{Built, build_all, expression_of, expressions_of};
 use crate::note::{Noted, add_notice};
 use crate::runner::Runner;
-use node_tree::{List, Memory, Text};
+use decided_texts::DecidedTexts;
+use node_tree::{Memory, Text};
 use report_form::NoticeKind;
 use rule_entries::{RuleFaultKind, RuleOutcome};
 use rule_files::{RuleContent, RuleFile};
@@ -127,12 +127,12 @@ fn note_text(
     file: &str,
     id: &str,
     text: &str,
-    built: &Built<'_>,
+    decided: &DecidedTexts,
     notices: &mut Vec<Noted>,
 ) -> Result<(), Memory>
-    ensures { (refused : list (list ℕ)) → Holds built.now refused text.now → OnOk result (notices.new.items ≡ notices.old.items ++ spec.refused_notices refused file.now id.now text.now) }
+    ensures { is_decided decided.now text.now ≡ true → OnOk result (notices.new.items ≡ notices.old.items ++ spec.refused_notices decided.now.refused file.now id.now text.now) }
 {
-    if expression_of(built, text).is_some() {
+    if decided.expression(text).is_some() {
         return Ok(());
     }
     add_notice(alloc, notices, file, id, NoticeKind::Regex, text)
@@ -144,13 +144,13 @@ fn note_texts(
     file: &str,
     id: &str,
     texts: &[Text],
-    built: &Built<'_>,
+    decided: &DecidedTexts,
     notices: &mut Vec<Noted>,
 ) -> Result<(), Memory>
-    ensures { (refused : list (list ℕ)) → HoldsAll built.now refused texts.now → OnOk result (notices.new.items ≡ notices.old.items ++ flat_map (spec.refused_notices refused file.now id.now) texts.now) }
+    ensures { AreDecided decided.now texts.now → OnOk result (notices.new.items ≡ notices.old.items ++ flat_map (spec.refused_notices decided.now.refused file.now id.now) texts.now) }
 {
     for text in texts {
-        note_text(alloc, file, id, text.as_str(), built, notices)?;
+        note_text(alloc, file, id, text.as_str(), decided, notices)?;
     }
     Ok(())
 }
@@ -159,28 +159,27 @@ fn note_texts(
 fn note_first(
     alloc: Global,
     entry: Entry<'_>,
-    built: &Built<'_>,
+    decided: &DecidedTexts,
     notices: &mut Vec<Noted>,
 ) -> Result<(), Memory>
-    ensures { (refused : list (list ℕ)) → HoldsAll built.now refused entry.entry.rule.now.texts → OnOk result (notices.new.items ≡ notices.old.items ++ spec.first_notices refused (taking.said entry.entry)) }
+    ensures { AreDecided decided.now entry.entry.rule.now.texts → OnOk result (notices.new.items ≡ notices.old.items ++ spec.first_notices decided.now.refused (taking.said entry.entry)) }
 {
     let (file, rule) = (entry.file, entry.rule);
     let id = rule.id.as_str();
     note_options(alloc, file, id, rule.unread.as_slice(), notices)?;
-    note_texts(alloc, file, id, rule.texts.as_slice(), built, notices)
+    note_texts(alloc, file, id, rule.texts.as_slice(), decided, notices)
 }
 
 // Adds the rule to those that run, if it does.
 fn add_runner<'r>(
-    alloc: Global,
     rule: &'r Rule,
-    built: &Built<'_>,
+    decided: &DecidedTexts,
     running: &mut Vec<Runner<'r>>,
 ) -> Result<(), Memory>
-    requires { (refused : list (list ℕ)) × HoldsAll built.now refused rule.now.texts }
-    ensures { (refused : list (list ℕ)) → HoldsAll built.now refused rule.now.texts → OnOk result (running.new.items ≡ running.old.items ++ taking.run_of refused rule.now) }
+    requires { AreDecided decided.now rule.now.texts }
+    ensures { OnOk result (running.new.items ≡ running.old.items ++ taking.run_of decided.now.refused rule.now) }
 {
-    let Some(rx) = expressions_of(alloc, built, rule.texts.as_slice())? else {
+    let Some(rx) = decided.expressions(rule.texts.as_slice())? else {
         return Ok(());
     };
     running.push(Runner::of(rule, rx))?;
@@ -191,39 +190,39 @@ fn add_runner<'r>(
 fn take_rule<'r>(
     alloc: Global,
     entry: Entry<'r>,
-    built: &Built<'_>,
+    decided: &DecidedTexts,
     taken: &mut BTreeSet<&'r str>,
     running: &mut Vec<Runner<'r>>,
     notices: &mut Vec<Noted>,
 ) -> Result<(), Memory>
-    requires { (refused : list (list ℕ)) × HoldsAll built.now refused entry.rule.now.texts }
+    requires { AreDecided decided.now entry.rule.now.texts }
     ensures ids { (ids : list (list ℕ)) → taking.HasJust taken.old ids → OnOk result (taking.HasJust taken.new (taking.ids_after ids (taking.said entry.entry))) }
-    ensures rules { (refused ids : list (list ℕ)) → HoldsAll built.now refused entry.entry.rule.now.texts → taking.HasJust taken.old ids → OnOk result (running.new.items ≡ running.old.items ++ taking.rules_at refused ids (taking.said entry.entry)) }
-    ensures notices { (refused ids : list (list ℕ)) → HoldsAll built.now refused entry.entry.rule.now.texts → taking.HasJust taken.old ids → OnOk result (notices.new.items ≡ notices.old.items ++ taking.notices_at refused ids (taking.said entry.entry)) }
+    ensures rules { (ids : list (list ℕ)) → taking.HasJust taken.old ids → OnOk result (running.new.items ≡ running.old.items ++ taking.rules_at decided.now.refused ids (taking.said entry.entry)) }
+    ensures notices { (ids : list (list ℕ)) → taking.HasJust taken.old ids → OnOk result (notices.new.items ≡ notices.old.items ++ taking.notices_at decided.now.refused ids (taking.said entry.entry)) }
 {
     let id = entry.rule.id.as_str();
     if !taken.insert(id)? {
         return note_repeat(alloc, entry, notices);
     }
-    note_first(alloc, entry, built, notices)?;
-    add_runner(alloc, entry.rule, built, running)
+    note_first(alloc, entry, decided, notices)?;
+    add_runner(entry.rule, decided, running)
 }
 
 // The rules that run.
 fn take_rules<'r>(
     alloc: Global,
     entries: &[Entry<'r>],
-    built: &Built<'_>,
+    decided: &DecidedTexts,
     notices: &mut Vec<Noted>,
 ) -> Result<Vec<Runner<'r>>, Memory>
-    requires { (refused : list (list ℕ)) × HoldsAll built.now refused (spec.texts_of (map taking.said entries.now)) }
-    ensures rules { (refused : list (list ℕ)) → HoldsAll built.now refused (spec.texts_of (map taking.said entries.now)) → IfOk result (λ running. running.items ≡ spec.built refused (taking.firsts_after [] (map taking.said entries.now))) }
-    ensures notices { (refused : list (list ℕ)) → HoldsAll built.now refused (spec.texts_of (map taking.said entries.now)) → OnOk result (notices.new.items ≡ notices.old.items ++ taking.notices_after refused [] (map taking.said entries.now)) }
+    requires { AreDecided decided.now (spec.texts_of (map taking.said entries.now)) }
+    ensures rules { IfOk result (λ running. running.items ≡ spec.built decided.now.refused (taking.firsts_after [] (map taking.said entries.now))) }
+    ensures notices { OnOk result (notices.new.items ≡ notices.old.items ++ taking.notices_after decided.now.refused [] (map taking.said entries.now)) }
 {
     let mut taken: BTreeSet<&str> = BTreeSet::new(alloc);
     let mut running = Vec::new(alloc);
     for entry in entries {
-        take_rule(alloc, *entry, built, &mut taken, &mut running, notices)?;
+        take_rule(alloc, *entry, decided, &mut taken, &mut running, notices)?;
     }
     Ok(running)
 }
@@ -327,21 +326,41 @@ fn note_files(alloc: Global, files: &[RuleFile], notices: &mut Vec<Noted>) -> Re
     Ok(())
 }
 
-/// The rules of these files that run, in order, where those texts are refused that the builder's list gained. All that is to
-/// be said of the files and their rules is added to the notices.
+// Decides the texts of the rules, in order of rule and place.
+fn decide_texts<P: Patterns>(
+    entries: &[Entry<'_>],
+    decided: &mut DecidedTexts,
+    patterns: &mut P,
+) -> Result<(), Memory>
+    ensures begun { Decides (spec.texts_of (map taking.said entries.now)) decided.old decided.new (P.refusals patterns.old) (P.refusals patterns.new) }
+    ensures refused { OnOk result (TakesAll decided.old decided.new (P.refusals patterns.old) (P.refusals patterns.new)) }
+    ensures decided { OnOk result (AreDecided decided.new (spec.texts_of (map taking.said entries.now))) }
+{
+    for entry in entries {
+        let rule = entry.rule;
+        decided.decide_all(rule.texts.as_slice(), patterns)?;
+    }
+    Ok(())
+}
+
+/// The rules of these files that run, in order, once the texts of all are decided. All that is to be said of the files and
+/// their rules is added to the notices.
 pub fn take_files<'r, P: Patterns>(
     alloc: Global,
-    files: &'r List<RuleFile>,
+    files: &'r [RuleFile],
+    decided: &mut DecidedTexts,
     patterns: &mut P,
     notices: &mut Vec<Noted>,
 ) -> Result<Vec<Runner<'r>>, Memory>
-    ensures grows { GainsOf (spec.texts_of (spec.stated files.now)) (P.refusals patterns.old) (P.refusals patterns.new) }
-    ensures rules { IfOk result (λ running. running.items ≡ spec.running (gained (P.refusals patterns.old) (P.refusals patterns.new)) files.now) }
-    ensures notices { OnOk result (notices.new.items ≡ notices.old.items ++ spec.rule_notices (gained (P.refusals patterns.old) (P.refusals patterns.new)) files.now) }
+    ensures begun { Decides (spec.texts_of (spec.stated files.now)) decided.old decided.new (P.refusals patterns.old) (P.refusals patterns.new) }
+    ensures refused { OnOk result (TakesAll decided.old decided.new (P.refusals patterns.old) (P.refusals patterns.new)) }
+    ensures decided { OnOk result (AreDecided decided.new (spec.texts_of (spec.stated files.now))) }
+    ensures rules { IfOk result (λ running. running.items ≡ spec.running decided.new.refused files.now) }
+    ensures notices { OnOk result (notices.new.items ≡ notices.old.items ++ spec.rule_notices decided.new.refused files.now) }
 {
-    note_files(alloc, files.as_slice(), notices)?;
-    let rules = good_rules(alloc, files.as_slice())?;
+    note_files(alloc, files, notices)?;
+    let rules = good_rules(alloc, files)?;
     let entries = rules.as_slice();
-    let built = build_all(alloc, entries, patterns)?;
-    take_rules(alloc, entries, &built, notices)
+    decide_texts(entries, decided, patterns)?;
+    take_rules(alloc, entries, decided, notices)
 }

@@ -5,8 +5,10 @@ ghost use Rattle.report_form.specs.declared.report.Report.{Report as a_report};
 ghost use Rattle.scan_session.specs.declared.fault.ScanFault.TheVariants.{TooMany};
 ghost use Rattle.scan_session.specs.Sets.{HasMore};
 ghost use Rattle.scan_session.specs.Reports.{reported_cmp};
-ghost use Rattle.scan_session.specs.Refused.{gained, Gains};
-ghost use Rattle.scan_session.specs.Running.{running as rules_of, AreTextsOf};
+ghost use Rattle.decided_texts.specs.Refused.{gained, Gains};
+ghost use Rattle.decided_texts.specs.Decided.{AreDecided, AreUndecided};
+ghost use Rattle.decided_texts.specs.Deciding.{Grows, TakesAll};
+ghost use Rattle.scan_session.specs.Running.{running as rules_of, stated, texts_of, AreTextsOf};
 ghost use Rattle.scan_session.specs.Quieted.{grammars_of};
 ghost use Rattle.scan_session.specs.Fresh.{IsFresh, IsResult};
 ghost use Rattle.scan_session.specs.Others.{KeepsOtherFiles, KeepsOtherRules};
@@ -19,6 +21,7 @@ use crate::running::take_files;
 use crate::scanning::scan_file;
 use code_reader::TreeReader;
 use comment_reader::CommentReader;
+use decided_texts::DecidedTexts;
 use node_tree::{Bytes, List, Memory, Steps};
 use report_form::{Report, Reported};
 use rule_files::RuleFile;
@@ -51,22 +54,27 @@ impl<'r, R: TreeReader + CommentReader> Scanner<'r, R> {
     /// A scan by the rules of the rule files, which reports at most so many findings and has no file so far. Files are opened by
     /// the reader. A rule whose id an earlier one has does not run; nor does one with a text that is refused.
     ///
-    /// Each text of a good rule is given to `build` once, in order of rule file, entry and place. The refused ones are those
-    /// that the builder's list gained in this call, whatever it answers.
+    /// Each text of a good rule that isn't decided is decided now, in order of rule file, entry and place. The refused ones are
+    /// then those that were refused before or now. Whatever this answers, what was decided stays so.
     pub fn of<P: Patterns>(
         alloc: Global,
         reader: &'r R,
-        rules: &'r List<RuleFile>,
+        rules: &'r [RuleFile],
         most: u64,
+        decided: &mut DecidedTexts,
         patterns: &mut P,
     ) -> Result<Scanner<'r, R>, Memory>
         ensures grows { Gains (P.refusals patterns.old) (P.refusals patterns.new) }
         ensures asked { AreTextsOf rules.now (gained (P.refusals patterns.old) (P.refusals patterns.new)) }
+        ensures undecided { AreUndecided decided.old (gained (P.refusals patterns.old) (P.refusals patterns.new)) }
+        ensures kept { Grows decided.old decided.new (gained (P.refusals patterns.old) (P.refusals patterns.new)) }
+        ensures refused { OnOk result (TakesAll decided.old decided.new (P.refusals patterns.old) (P.refusals patterns.new)) }
+        ensures decided { OnOk result (AreDecided decided.new (texts_of (stated rules.now))) }
         ensures same_reader { IfOk result (λ scanner. scanner.reader.now ≡ reader.now) }
-        ensures begun { IfOk result (HasScanned (grammars_of (R.spells reader.now) (R.knows reader.now) (R.comments reader.now)) (gained (P.refusals patterns.old) (P.refusals patterns.new)) rules.now most []) }
+        ensures begun { IfOk result (HasScanned (grammars_of (R.spells reader.now) (R.knows reader.now) (R.comments reader.now)) decided.new.refused rules.now most []) }
     {
         let mut notices = Vec::new(alloc);
-        let running = take_files(alloc, rules, patterns, &mut notices)?;
+        let running = take_files(alloc, rules, decided, patterns, &mut notices)?;
         Ok(Scanner {
             reader,
             running,

@@ -3,9 +3,9 @@
 
 ghost use Rattle.std.specs.Prelude.{◌≡◌, ◌<◌, map, string_bytes};
 ghost use Rattle.scan_world.specs.Faults.{Rose};
-ghost use Rattle.scan_session.specs.Refused.{gained};
-ghost use Rattle.scan_run.specs.Status.{IsAnswer};
-ghost use Rattle.scan_run.specs.Ways.{Printed};
+ghost use Rattle.decided_texts.specs.Refused.{gained};
+ghost use Rattle.run_status.specs.Status.{IsAnswer};
+ghost use Rattle.run_status.specs.Ways.{Printed};
 ghost use Rattle.scan_run.specs.Run.{Ends};
 
 mod adapters;
@@ -95,6 +95,7 @@ fn report(rt: &impl Eprint, status: Status) -> io::Result<()> {
         Status::InputFault => eprintln!(rt; "semscan: input failed"),
         Status::OutputFault => eprintln!(rt; "semscan: output failed"),
         Status::TreeFault => eprintln!(rt; "semscan: folder failed"),
+        Status::BadCommand(place) => eprintln!(rt; "semscan: bad command at {place}"),
         Status::OverLimit(_, count) => eprintln!(rt; "semscan: over limit {count}"),
         Status::TooMany(most) => eprintln!(rt; "semscan: more than {most}"),
         Status::NoSuchPath => eprintln!(rt; "semscan: no config"),

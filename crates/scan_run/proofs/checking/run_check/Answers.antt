@@ -2,8 +2,8 @@ use Rattle.std.proofs.Common.{List, ℕ, IsUtf8, sym, ◌∙◌, subst}
 use Rattle.std.specs.Io.KnownBytes.{Appends}
 use Rattle.scan_world.specs.Streams.{AppendsFront}
 use Rattle.json_check.specs.Viable.{IsFirstBad}
-use Rattle.scan_run.specs.declared.status.Status.{Status}
-use Rattle.scan_run.specs.Ways.{Printed, IsOnlyEnd}
+use Rattle.run_status.specs.declared.status.Status.{Status}
+use Rattle.run_status.specs.Ways.{Printed, IsOnlyEnd}
 use Rattle.scan_run.specs.Checking.{Checks}
 use Rattle.scan_run.proofs.Inputs.{input_kept, of_input}
 use Rattle.scan_run.proofs.Checks.{ends_over_limit, only_over_limit, ends_bad_target, only_bad_target, ends_checked, only_checked, front_checked}

@@ -1,6 +1,6 @@
 use Rattle.std.proofs.Common.{ℕ, Some, arith, sym, subst}
-use Rattle.scan_run.specs.declared.status.Status.TheVariants.{OverLimit}
-use Rattle.scan_run.specs.declared.status.LimitKind.TheVariants.{Rules}
+use Rattle.run_status.specs.declared.status.Status.TheVariants.{OverLimit}
+use Rattle.file_map.specs.declared.limit.LimitKind.TheVariants.{Rules}
 use Rattle.scan_run.specs.Config.{ConfigEnds, too_long, too_many_rules}
 use Rattle.scan_run.proofs.Rules.{one_file}
 use Rattle.scan_run.proofs.config.rules_of.Goals as goal

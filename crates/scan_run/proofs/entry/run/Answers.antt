@@ -1,8 +1,8 @@
 use Rattle.std.proofs.Common.{◌≡◌, ℕ, List, map, string_bytes, subst, inl, inr, refl}
 use Rattle.wire_words.specs.declared.command.Command.{Command}
 use Rattle.wire_words.specs.Commands.{Request, request, task_of}
-use Rattle.scan_run.specs.declared.status.Status.{Status}
-use Rattle.scan_run.specs.declared.status.Status.TheVariants as statuses
+use Rattle.run_status.specs.declared.status.Status.{Status}
+use Rattle.run_status.specs.declared.status.Status.TheVariants as statuses
 use Rattle.scan_run.specs.Status.{IsOfInput}
 use Rattle.scan_run.proofs.Files.{keeps_self}
 use Rattle.scan_run.specs.Run.{Asks}

@@ -4,10 +4,10 @@ use Rattle.file_open.specs.declared.opened.Opened.{Opened}
 use Rattle.file_open.specs.declared.opened.Opened.TheVariants as opened
 use Rattle.file_open.specs.Opening.{IsOpened, HasOnlyTree}
 use Rattle.languages.specs.Trees.{IsTree}
-use Rattle.scan_run.specs.declared.status.Status.{Status}
-use Rattle.scan_run.specs.declared.status.Status.TheVariants.{BadPattern, BadTarget, OverLimit}
-use Rattle.scan_run.specs.declared.status.LimitKind.TheVariants.{Target}
-use Rattle.scan_run.specs.Ways.{Printed, IsOnlyEnd}
+use Rattle.run_status.specs.declared.status.Status.{Status}
+use Rattle.run_status.specs.declared.status.Status.TheVariants.{BadPattern, BadTarget, OverLimit}
+use Rattle.file_map.specs.declared.limit.LimitKind.TheVariants.{Target}
+use Rattle.run_status.specs.Ways.{Printed, IsOnlyEnd}
 use Rattle.scan_run.specs.Matching.{Matches}
 use Rattle.scan_run.proofs.Matches.{unprinted, only_unprinted, ends_bad_pattern, ends_bad_target, ends_over_limit, input_steps, none_opened, file_read, only_read, serves_read, ends_by_search, only_search, front_of_search, some_of_search, of_search, search_steps}
 use Rattle.scan_run.proofs.Inputs.{input_kept, of_input}

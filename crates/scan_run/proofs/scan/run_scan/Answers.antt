@@ -1,5 +1,5 @@
 use Rattle.wire_words.specs.Commands.{task_of}
-use Rattle.scan_run.specs.declared.status.Status.TheVariants as statuses
+use Rattle.run_status.specs.declared.status.Status.TheVariants as statuses
 use Rattle.scan_run.proofs.Files.{files_before, end_before}
 use Rattle.scan_run.proofs.Causes.{reading_unfinished, config_kept, config_at}
 use Rattle.scan_run.proofs.Scans.{only_config, ends_by_config, ends_by_limit, only_limit, has_scanned, ends_by_report, front_of_report, only_report}
@@ -45,13 +45,13 @@ returns-in-Ok-scan_files-clause-ends g c a =
     let rules = c.in-Ok.rules in
     let h = c.in-Ok-scan_files.ensures.scanned in
     ends_by_report (task_of c.args.job.now) _ _ rules c.in-Ok.ensures.rules h.files (files_before (g.T.Tree.files c.args.tree.now) (g.T.Tree.files c.read_config.new.tree) c.args.job.now.prefix.now h.files c.in-Ok.ensures.kept h.are) h.within _ _ _
-    (c.print_report.ensures.ends a _ rules c.args.job.now.most h.files (has_scanned _ rules c.in-Ok-one_file.all c.args.job.now.most _ _ _ _ h c.in-Ok-one_file.ensures c.in-Ok-of.ensures.begun))
+    (c.print_report.ensures.ends a _ rules c.args.job.now.most h.files (has_scanned _ rules c.in-Ok-one_file.all c.args.job.now.most _ _ _ _ h c.in-Ok-one_file.ensures c.in-Ok-begin.ensures.begun))
 
 pub returns-in-Ok-scan_files-clause-only : goal.returns-in-Ok-scan_files-clause-only
 returns-in-Ok-scan_files-clause-only g c a some =
     let rules = c.in-Ok.rules in
     let h = c.in-Ok-scan_files.ensures.scanned in
-    let seen = has_scanned _ rules c.in-Ok-one_file.all c.args.job.now.most _ _ _ _ h c.in-Ok-one_file.ensures c.in-Ok-of.ensures.begun in
+    let seen = has_scanned _ rules c.in-Ok-one_file.all c.args.job.now.most _ _ _ _ h c.in-Ok-one_file.ensures c.in-Ok-begin.ensures.begun in
     only_report (task_of c.args.job.now) _ _ rules c.in-Ok.ensures.rules h.files (files_before (g.T.Tree.files c.args.tree.now) (g.T.Tree.files c.read_config.new.tree) c.args.job.now.prefix.now h.files c.in-Ok.ensures.kept h.are) h.within _ _ _
     (λ f. c.print_report.ensures.one_report f _ rules c.args.job.now.most h.files seen) (c.print_report.ensures.ends a _ rules c.args.job.now.most h.files seen) some
 
@@ -60,4 +60,4 @@ returns-in-Ok-scan_files-clause-front_written g c e =
     let rules = c.in-Ok.rules in
     let h = c.in-Ok-scan_files.ensures.scanned in
     front_of_report (task_of c.args.job.now) _ _ rules c.in-Ok.ensures.rules h.files (files_before (g.T.Tree.files c.args.tree.now) (g.T.Tree.files c.read_config.new.tree) c.args.job.now.prefix.now h.files c.in-Ok.ensures.kept h.are) h.within _ _
-    (c.print_report.ensures.front_written e _ rules c.args.job.now.most h.files (has_scanned _ rules c.in-Ok-one_file.all c.args.job.now.most _ _ _ _ h c.in-Ok-one_file.ensures c.in-Ok-of.ensures.begun))
+    (c.print_report.ensures.front_written e _ rules c.args.job.now.most h.files (has_scanned _ rules c.in-Ok-one_file.all c.args.job.now.most _ _ _ _ h c.in-Ok-one_file.ensures c.in-Ok-begin.ensures.begun))

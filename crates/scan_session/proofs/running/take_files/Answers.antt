@@ -1,38 +1,51 @@
-use Rattle.std.proofs.Common.{◌++◌, List, ap, ◌∙◌, subst, map}
-use Rattle.std.specs.List.{flat_map}
-use Rattle.rule_files.specs.declared.rule_file.RuleFile.{RuleFile}
-use Rattle.scan_session.specs.Refused.{gained}
-use Rattle.scan_session.specs.Running.{Stated, stated, texts_of, file_notices}
+use Rattle.std.proofs.Common.{List, ap, ◌∙◌, subst, map}
+use Rattle.decided_texts.specs.Decided.{AreDecided}
+use Rattle.decided_texts.specs.Deciding.{Decides, TakesAll}
+use Rattle.decided_texts.proofs.Growing.{nothing}
+use Rattle.scan_session.specs.Running.{Stated, stated, texts_of}
 use Rattle.scan_session.specs.Taking.{said}
-use Rattle.scan_session.specs.Building.{GainsOf}
-use Rattle.scan_session.proofs.Members.{on_ok_map}
+use Rattle.scan_session.proofs.Members.{on_ok, on_ok_map}
 use Rattle.scan_session.proofs.Taking.{all_noted, runs_as}
 use Rattle.scan_session.proofs.running.take_files.Goals as goal
 
-pub returns-in_err-built-clause-grows : goal.returns-in_err-built-clause-grows
-returns-in_err-built-clause-grows g c =
-    let e = ap (map said) c.as_slice-entries.ensures.value ∙ c.in_ok-rules.ensures ∙ ap stated c.as_slice-2.ensures in
-    let P : List Stated → Type 0 = λ ss. GainsOf (texts_of ss) (g.P.Patterns.refusals c.args.patterns.now) (g.P.Patterns.refusals c.build_all.new.patterns) in
-    subst P e c.build_all.ensures.grows
+pub returns-in_err-note_files-clause-begun : goal.returns-in_err-note_files-clause-begun
+returns-in_err-note_files-clause-begun g c = nothing (texts_of (stated c.args.files.now)) c.args.decided.now (g.P.Patterns.refusals c.args.patterns.now)
+
+pub returns-in_err-rules-clause-begun : goal.returns-in_err-rules-clause-begun
+returns-in_err-rules-clause-begun g c = nothing (texts_of (stated c.args.files.now)) c.args.decided.now (g.P.Patterns.refusals c.args.patterns.now)
+
+pub returns-in_err-decide_texts-clause-begun : goal.returns-in_err-decide_texts-clause-begun
+returns-in_err-decide_texts-clause-begun g c =
+    let e = ap (map said) c.as_slice-entries.ensures.value ∙ c.in_ok-rules.ensures in
+    let P : List Stated → Type 0 = λ ss. Decides (texts_of ss) c.args.decided.now c.decide_texts.new.decided (g.P.Patterns.refusals c.args.patterns.now) (g.P.Patterns.refusals c.decide_texts.new.patterns) in
+    subst P e c.decide_texts.ensures.begun
 
 pub take_rules-requires : goal.take_rules-requires
-take_rules-requires g c = (gained (g.P.Patterns.refusals c.args.patterns.now) (g.P.Patterns.refusals c.build_all.new.patterns), c.in_ok-built.ensures.built)
+take_rules-requires g c = c.in_ok-decide_texts.ensures.decided
 
-pub returns-clause-grows : goal.returns-clause-grows
-returns-clause-grows g c =
-    let e = ap (map said) c.as_slice-entries.ensures.value ∙ c.in_ok-rules.ensures ∙ ap stated c.as_slice-2.ensures in
-    let P : List Stated → Type 0 = λ ss. GainsOf (texts_of ss) (g.P.Patterns.refusals c.args.patterns.now) (g.P.Patterns.refusals c.build_all.new.patterns) in
-    subst P e c.build_all.ensures.grows
+pub returns-clause-begun : goal.returns-clause-begun
+returns-clause-begun g c =
+    let e = ap (map said) c.as_slice-entries.ensures.value ∙ c.in_ok-rules.ensures in
+    let P : List Stated → Type 0 = λ ss. Decides (texts_of ss) c.args.decided.now c.decide_texts.new.decided (g.P.Patterns.refusals c.args.patterns.now) (g.P.Patterns.refusals c.decide_texts.new.patterns) in
+    subst P e c.decide_texts.ensures.begun
+
+pub returns-clause-refused : goal.returns-clause-refused
+returns-clause-refused g c =
+    on_ok (TakesAll c.args.decided.now c.decide_texts.new.decided (g.P.Patterns.refusals c.args.patterns.now) (g.P.Patterns.refusals c.decide_texts.new.patterns)) c.take_rules.result c.in_ok-decide_texts.ensures.refused
+
+pub returns-clause-decided : goal.returns-clause-decided
+returns-clause-decided g c =
+    let e = ap (map said) c.as_slice-entries.ensures.value ∙ c.in_ok-rules.ensures in
+    let P : List Stated → Type 0 = λ ss. AreDecided c.decide_texts.new.decided (texts_of ss) in
+    on_ok (AreDecided c.decide_texts.new.decided (texts_of (stated c.args.files.now))) c.take_rules.result (subst P e c.in_ok-decide_texts.ensures.decided)
 
 pub returns-clause-rules : goal.returns-clause-rules
 returns-clause-rules g c =
-    let refused = gained (g.P.Patterns.refusals c.args.patterns.now) (g.P.Patterns.refusals c.build_all.new.patterns) in
-    let e = ap (map said) c.as_slice-entries.ensures.value ∙ c.in_ok-rules.ensures ∙ ap stated c.as_slice-2.ensures in
-    runs_as c.take_rules.result (λ r. r.items) refused _ (stated c.args.files.now) e (c.take_rules.ensures.rules refused c.in_ok-built.ensures.built)
+    let e = ap (map said) c.as_slice-entries.ensures.value ∙ c.in_ok-rules.ensures in
+    runs_as c.take_rules.result (λ r. r.items) c.decide_texts.new.decided.refused _ (stated c.args.files.now) e c.take_rules.ensures.rules
 
 pub returns-clause-notices : goal.returns-clause-notices
 returns-clause-notices g c =
-    let refused = gained (g.P.Patterns.refusals c.args.patterns.now) (g.P.Patterns.refusals c.build_all.new.patterns) in
-    let e = ap (map said) c.as_slice-entries.ensures.value ∙ c.in_ok-rules.ensures ∙ ap stated c.as_slice-2.ensures in
-    let first = c.in_ok-note_files.ensures ∙ ap (λ (fs : List RuleFile). c.args.notices.now.items ++ flat_map file_notices fs) c.as_slice.ensures in
-    on_ok_map c.take_rules.result (all_noted refused c.args.notices.now.items c.note_files.new.notices.items c.take_rules.new.notices.items c.args.files.now _ first e) (c.take_rules.ensures.notices refused c.in_ok-built.ensures.built)
+    let refused = c.decide_texts.new.decided.refused in
+    let e = ap (map said) c.as_slice-entries.ensures.value ∙ c.in_ok-rules.ensures in
+    on_ok_map c.take_rules.result (all_noted refused c.args.notices.now.items c.note_files.new.notices.items c.take_rules.new.notices.items c.args.files.now _ c.in_ok-note_files.ensures e) c.take_rules.ensures.notices

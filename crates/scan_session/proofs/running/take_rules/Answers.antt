@@ -2,7 +2,7 @@ use Rattle.std.proofs.Common.{◌+◌, ap, map, drop}
 use Rattle.std.proofs.lemmas.List.{drop_all}
 use Rattle.meta_bind.proofs.Lookups.{opened}
 use Rattle.scan_session.specs.Taking.{said}
-use Rattle.scan_session.proofs.Asking.{holds_first, holds_rest}
+use Rattle.scan_session.proofs.Deciding.{decided_first, decided_rest}
 use Rattle.scan_session.proofs.Taking.{takes, all_rules}
 use Rattle.scan_session.proofs.running.take_rules.Goals as goal
 
@@ -11,35 +11,32 @@ take_rule-requires c =
     let i = c.loop-entry.entry-index in
     let es = c.args.entries.now in
     let e = c.entry-item.result in
-    let refused = c.requires.0 in (
-      refused,
-      holds_first c.args.built.now refused (map said (drop i es)) (said e) (map said (drop (i + 1) es)) (ap (map said) (opened es i e c.loop-entry-test.true c.entry-item.is)) (c.loop-entry.invariant refused c.requires.1).1,
-    )
+    decided_first c.args.decided.now (map said (drop i es)) (said e) (map said (drop (i + 1) es)) (ap (map said) (opened es i e c.loop-entry-test.true c.entry-item.is)) (c.loop-entry.invariant c.requires).1
 
 pub loop-entry-preserved : goal.loop-entry-preserved
-loop-entry-preserved c refused holds =
+loop-entry-preserved c decided =
     let i = c.loop-entry.entry-index in
     let es = c.args.entries.now in
     let e = c.entry-item.result in
-    let far = c.loop-entry.invariant refused holds in
+    let d = c.args.decided.now in
+    let far = c.loop-entry.invariant decided in
     let r = c.in_ok-take_rule.ensures in
     let left = map said (drop i es) in
     let rest = map said (drop (i + 1) es) in
-    let left-is = ap (map said) (opened es i e c.loop-entry-test.true c.entry-item.is) in
-    let first = holds_first c.args.built.now refused left (said e) rest left-is far.1 in (
-      takes refused (map said es) _ c.loop-entry.taken c.take_rule.new.taken c.loop-entry.running.items c.take_rule.new.running.items c.loop-entry.notices.items c.take_rule.new.notices.items
-          left (said e) rest far.0 left-is (r.ids far.0.ids far.0.just) (r.rules refused far.0.ids first far.0.just) (r.notices refused far.0.ids first far.0.just),
-      holds_rest c.args.built.now refused left (said e) rest left-is far.1,
+    let left-is = ap (map said) (opened es i e c.loop-entry-test.true c.entry-item.is) in (
+      takes d.refused (map said es) _ c.loop-entry.taken c.take_rule.new.taken c.loop-entry.running.items c.take_rule.new.running.items c.loop-entry.notices.items c.take_rule.new.notices.items
+          left (said e) rest far.0 left-is (r.ids far.0.ids far.0.just) (r.rules far.0.ids far.0.just) (r.notices far.0.ids far.0.just),
+      decided_rest d left (said e) rest left-is far.1,
     )
 
 pub returns-clause-rules : goal.returns-clause-rules
-returns-clause-rules c refused holds =
+returns-clause-rules c =
     let es = c.args.entries.now in
-    (all_rules refused (map said es) _ c.loop-entry.taken c.loop-entry.running.items c.loop-entry.notices.items (map said (drop c.loop-entry.entry-index es)) (c.loop-entry.invariant refused holds).0
+    (all_rules c.args.decided.now.refused (map said es) _ c.loop-entry.taken c.loop-entry.running.items c.loop-entry.notices.items (map said (drop c.loop-entry.entry-index es)) (c.loop-entry.invariant c.requires).0
     (ap (map said) (drop_all c.loop-entry.entry-index es c.loop-entry-test.false))).0
 
 pub returns-clause-notices : goal.returns-clause-notices
-returns-clause-notices c refused holds =
+returns-clause-notices c =
     let es = c.args.entries.now in
-    (all_rules refused (map said es) _ c.loop-entry.taken c.loop-entry.running.items c.loop-entry.notices.items (map said (drop c.loop-entry.entry-index es)) (c.loop-entry.invariant refused holds).0
+    (all_rules c.args.decided.now.refused (map said es) _ c.loop-entry.taken c.loop-entry.running.items c.loop-entry.notices.items (map said (drop c.loop-entry.entry-index es)) (c.loop-entry.invariant c.requires).0
     (ap (map said) (drop_all c.loop-entry.entry-index es c.loop-entry-test.false))).1

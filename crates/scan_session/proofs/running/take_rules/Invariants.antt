@@ -4,4 +4,4 @@ use Rattle.scan_session.proofs.Taking.{TakesUp}
 use Rattle.scan_session.proofs.running.take_rules.Given as goal
 
 abbrev pub invariant-loop-entry : goal.invariant-loop-entry
-invariant-loop-entry l = TakesUp l.built (map said l.entries) l.fn.notices.items l.taken l.running.items l.notices.items (map said (drop l.entry-index l.entries))
+invariant-loop-entry l = TakesUp l.decided (map said l.entries) l.fn.notices.items l.taken l.running.items l.notices.items (map said (drop l.entry-index l.entries))

@@ -1,11 +1,14 @@
 -- What was written at an end, by the ways in which a run may end.
-use Rattle.std.specs.Prelude.{◌≡◌, ℕ, List, Option}
+use Rattle.std.specs.Prelude.{◌≡◌, ℕ, List, take, Option}
 use Rattle.std.specs.List.{concat}
 use Rattle.std.specs.Io.KnownBytes.{Appends}
 use Rattle.scan_world.specs.Streams.{AppendsFront}
-use Rattle.scan_run.specs.declared.status.Status.{Status}
-use Rattle.scan_run.specs.Status.{IsFinished}
-use Rattle.scan_run.specs.Streams.{AppendsSome}
+use Rattle.run_status.specs.declared.status.Status.{Status}
+use Rattle.run_status.specs.Status.{IsFinished}
+
+-- the first ones of these lines were written, each whole
+abbrev pub AppendsSome : Option (List ℕ) → Option (List ℕ) → List (List ℕ) → Type 0
+AppendsSome old new lines = (count : ℕ) × Appends old new (concat (take count lines))
 
 -- the ways in which a run may end: the status, and the lines that it prints
 abbrev pub Ways : Type 1

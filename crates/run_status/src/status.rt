@@ -1,25 +1,11 @@
 //! How a run ends.
 
 ghost use Rattle.std.specs.Prelude.{◌≡◌};
-ghost use Rattle.scan_run.specs.Status.{number_of};
-ghost use Rattle.scan_run.specs.declared.status.Status.TheVariants.{Memory as out_of_memory};
+ghost use Rattle.run_status.specs.Status.{number_of};
+ghost use Rattle.run_status.specs.declared.status.Status.TheVariants.{Memory as out_of_memory};
 
+use file_map::LimitKind;
 use node_tree::Memory;
-
-/// What has a limit, of which there was too much.
-#[derive(Clone, Copy, Debug, PartialEq, Eq)]
-pub enum LimitKind {
-    /// The files that are scanned, at most 10,000.
-    Files,
-    /// The bytes of all files that are scanned, at most 33,554,432.
-    FileBytes,
-    /// The bytes of the rules, at most 262,144.
-    RuleBytes,
-    /// The entries of the rules, at most 1,000.
-    Rules,
-    /// The bytes of the input of `match` or `check`, at most 1,000,000.
-    Target,
-}
 
 /// How a run ends.
 #[derive(Clone, Copy, Debug, PartialEq, Eq)]
@@ -38,6 +24,8 @@ pub enum Status {
     OutputFault,
     /// A call of the tree of files failed.
     TreeFault,
+    /// From that place on, in bytes from 0, the stream begins with no command, or it ends before a command does or before `end`.
+    BadCommand(u64),
     /// Something passes its limit, with the number that it came to.
     OverLimit(LimitKind, u64),
     /// There are more members or findings than that.
@@ -63,6 +51,7 @@ impl Status {
             Status::InputFault => 4,
             Status::OutputFault => 5,
             Status::TreeFault => 6,
+            Status::BadCommand(_) => 7,
             Status::OverLimit(_, _) => 8,
             Status::TooMany(_) => 9,
             Status::NoSuchPath => 10,

@@ -1,0 +1,5 @@
+pub mod Texts
+pub mod Keeping
+pub mod Growing
+pub mod Reading
+pub mod Later

@@ -1,0 +1,4 @@
+pub mod Refused
+pub mod Decided
+pub mod Deciding
+pub mod Kept
