@@ -1,0 +1,72 @@
+-- What taking a folder comes to, step by step.
+use Rattle.std.proofs.Common.{◌≡◌, ℕ, List, [], ◌∷◌, refl, sym, ap, ◌∙◌, subst}
+use Rattle.std.specs.Prelude.{Option, None, Some}
+use Rattle.scan_world.specs.Files.{Files}
+use Rattle.scan_world.specs.Trees.{KeepsFiles, LacksFile}
+use Rattle.folder_files.proofs.Told.{files_before}
+use Rattle.file_map.specs.declared.limit.LimitKind.{LimitKind}
+use Rattle.file_map.specs.declared.fault.PutFault.{PutFault}
+use Rattle.file_map.specs.declared.fault.PutFault.TheVariants as puts
+use Rattle.file_map.specs.declared.fault.SyncFault.{SyncFault}
+use Rattle.file_map.specs.declared.fault.SyncFault.TheVariants as syncs
+use Rattle.file_map.specs.FileMap.{File, with_file, TellsPut}
+use Rattle.file_map.specs.Faults.{TellsLimit}
+use Rattle.file_map.specs.Sync.{AreSynced, Syncs, SyncPasses}
+use Rattle.rule_map.specs.RuleMap.{PutRuleEnds}
+use Rattle.run_status.specs.declared.status.Status.{Status}
+use Rattle.run_status.specs.declared.status.Status.TheVariants.{NoSuchPath, OverLimit}
+use Rattle.run_status.specs.Status.{IsAnswer}
+use Rattle.workspace.specs.State.{State, with_files, with_rules}
+use Rattle.workspace.specs.Reports.{Readings}
+use Rattle.stream_run.specs.Still.{shelves_of, IsNew}
+use Rattle.folder_run.specs.Taking.{IsConfig, Takes, TakesNone, no_config, rules_over, files_over}
+
+synced_before : (told now : Option Files) (kept : KeepsFiles told now) (prefix : List ℕ) (old : Files) (files : List File) → AreSynced now prefix old files → AreSynced told prefix old files
+synced_before told now kept prefix old files s = record {
+  outside = s.outside;
+  are_outside = s.are_outside;
+  under = s.under;
+  are_under = files_before told now prefix s.under kept s.are_under;
+  all = s.all;
+}
+
+module _ (readings : Readings) (told : Option Files) (config prefix : List ℕ) where
+  -- the config was not read
+  pub none_read : (status : Status) → (status ≡ NoSuchPath) × LacksFile told config → TakesNone readings told config prefix status
+  none_read status h = let P : Status → Type 0 = λ s. TakesNone readings told config prefix s in subst P (sym h.0) (no_config h.1)
+
+  module _ (old : State) (new : IsNew old) (slice bytes : List ℕ) (e : slice ≡ bytes) (read : IsConfig told config bytes) where
+    -- what is said of the slice, beside the rules of the workspace, is said of the bytes alone
+    alone : (over : Option (LimitKind × ℕ)) → PutRuleEnds readings.writes old.rules (config, slice) over → PutRuleEnds readings.writes [] (config, bytes) over
+    alone over h =
+        let P : Files → Type 0 = λ fs. PutRuleEnds readings.writes fs (config, slice) over in
+        let Q : List ℕ → Type 0 = λ bs. PutRuleEnds readings.writes [] (config, bs) over in
+        subst Q e (subst P new.rules h)
+
+    pub over_rules : (fault : PutFault) (kind : LimitKind) (n : ℕ) → fault ≡ puts.OverLimit kind n → TellsPut (PutRuleEnds readings.writes old.rules (config, slice)) fault → TakesNone readings told config prefix (OverLimit kind n)
+    over_rules fault kind n is h = let P : PutFault → Type 0 = λ f. TellsPut (PutRuleEnds readings.writes old.rules (config, slice)) f in rules_over bytes kind n read (alone (Some (kind, n)) (subst P is h))
+
+    module _ (mid : State) (put : mid ≡ with_rules old (with_file old.rules (config, slice))) (within : PutRuleEnds readings.writes old.rules (config, slice) None) (now : Option Files) (kept : KeepsFiles told now) where
+      no_files : mid.files ≡ []
+      no_files = ap (λ (s : State). s.files) put ∙ new.files
+
+      passes : (over : Option (LimitKind × ℕ)) → SyncPasses now prefix mid.files over → SyncPasses told prefix [] over
+      passes over (all, are, passed) =
+          let P : Files → Type 0 = λ fs. AreSynced told prefix fs all in
+          (all, subst P no_files (synced_before told now kept prefix mid.files all are), passed)
+
+      pub over_files : (fault : SyncFault) (kind : LimitKind) (n : ℕ) → fault ≡ syncs.OverLimit kind n → TellsLimit (SyncPasses now prefix mid.files) fault → TakesNone readings told config prefix (OverLimit kind n)
+      over_files fault kind n is h = let P : SyncFault → Type 0 = λ f. TellsLimit (SyncPasses now prefix mid.files) f in files_over bytes kind n (read, alone None within) (passes (Some (kind, n)) (subst P is h))
+
+      pub taken : (then : State) → then ≡ with_files mid then.files → Syncs now prefix mid.files then.files → SyncPasses now prefix mid.files None → Takes readings told config prefix (shelves_of then)
+      taken then same (all, are, e') few =
+          let P : Files → Type 0 = λ fs. AreSynced told prefix fs all in
+          let f : Files → Files = λ fs. with_file fs (config, slice) in
+          let g : List ℕ → Files = λ bs. (config, bs) ∷ [] in
+          record {
+            bytes = bytes;
+            read = (read, alone None within);
+            rules = ap (λ (s : State). s.rules) same ∙ ap (λ (s : State). s.rules) put ∙ ap f new.rules ∙ ap g e;
+            synced = (all, subst P no_files (synced_before told now kept prefix mid.files all are), e');
+            within = passes None few;
+          }

@@ -1,0 +1,46 @@
+use Rattle.std.proofs.Common.{◌∙◌, ap, Err}
+use Rattle.wire_words.specs.Commands.{task_of}
+use Rattle.decided_texts.specs.Refused.{gained}
+use Rattle.folder_run.proofs.Fixes.{none_prints, none_wrote, many_prints, many_wrote, over_prints, over_wrote, done_left, done_prints, done_wrote, done_front, not_memory, many_not_memory, over_not_memory}
+use Rattle.stream_run.specs.Still.{setting}
+use Rattle.folder_run.proofs.fixing.fix_folder.Goals as goal
+
+pub returns-in-Err-clause-ends : goal.returns-in-Err-clause-ends
+returns-in-Err-clause-ends g c a =
+    none_prints (setting (g.W.Workspace.readings (g.W.Workspace.reader c.args.workspace.now)) (g.T.Tree.files c.args.tree.now) (g.W.Workspace.state c.args.workspace.now).most _) (task_of c.args.job.now) c.in-Err.status (c.in-Err.ensures.none a) (g.K.Sink.written c.args.out.now)
+
+pub returns-in-Err-clause-wrote : goal.returns-in-Err-clause-wrote
+returns-in-Err-clause-wrote g c a =
+    none_wrote (setting (g.W.Workspace.readings (g.W.Workspace.reader c.args.workspace.now)) (g.T.Tree.files c.args.tree.now) (g.W.Workspace.state c.args.workspace.now).most _) (task_of c.args.job.now) c.in-Err.status (c.in-Err.ensures.none a) (g.T.Tree.files c.take_folder.new.tree) c.in-Err.ensures.kept
+
+pub returns-in-Ok-fix-clause-ends : goal.returns-in-Ok-fix-clause-ends
+returns-in-Ok-fix-clause-ends g c a =
+    done_prints g.W.Workspace.readings (g.W.Workspace.reader c.args.workspace.now) (g.W.Workspace.reader c.take_folder.new.workspace) c.in-Ok.ensures.same_reader (g.T.Tree.files c.args.tree.now) (g.T.Tree.files c.take_folder.new.tree) c.in-Ok.ensures.kept (task_of c.args.job.now) (g.W.Workspace.state c.args.workspace.now) (g.W.Workspace.state c.take_folder.new.workspace) c.requires.new c.in-Ok.ensures.takes c.in-Ok.ensures.decided c.in-Ok.ensures.most (g.W.Workspace.state c.fix.new.self).decided (gained (g.P.Patterns.refusals c.args.patterns.now) (g.P.Patterns.refusals c.fix.new.patterns)) (c.fix.ensures.refused (λ e. not_memory c.fix.result _ c.in-Ok-fix.is e)) c.in-Ok-fix.fixed c.in-Ok-fix.ensures.report c.in-Ok-fix.ensures.few c.in-Ok-fix.ensures.within c.write_and_print.result (g.K.Sink.written c.args.out.now) (g.K.Sink.written c.write_and_print.new.out) (c.write_and_print.ensures.ends a)
+
+pub returns-in-Ok-fix-clause-wrote : goal.returns-in-Ok-fix-clause-wrote
+returns-in-Ok-fix-clause-wrote g c a =
+    done_wrote g.W.Workspace.readings (g.W.Workspace.reader c.args.workspace.now) (g.W.Workspace.reader c.take_folder.new.workspace) c.in-Ok.ensures.same_reader (g.T.Tree.files c.args.tree.now) (g.T.Tree.files c.take_folder.new.tree) c.in-Ok.ensures.kept (task_of c.args.job.now) (g.W.Workspace.state c.args.workspace.now) (g.W.Workspace.state c.take_folder.new.workspace) c.requires.new c.in-Ok.ensures.takes c.in-Ok.ensures.decided c.in-Ok.ensures.most (g.W.Workspace.state c.fix.new.self).decided (gained (g.P.Patterns.refusals c.args.patterns.now) (g.P.Patterns.refusals c.fix.new.patterns)) (c.fix.ensures.refused (λ e. not_memory c.fix.result _ c.in-Ok-fix.is e)) c.in-Ok-fix.fixed c.in-Ok-fix.ensures.report c.in-Ok-fix.ensures.few c.in-Ok-fix.ensures.within c.write_and_print.result (g.T.Tree.files c.write_and_print.new.tree) (c.write_and_print.ensures.ends a).ends.0 (c.write_and_print.ensures.wrote a)
+
+pub returns-in-Ok-fix-clause-left : goal.returns-in-Ok-fix-clause-left
+returns-in-Ok-fix-clause-left g c =
+    done_left g.W.Workspace.readings (g.W.Workspace.reader c.args.workspace.now) (g.W.Workspace.reader c.take_folder.new.workspace) c.in-Ok.ensures.same_reader (g.T.Tree.files c.args.tree.now) (g.T.Tree.files c.take_folder.new.tree) c.in-Ok.ensures.kept (task_of c.args.job.now) (g.W.Workspace.state c.args.workspace.now) (g.W.Workspace.state c.take_folder.new.workspace) c.requires.new c.in-Ok.ensures.takes c.in-Ok.ensures.decided c.in-Ok.ensures.most (g.W.Workspace.state c.fix.new.self).decided (gained (g.P.Patterns.refusals c.args.patterns.now) (g.P.Patterns.refusals c.fix.new.patterns)) (c.fix.ensures.refused (λ e. not_memory c.fix.result _ c.in-Ok-fix.is e)) c.in-Ok-fix.fixed c.in-Ok-fix.ensures.report c.in-Ok-fix.ensures.few c.in-Ok-fix.ensures.within (g.T.Tree.files c.write_and_print.new.tree) c.write_and_print.ensures.left
+
+pub returns-in-Ok-fix-clause-front_written : goal.returns-in-Ok-fix-clause-front_written
+returns-in-Ok-fix-clause-front_written g c e =
+    done_front g.W.Workspace.readings (g.W.Workspace.reader c.args.workspace.now) (g.W.Workspace.reader c.take_folder.new.workspace) c.in-Ok.ensures.same_reader (g.T.Tree.files c.args.tree.now) (g.T.Tree.files c.take_folder.new.tree) c.in-Ok.ensures.kept (task_of c.args.job.now) (g.W.Workspace.state c.args.workspace.now) (g.W.Workspace.state c.take_folder.new.workspace) c.requires.new c.in-Ok.ensures.takes c.in-Ok.ensures.decided c.in-Ok.ensures.most (g.W.Workspace.state c.fix.new.self).decided (gained (g.P.Patterns.refusals c.args.patterns.now) (g.P.Patterns.refusals c.fix.new.patterns)) (c.fix.ensures.refused (λ e. not_memory c.fix.result _ c.in-Ok-fix.is e)) c.in-Ok-fix.fixed c.in-Ok-fix.ensures.report c.in-Ok-fix.ensures.few c.in-Ok-fix.ensures.within (g.K.Sink.written c.args.out.now) (g.K.Sink.written c.write_and_print.new.out) (c.write_and_print.ensures.front_written e)
+
+pub returns-in-Err-TooMany-clause-ends : goal.returns-in-Err-TooMany-clause-ends
+returns-in-Err-TooMany-clause-ends g c a =
+    let e = c.fix.ensures.too_many _ (c.in-Err-TooMany.is ∙ ap (λ f. Err f) c.in-Err-TooMany.field-0-is) in rw c.in-Err-TooMany.field-0-is (many_prints g.W.Workspace.readings (g.W.Workspace.reader c.args.workspace.now) (g.W.Workspace.reader c.take_folder.new.workspace) c.in-Ok.ensures.same_reader (g.T.Tree.files c.args.tree.now) (g.T.Tree.files c.take_folder.new.tree) c.in-Ok.ensures.kept (task_of c.args.job.now) (g.W.Workspace.state c.args.workspace.now) (g.W.Workspace.state c.take_folder.new.workspace) c.requires.new c.in-Ok.ensures.takes c.in-Ok.ensures.decided c.in-Ok.ensures.most (g.W.Workspace.state c.fix.new.self).decided (gained (g.P.Patterns.refusals c.args.patterns.now) (g.P.Patterns.refusals c.fix.new.patterns)) (c.fix.ensures.refused (λ k. many_not_memory _ _ _ c.in-Err-TooMany.is c.in-Err-TooMany.field-0-is k)) _ e.0 e.1 (g.K.Sink.written c.args.out.now))
+
+pub returns-in-Err-TooMany-clause-wrote : goal.returns-in-Err-TooMany-clause-wrote
+returns-in-Err-TooMany-clause-wrote g c a =
+    let e = c.fix.ensures.too_many _ (c.in-Err-TooMany.is ∙ ap (λ f. Err f) c.in-Err-TooMany.field-0-is) in rw c.in-Err-TooMany.field-0-is (many_wrote g.W.Workspace.readings (g.W.Workspace.reader c.args.workspace.now) (g.W.Workspace.reader c.take_folder.new.workspace) c.in-Ok.ensures.same_reader (g.T.Tree.files c.args.tree.now) (g.T.Tree.files c.take_folder.new.tree) c.in-Ok.ensures.kept (task_of c.args.job.now) (g.W.Workspace.state c.args.workspace.now) (g.W.Workspace.state c.take_folder.new.workspace) c.requires.new c.in-Ok.ensures.takes c.in-Ok.ensures.decided c.in-Ok.ensures.most (g.W.Workspace.state c.fix.new.self).decided (gained (g.P.Patterns.refusals c.args.patterns.now) (g.P.Patterns.refusals c.fix.new.patterns)) (c.fix.ensures.refused (λ k. many_not_memory _ _ _ c.in-Err-TooMany.is c.in-Err-TooMany.field-0-is k)) _ e.0 e.1)
+
+pub returns-in-Err-OverLimit-clause-ends : goal.returns-in-Err-OverLimit-clause-ends
+returns-in-Err-OverLimit-clause-ends g c a =
+    let e = c.fix.ensures.over _ _ (c.in-Err-OverLimit.is ∙ ap (λ f. Err f) c.in-Err-OverLimit.field-0-is) in rw c.in-Err-OverLimit.field-0-is (over_prints g.W.Workspace.readings (g.W.Workspace.reader c.args.workspace.now) (g.W.Workspace.reader c.take_folder.new.workspace) c.in-Ok.ensures.same_reader (g.T.Tree.files c.args.tree.now) (g.T.Tree.files c.take_folder.new.tree) c.in-Ok.ensures.kept (task_of c.args.job.now) (g.W.Workspace.state c.args.workspace.now) (g.W.Workspace.state c.take_folder.new.workspace) c.requires.new c.in-Ok.ensures.takes c.in-Ok.ensures.decided c.in-Ok.ensures.most (g.W.Workspace.state c.fix.new.self).decided (gained (g.P.Patterns.refusals c.args.patterns.now) (g.P.Patterns.refusals c.fix.new.patterns)) (c.fix.ensures.refused (λ k. over_not_memory _ _ _ _ c.in-Err-OverLimit.is c.in-Err-OverLimit.field-0-is k)) _ _ e (g.K.Sink.written c.args.out.now))
+
+pub returns-in-Err-OverLimit-clause-wrote : goal.returns-in-Err-OverLimit-clause-wrote
+returns-in-Err-OverLimit-clause-wrote g c a =
+    let e = c.fix.ensures.over _ _ (c.in-Err-OverLimit.is ∙ ap (λ f. Err f) c.in-Err-OverLimit.field-0-is) in rw c.in-Err-OverLimit.field-0-is (over_wrote g.W.Workspace.readings (g.W.Workspace.reader c.args.workspace.now) (g.W.Workspace.reader c.take_folder.new.workspace) c.in-Ok.ensures.same_reader (g.T.Tree.files c.args.tree.now) (g.T.Tree.files c.take_folder.new.tree) c.in-Ok.ensures.kept (task_of c.args.job.now) (g.W.Workspace.state c.args.workspace.now) (g.W.Workspace.state c.take_folder.new.workspace) c.requires.new c.in-Ok.ensures.takes c.in-Ok.ensures.decided c.in-Ok.ensures.most (g.W.Workspace.state c.fix.new.self).decided (gained (g.P.Patterns.refusals c.args.patterns.now) (g.P.Patterns.refusals c.fix.new.patterns)) (c.fix.ensures.refused (λ k. over_not_memory _ _ _ _ c.in-Err-OverLimit.is c.in-Err-OverLimit.field-0-is k)) _ _ e)

@@ -1,0 +1,22 @@
+use Rattle.std.specs.Prelude.{Some, None}
+use Rattle.folder_run.proofs.Taken.{none_read, over_rules, over_files, taken}
+use Rattle.folder_run.proofs.taking.take_folder.Goals as goal
+
+pub returns-in-Err-clause-none : goal.returns-in-Err-clause-none
+returns-in-Err-clause-none g c a = none_read (g.W.Workspace.readings (g.W.Workspace.reader c.args.workspace.now)) (g.T.Tree.files c.args.tree.now) c.args.job.now.config.now c.args.job.now.prefix.now c.in-Err.status (c.in-Err.ensures.absent a)
+
+pub returns-in-Err-OverLimit-clause-none : goal.returns-in-Err-OverLimit-clause-none
+returns-in-Err-OverLimit-clause-none g c a =
+    over_rules (g.W.Workspace.readings (g.W.Workspace.reader c.args.workspace.now)) (g.T.Tree.files c.args.tree.now) c.args.job.now.config.now c.args.job.now.prefix.now (g.W.Workspace.state c.args.workspace.now) c.requires _ c.in-Ok.bytes c.as_slice.ensures c.in-Ok.ensures.read c.in-Err-OverLimit.field-0 c.in-Err-OverLimit.kind c.in-Err-OverLimit.count c.in-Err-OverLimit.field-0-is c.in-Err-OverLimit.ensures.over
+
+pub returns-in-Ok-sync-clause-takes : goal.returns-in-Ok-sync-clause-takes
+returns-in-Ok-sync-clause-takes g c =
+    taken (g.W.Workspace.readings (g.W.Workspace.reader c.args.workspace.now)) (g.T.Tree.files c.args.tree.now) c.args.job.now.config.now c.args.job.now.prefix.now (g.W.Workspace.state c.args.workspace.now) c.requires _ c.in-Ok.bytes c.as_slice.ensures c.in-Ok.ensures.read
+    (g.W.Workspace.state c.put_rules.new.self) c.in-Ok-put_rules.ensures.put c.in-Ok-put_rules.ensures.within (g.T.Tree.files c.read_config.new.tree) c.in-Ok.ensures.kept
+    (g.W.Workspace.state c.sync.new.self) c.in-Ok-sync.ensures.only_files c.in-Ok-sync.ensures.synced c.in-Ok-sync.ensures.within
+
+pub returns-clause-none : goal.returns-clause-none
+returns-clause-none g c a =
+    over_files (g.W.Workspace.readings (g.W.Workspace.reader c.args.workspace.now)) (g.T.Tree.files c.args.tree.now) c.args.job.now.config.now c.args.job.now.prefix.now (g.W.Workspace.state c.args.workspace.now) c.requires _ c.in-Ok.bytes c.as_slice.ensures c.in-Ok.ensures.read
+    (g.W.Workspace.state c.put_rules.new.self) c.in-Ok-put_rules.ensures.put c.in-Ok-put_rules.ensures.within (g.T.Tree.files c.read_config.new.tree) c.in-Ok.ensures.kept
+    c.in-Err-OverLimit-sync.field-0 c.in-Err-OverLimit-sync.kind c.in-Err-OverLimit-sync.count c.in-Err-OverLimit-sync.field-0-is c.in-Err-OverLimit-sync.ensures.over

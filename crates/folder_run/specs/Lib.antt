@@ -1,0 +1,4 @@
+pub mod Taking
+pub mod Causes
+pub mod Ends
+pub mod Written

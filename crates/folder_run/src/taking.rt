@@ -1,0 +1,68 @@
+//! Taking the rules and the files of a folder.
+
+ghost use Rattle.std.specs.Prelude.{◌≡◌, IfOk, IfErr, OnOk};
+ghost use Rattle.scan_world.specs.Trees.{KeepsFiles, LacksFile};
+ghost use Rattle.run_status.specs.Status.{IsAnswer};
+ghost use Rattle.run_status.specs.declared.status.Status.TheVariants.{NoSuchPath as no_path};
+ghost use Rattle.stream_run.specs.Still.{shelves_of, IsNew};
+ghost use Rattle.folder_run.specs.Taking.{IsConfig, Takes, TakesNone};
+ghost use Rattle.folder_run.specs.Causes.{HasTakingCause};
+
+use file_map::{PutFault, SyncFault};
+use node_tree::Bytes;
+use run_status::Status;
+use scan_world::{Tree, TreeFault};
+use wire_words::Job;
+use workspace::Workspace;
+
+// The most bytes of the rules.
+const MOST: u64 = 262_144;
+
+// The bytes of the rules.
+fn read_config<T: Tree>(tree: &mut T, path: &str) -> Result<Bytes, Status>
+    ensures read { IfOk result (IsConfig (T.files tree.old) path.now) }
+    ensures absent { IfErr result (λ status. IsAnswer status → (status ≡ no_path) × LacksFile (T.files tree.old) path.now) }
+    ensures kept { KeepsFiles (T.files tree.old) (T.files tree.new) }
+    ensures unfailed { OnOk result (T.faults tree.new ≡ T.faults tree.old) }
+    ensures cause { IfErr result (HasTakingCause (T.faults tree.old) (T.faults tree.new) (T.absences tree.old) (T.absences tree.new)) }
+{
+    match tree.read(path, MOST) {
+        Ok(bytes) => Ok(bytes),
+        Err(TreeFault::Absent) => Err(Status::NoSuchPath),
+        Err(TreeFault::Memory) => Err(Status::Memory),
+        Err(TreeFault::Failed) => Err(Status::TreeFault),
+    }
+}
+
+/// Takes the rules at the path of the config and the files under the prefix into a new workspace.
+pub fn take_folder<W: Workspace, T: Tree>(
+    workspace: &mut W,
+    tree: &mut T,
+    job: &Job<'_>,
+) -> Result<(), Status>
+    requires { IsNew (W.state workspace.old) }
+    ensures takes { OnOk result (Takes (W.readings (W.reader workspace.old)) (T.files tree.old) job.now.config.now job.now.prefix.now (shelves_of (W.state workspace.new))) }
+    ensures none { IfErr result (λ status. IsAnswer status → TakesNone (W.readings (W.reader workspace.old)) (T.files tree.old) job.now.config.now job.now.prefix.now status) }
+    ensures decided { OnOk result ((W.state workspace.new).decided ≡ (W.state workspace.old).decided) }
+    ensures most { OnOk result ((W.state workspace.new).most ≡ (W.state workspace.old).most) }
+    ensures same_reader { W.reader workspace.new ≡ W.reader workspace.old }
+    ensures kept { KeepsFiles (T.files tree.old) (T.files tree.new) }
+    ensures unfailed { OnOk result (T.faults tree.new ≡ T.faults tree.old) }
+    ensures cause { IfErr result (HasTakingCause (T.faults tree.old) (T.faults tree.new) (T.absences tree.old) (T.absences tree.new)) }
+{
+    let bytes = match read_config(tree, job.config) {
+        Ok(bytes) => bytes,
+        Err(status) => return Err(status),
+    };
+    match workspace.put_rules(job.config, bytes.as_slice()) {
+        Ok(()) => {}
+        Err(PutFault::Memory) => return Err(Status::Memory),
+        Err(PutFault::OverLimit(kind, count)) => return Err(Status::OverLimit(kind, count)),
+    }
+    match workspace.sync(tree, job.prefix) {
+        Ok(()) => Ok(()),
+        Err(SyncFault::Memory) => Err(Status::Memory),
+        Err(SyncFault::Failed) => Err(Status::TreeFault),
+        Err(SyncFault::OverLimit(kind, count)) => Err(Status::OverLimit(kind, count)),
+    }
+}

@@ -1,0 +1,9 @@
+pub mod Gained
+pub mod Streaming
+pub mod Told
+pub mod Edits
+pub mod Scans
+pub mod Turns
+pub mod Ends
+pub mod Served
+pub mod Once

@@ -1,0 +1,5 @@
+pub mod Printed
+pub mod Faults
+pub mod Doing
+pub mod Playing
+pub mod Still

@@ -1,0 +1,94 @@
+//! The session of a stream.
+
+ghost use Rattle.std.specs.Prelude.{◌≡◌, ◌⊎◌};
+ghost use Rattle.scan_world.specs.Faults.{Rose};
+ghost use Rattle.scan_world.specs.Trees.{KeepsFiles};
+ghost use Rattle.decided_texts.specs.Refused.{gained, Gains};
+ghost use Rattle.run_status.specs.Status.{IsAnswer};
+ghost use Rattle.stream_run.specs.Faults.{status_of_wire};
+ghost use Rattle.stream_run.specs.Playing.{PrintsEnd, PrintsFirst, PrintsFront, PrintsWhole};
+ghost use Rattle.stream_run.specs.Still.{setting, IsNew};
+
+use crate::doing::play;
+use crate::printing::print;
+use file_map::LimitKind;
+use node_tree::Steps;
+use run_status::Status;
+use rx_text::Patterns;
+use scan_world::{Sink, Source, Tree};
+use std::alloc::Global;
+use std::sync::ledger::Ledger;
+use wire_stream::{Feed, Wire, WireFault, next_command};
+use workspace::Workspace;
+
+// The most bytes that a stream may have up to its end.
+const MOST_STREAM: u64 = 268_435_456;
+
+// How a session ends whose next command was not read.
+fn unread(fault: WireFault) -> Status
+    ensures { result ≡ status_of_wire fault }
+{
+    match fault {
+        WireFault::Memory => Status::Memory,
+        WireFault::Failed => Status::InputFault,
+        WireFault::Bad(at) => Status::BadCommand(at),
+        WireFault::Stream(number) => Status::OverLimit(LimitKind::Stream, number),
+    }
+}
+
+/// Does the commands of the stream on a new workspace, one after the other up to `end`, and prints what each comes to, as
+/// `specs/Playing.antt` says, by the texts of regular expressions that were refused meanwhile. More findings than a report may
+/// have are told in a line, and the session goes on; any other limit that is passed ends it.
+pub fn serve<W: Workspace, T: Tree, S: Source, K: Sink, P: Patterns, L: Ledger>(
+    alloc: Global,
+    workspace: &mut W,
+    tree: &mut T,
+    input: &mut S,
+    out: &mut K,
+    patterns: &mut P,
+    steps: &mut Steps<L>,
+) -> Status
+    requires { IsNew (W.state workspace.old) }
+
+    // A session without a fault ends and prints as the definition says, and leaves the counts of faults as they were.
+    ensures ends { IsAnswer result → PrintsEnd (setting (W.readings (W.reader workspace.old)) (T.files tree.old) (W.state workspace.old).most (gained (P.refusals patterns.old) (P.refusals patterns.new))) (S.left input.old) (K.written out.old) (K.written out.new) result }
+    ensures input_kept { IsAnswer result → S.faults input.new ≡ S.faults input.old }
+    ensures output_kept { IsAnswer result → K.faults out.new ≡ K.faults out.old }
+    ensures tree_kept { IsAnswer result → T.faults tree.new ≡ T.faults tree.old }
+
+    // Where memory runs out, a read or a call of the tree fails, whole lines were written: those of the first commands. After a
+    // failed read they are those of all commands that were handed over.
+    ensures first_lines { (result ≡ Status.Memory) ⊎ (result ≡ Status.TreeFault) → PrintsFirst (setting (W.readings (W.reader workspace.old)) (T.files tree.old) (W.state workspace.old).most (gained (P.refusals patterns.old) (P.refusals patterns.new))) (S.left input.old) (K.written out.old) (K.written out.new) }
+    ensures whole_lines { result ≡ Status.InputFault → PrintsWhole (setting (W.readings (W.reader workspace.old)) (T.files tree.old) (W.state workspace.old).most (gained (P.refusals patterns.old) (P.refusals patterns.new))) (S.left input.old) (S.left input.new) (K.written out.old) (K.written out.new) }
+    ensures front { result ≡ Status.OutputFault → PrintsFront (setting (W.readings (W.reader workspace.old)) (T.files tree.old) (W.state workspace.old).most (gained (P.refusals patterns.old) (P.refusals patterns.new))) (S.left input.old) (K.written out.old) (K.written out.new) }
+
+    // A fault comes only where its count rose.
+    ensures input_fault { result ≡ Status.InputFault → Rose (S.faults input.old) (S.faults input.new) }
+    ensures output_fault { result ≡ Status.OutputFault → Rose (K.faults out.old) (K.faults out.new) }
+    ensures tree_fault { result ≡ Status.TreeFault → Rose (T.faults tree.old) (T.faults tree.new) }
+
+    // However it ends, the files of the tree stay as they are, and the list of refused texts only grows.
+    ensures files_kept { KeepsFiles (T.files tree.old) (T.files tree.new) }
+    ensures patterns_grow { Gains (P.refusals patterns.old) (P.refusals patterns.new) }
+{
+    let Ok(mut feed) = Feed::new(alloc) else {
+        return Status::Memory;
+    };
+    for _ in 0..=MOST_STREAM {
+        let wire = match next_command(&mut feed, input) {
+            Ok(wire) => wire,
+            Err(fault) => return unread(fault),
+        };
+        if let Wire::End = wire {
+            return Status::Done;
+        }
+        let reply = match play(&wire, workspace, tree, patterns, steps) {
+            Ok(reply) => reply,
+            Err(stop) => return stop.status(),
+        };
+        if let Err(fault) = print(alloc, out, &reply) {
+            return fault.status();
+        }
+    }
+    unreachable!()
+}
