@@ -60,9 +60,9 @@ fn refuses_what_is_not_built(rt: HostRuntime) -> Result<(), Fail> {
     let alloc = rt.alloc();
     let rows: [&[&str]; 6] = [
         &["check", "python"],
-        &["session"],
+        &["session", "--trace"],
         &["drill", "3"],
-        &["fix", "--config", "r.yaml", "."],
+        &["fix", "--trace", "--config", "r.yaml", "."],
         &["scan", "--trace", "--config", "r.yaml", "."],
         &["scan", "--store", "s", "--config", "r.yaml", "."],
     ];

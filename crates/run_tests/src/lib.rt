@@ -4,8 +4,12 @@
 #[cfg(test)]
 mod checks;
 #[cfg(test)]
+mod fixes;
+#[cfg(test)]
 mod matches;
 #[cfg(test)]
 mod runs;
 #[cfg(test)]
 mod scans;
+#[cfg(test)]
+mod sessions;

@@ -63,6 +63,62 @@ fn counted<P: Patterns, L: Ledger>(
     run(alloc, words, tree, input, out, patterns, &mut steps)
 }
 
+/// What a run has in memory: its files, its input and how many bytes of it come by one read, and the numbers of the calls that
+/// fail, counted from 1: of the files, of the input and of the output.
+#[derive(Drop)]
+pub struct World {
+    pub files: List<(Text, Bytes)>,
+    pub input: Bytes,
+    pub piece: u32,
+    pub failing: [u32; 3],
+}
+
+// The status, where it is not `Done`, and what was written.
+fn told(alloc: Global, status: Status, written: &[u8]) -> Result<String, Fail> {
+    let mut text = String::new(alloc);
+    if status != Status::Done {
+        write!(text, "{status:?}")?;
+    }
+    text.push_str(str::from_utf8(written)?)?;
+    Ok(text)
+}
+
+// The words of a run.
+fn words_of(alloc: Global, words: &[&str]) -> Result<Vec<String>, AllocError> {
+    let mut given = Vec::new(alloc);
+    for word in words {
+        given.push(String::from_str(alloc, *word)?)?;
+    }
+    Ok(given)
+}
+
+/// How a run of these words ends in this world: what it writes, behind the status where that is not `Done`; and the files then.
+pub fn outcome_in<P: Patterns>(
+    alloc: Global,
+    words: &[&str],
+    world: World,
+    patterns: &mut P,
+) -> Result<(String, MemoryTree), Fail>
+    requires { 0 < world.piece }
+{
+    let given = words_of(alloc, words)?;
+    let [of_tree, of_input, of_out] = world.failing;
+    let mut tree = MemoryTree::new(world.files, List::from_vec(vec![in alloc; of_tree]?));
+    let of_input = List::from_vec(vec![in alloc; of_input]?);
+    let mut input = MemorySource::new(world.input, world.piece, of_input);
+    let mut out = MemorySink::new(alloc, ROOM, List::from_vec(vec![in alloc; of_out]?))?;
+    let status = counted::<_, Brand>(
+        alloc,
+        Blank::new(1),
+        &given,
+        &mut tree,
+        &mut input,
+        &mut out,
+        patterns,
+    );
+    Ok((told(alloc, status, out.as_slice())?, tree))
+}
+
 /// How a run of these words ends: what it writes, behind the status where that is not `Done`. Its input comes by three bytes at
 /// a time. `failing` has the numbers of the calls that fail, counted from 1: of the files, of the input and of the output.
 pub fn outcome<P: Patterns>(
@@ -73,26 +129,11 @@ pub fn outcome<P: Patterns>(
     failing: [u32; 3],
     patterns: &mut P,
 ) -> Result<String, Fail> {
-    let mut given = Vec::new(alloc);
-    for word in words {
-        given.push(String::from_str(alloc, *word)?)?;
-    }
-    let mut tree = MemoryTree::new(files, List::from_vec(vec![in alloc; failing[0]]?));
-    let mut input = MemorySource::new(input, 3, List::from_vec(vec![in alloc; failing[1]]?));
-    let mut out = MemorySink::new(alloc, ROOM, List::from_vec(vec![in alloc; failing[2]]?))?;
-    let status = counted::<_, Brand>(
-        alloc,
-        Blank::new(1),
-        &given,
-        &mut tree,
-        &mut input,
-        &mut out,
-        patterns,
-    );
-    let mut text = String::new(alloc);
-    if status != Status::Done {
-        write!(text, "{status:?}")?;
-    }
-    text.push_str(str::from_utf8(out.as_slice())?)?;
-    Ok(text)
+    let world = World {
+        files,
+        input,
+        piece: 3,
+        failing,
+    };
+    Ok(outcome_in(alloc, words, world, patterns)?.0)
 }

@@ -8,5 +8,6 @@ pub mod Taking
 pub mod Config
 pub mod Scan
 pub mod Scanned
+pub mod Serving
 pub mod Steps
 pub mod Run

@@ -1,21 +1,28 @@
 -- What a run does: its status, and the lines that it prints.
-use Rattle.std.specs.Prelude.{◌≡◌, ◌⊎◌, ℕ, false, List, [], Option, None, IsSome}
+use Rattle.std.specs.Prelude.{◌≡◌, ◌⊎◌, ℕ, Bool, false, List, [], Option, None, IsSome}
+use Rattle.std.specs.List.{concat}
+use Rattle.std.specs.Io.KnownBytes.{Appends}
 use Rattle.node_tree.specs.declared.view.Lang.{Lang}
 use Rattle.scan_world.specs.Files.{Files}
 use Rattle.wire_words.specs.Commands.{Task, Request, Matching, Checking, Scanning, Fixing, Serving, Drilling, IsCommand}
 use Rattle.run_status.specs.declared.status.Status.{Status}
 use Rattle.run_status.specs.declared.status.Status.TheVariants.{Usage}
+use Rattle.run_status.specs.Status.{IsFinished}
 use Rattle.scan_run.specs.Matching.{Matches}
 use Rattle.scan_run.specs.Checking.{Checks}
 use Rattle.scan_run.specs.Scan.{Scans}
+use Rattle.folder_run.specs.Written.{Wrote, Leaves}
+use Rattle.scan_run.specs.Serving.{setting, Serves, ServesFirst, Fixes}
+use Rattle.scan_world.specs.Streams.{AppendsFront}
+use Rattle.run_status.specs.Ways.{AppendsSome}
 
--- a run does what is requested; what else the table of words has is not built yet
+-- a run does what is requested; drills, traces and stores are not built yet
 abbrev pub IsBuilt : Request → Type 0
 IsBuilt (Matching lang text) = Unit {0}
 IsBuilt Checking = Unit {0}
 IsBuilt (Scanning task) = (task.trace ≡ false) × (task.store ≡ None)
-IsBuilt (Fixing task) = ⊥
-IsBuilt (Serving most trace) = ⊥
+IsBuilt (Fixing task) = task.trace ≡ false
+IsBuilt (Serving most trace) = trace ≡ false
 IsBuilt (Drilling count) = ⊥
 
 -- the words ask for this, and a run does it
@@ -34,13 +41,33 @@ pub data Ends (words : List (List ℕ)) (left : Option (List ℕ)) (told : Optio
   matched : (lang : Lang) (text : List ℕ) (status : Status) (lines : List (List ℕ)) → Asks words (Matching lang text) → Matches lang text left status lines → Ends words left told refused status lines
   checked : (status : Status) (lines : List (List ℕ)) → Asks words Checking → Checks left status lines → Ends words left told refused status lines
   scanned : (task : Task) (status : Status) (lines : List (List ℕ)) → Asks words (Scanning task) → Scans task told refused status lines → Ends words left told refused status lines
+  fixed : (task : Task) (status : Status) (lines : List (List ℕ)) → Asks words (Fixing task) → Fixes task told refused status lines → Ends words left told refused status lines
+  served : (most : ℕ) (trace : Bool) (status : Status) (lines : List (List ℕ)) → Asks words (Serving most trace) → Serves most told refused left status lines → Ends words left told refused status lines
 
--- what a request reads is told: a match and a check their input, a scan its files
+-- The first lines of a run: all of them where it does all that it is asked for, or those of the first commands of a session.
+pub data StartsWith (words : List (List ℕ)) (left : Option (List ℕ)) (told : Option Files) (refused : List (List ℕ)) : List (List ℕ) → Type 0 where
+  whole : (status : Status) (lines : List (List ℕ)) → IsFinished status → Ends words left told refused status lines → StartsWith words left told refused lines
+  commands : (most : ℕ) (trace : Bool) (lines : List (List ℕ)) → Asks words (Serving most trace) → ServesFirst most told refused left lines → StartsWith words left told refused lines
+
+-- some front of the first lines of a run was written
+abbrev pub WritesFront : List (List ℕ) → Option (List ℕ) → Option Files → List (List ℕ) → Option (List ℕ) → Option (List ℕ) → Type 0
+WritesFront words left told refused written written_after = (lines : List (List ℕ)) × StartsWith words left told refused lines × AppendsFront written written_after (concat lines)
+
+-- some first lines of a run were written, each whole
+abbrev pub WritesSome : List (List ℕ) → Option (List ℕ) → Option Files → List (List ℕ) → Option (List ℕ) → Option (List ℕ) → Type 0
+WritesSome words left told refused written written_after = (lines : List (List ℕ)) × StartsWith words left told refused lines × AppendsSome written written_after lines
+
+-- the lines of the first commands of a session were written, each whole
+abbrev pub WritesCommands : List (List ℕ) → Option (List ℕ) → Option Files → List (List ℕ) → Option (List ℕ) → Option (List ℕ) → Type 0
+WritesCommands words left told refused written written_after =
+    (most : ℕ) × (trace : Bool) × Asks words (Serving most trace) × ((lines : List (List ℕ)) × ServesFirst most told refused left lines × Appends written written_after (concat lines))
+
+-- what a request reads is told: a match and a check their input, a scan its files; the other requests are not spoken of
 abbrev pub IsTold : Option (List ℕ) → Option Files → Request → Type 0
 IsTold left told (Matching lang text) = IsSome left
 IsTold left told Checking = IsSome left
 IsTold left told (Scanning task) = IsSome told
-IsTold left told _ = Unit {0}
+IsTold left told _ = ⊥
 
 -- what the words ask for reads only what is told
 abbrev pub AreTold : List (List ℕ) → Option (List ℕ) → Option Files → Type 0
@@ -54,9 +81,31 @@ AskToMatch words = (lang : Lang) × (text : List ℕ) × Asks words (Matching la
 abbrev pub AskToRead : List (List ℕ) → Type 0
 AskToRead words = AskToMatch words ⊎ Asks words Checking
 
--- the words don't ask for a scan
+-- the words ask for a session
+abbrev pub AskToServe : List (List ℕ) → Type 0
+AskToServe words = (most : ℕ) × (trace : Bool) × Asks words (Serving most trace)
+
+-- the words ask for fixes that are written
+abbrev pub AskToWrite : List (List ℕ) → Type 0
+AskToWrite words = (task : Task) × Asks words (Fixing task) × (task.flag ≡ false)
+
+-- what fixing leaves in the tree, by what the words ask for
+abbrev pub FixLeaves : List (List ℕ) → Option Files → List (List ℕ) → Option Files → Type 0
+FixLeaves words told refused new = (task : Task) → Asks words (Fixing task) → Leaves (setting task.most told refused) task new
+
+-- the changed files of this end were written
+abbrev pub FixWrote : List (List ℕ) → Option Files → List (List ℕ) → Option Files → Status → Type 0
+FixWrote words told refused new status = (task : Task) → Asks words (Fixing task) → Wrote (setting task.most told refused) task new status
+
+-- what is requested scans nothing
+abbrev pub ScansNothing : Request → Type 0
+ScansNothing (Matching lang text) = Unit {0}
+ScansNothing Checking = Unit {0}
+ScansNothing _ = ⊥
+
+-- the words ask for nothing that scans
 abbrev pub AskForNoScan : List (List ℕ) → Type 0
-AskForNoScan words = (task : Task) → Asks words (Scanning task) → ⊥
+AskForNoScan words = (request : Request) → Asks words request → ScansNothing request
 
 -- nor for a match: so no file is opened and no pattern is searched for
 abbrev pub AskForNoSearch : List (List ℕ) → Type 0

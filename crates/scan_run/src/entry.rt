@@ -5,15 +5,16 @@ ghost use Rattle.std.specs.Io.KnownBytes.{IsAtEnd};
 ghost use Rattle.scan_world.specs.Faults.{Rose};
 ghost use Rattle.scan_world.specs.Trees.{KeepsFiles};
 ghost use Rattle.decided_texts.specs.Refused.{Gains, gained};
-ghost use Rattle.run_status.specs.Status.{IsAnswer};
-ghost use Rattle.run_status.specs.Ways.{Printed, PrintedFront, PrintedSome, IsOnlyEnd};
+ghost use Rattle.run_status.specs.Status.{IsAnswer, IsCutShort};
+ghost use Rattle.run_status.specs.Ways.{Printed, IsOnlyEnd};
 ghost use Rattle.wire_words.specs.Commands.{Request, request as requested};
-ghost use Rattle.scan_run.specs.Run.{Asks, IsBuilt, Ends, AreTold, AskToMatch, AskToRead, AskForNoScan, AskForNoSearch};
+ghost use Rattle.scan_run.specs.Run.{Asks, IsBuilt, Ends, WritesFront, WritesSome, WritesCommands, FixWrote, FixLeaves, AreTold, AskToMatch, AskToRead, AskToServe, AskToWrite, AskForNoScan, AskForNoSearch};
 ghost use Rattle.scan_run.specs.Steps.{TakesSteps};
 
 use crate::checking::run_check;
 use crate::matching::run_match;
 use crate::scan::run_scan;
+use crate::serving::{run_fix, run_session};
 use node_tree::Steps;
 use run_status::Status;
 use rx_text::Patterns;
@@ -22,8 +23,8 @@ use std::alloc::Global;
 use std::sync::ledger::Ledger;
 use wire_words::{Command, read_words};
 
-// Whether a run does what a command asks for. The other commands, traces and stores are not built yet: their words are as those
-// outside the table.
+// Whether a run does what a command asks for. Drills, traces and stores are not built yet: their words are as
+// those outside the table.
 fn is_built(command: &Command<'_>) -> bool
     ensures { IsTrue result ↔ IsBuilt (requested command.now) }
 {
@@ -31,8 +32,8 @@ fn is_built(command: &Command<'_>) -> bool
         Command::Match(_, _) => true,
         Command::Check => true,
         Command::Scan(job) => !job.trace && job.store.is_none(),
-        Command::Fix(_) => false,
-        Command::Session(_, _) => false,
+        Command::Fix(job) => !job.trace,
+        Command::Session(_, trace) => !*trace,
         Command::Drill(_) => false,
     }
 }
@@ -70,17 +71,20 @@ pub fn run<T: Tree, S: Source, K: Sink, P: Patterns, L: Ledger>(
     ensures output_kept { IsAnswer result → K.faults out.new ≡ K.faults out.old }
     ensures read_to_its_end { AskToRead (map string_bytes words.now.items) → result ≡ Status.Done → IsAtEnd (S.left input.new) }
 
-    // The files stay as they are, however it ends.
-    ensures files_kept { KeepsFiles (T.files tree.old) (T.files tree.new) }
+    // The files stay as they are, however it ends, unless the words ask for fixes that are written; then it is said which were.
+    ensures files_kept { (AskToWrite (map string_bytes words.now.items) → ⊥) → KeepsFiles (T.files tree.old) (T.files tree.new) }
+    ensures files_fixed { IsAnswer result → FixWrote (map string_bytes words.now.items) (T.files tree.old) (gained (P.refusals patterns.old) (P.refusals patterns.new)) (T.files tree.new) result }
+    ensures files_left { FixLeaves (map string_bytes words.now.items) (T.files tree.old) (gained (P.refusals patterns.old) (P.refusals patterns.new)) (T.files tree.new) }
 
     // A fault comes only where its count rose, and what was written by then is a front of what was to be written.
     ensures input_fault { result ≡ Status.InputFault → Rose (S.faults input.old) (S.faults input.new) }
     ensures tree_fault { result ≡ Status.TreeFault → Rose (T.faults tree.old) (T.faults tree.new) }
     ensures absent { result ≡ Status.NoSuchPath → Rose (T.absences tree.old) (T.absences tree.new) }
-    ensures nothing_written { (result ≡ Status.InputFault) ⊎ (result ≡ Status.TreeFault) → K.written out.new ≡ K.written out.old }
+    ensures nothing_written { (AskToServe (map string_bytes words.now.items) → ⊥) → (result ≡ Status.InputFault) ⊎ (result ≡ Status.TreeFault) → K.written out.new ≡ K.written out.old }
+    ensures commands_written { AskToServe (map string_bytes words.now.items) → IsCutShort result → WritesCommands (map string_bytes words.now.items) (S.left input.old) (T.files tree.old) (gained (P.refusals patterns.old) (P.refusals patterns.new)) (K.written out.old) (K.written out.new) }
     ensures output_fault { result ≡ Status.OutputFault → Rose (K.faults out.old) (K.faults out.new) }
-    ensures front_written { result ≡ Status.OutputFault → PrintedFront (Ends (map string_bytes words.now.items) (S.left input.old) (T.files tree.old) (gained (P.refusals patterns.old) (P.refusals patterns.new))) (K.written out.old) (K.written out.new) }
-    ensures whole_lines { result ≡ Status.Memory → (K.written out.new ≡ K.written out.old) ⊎ PrintedSome (Ends (map string_bytes words.now.items) (S.left input.old) (T.files tree.old) (gained (P.refusals patterns.old) (P.refusals patterns.new))) (K.written out.old) (K.written out.new) }
+    ensures front_written { result ≡ Status.OutputFault → WritesFront (map string_bytes words.now.items) (S.left input.old) (T.files tree.old) (gained (P.refusals patterns.old) (P.refusals patterns.new)) (K.written out.old) (K.written out.new) }
+    ensures whole_lines { result ≡ Status.Memory → (K.written out.new ≡ K.written out.old) ⊎ WritesSome (map string_bytes words.now.items) (S.left input.old) (T.files tree.old) (gained (P.refusals patterns.old) (P.refusals patterns.new)) (K.written out.old) (K.written out.new) }
 
     // The list of refused texts gains those that were refused in the run, however it ends; where no scan is asked for there is none.
     ensures patterns_grow { Gains (P.refusals patterns.old) (P.refusals patterns.new) }
@@ -95,6 +99,10 @@ pub fn run<T: Tree, S: Source, K: Sink, P: Patterns, L: Ledger>(
         Some(Command::Match(lang, text)) => run_match(alloc, lang, text, input, out, steps),
         Some(Command::Check) => run_check(alloc, input, out),
         Some(Command::Scan(job)) => run_scan(alloc, &job, tree, out, patterns, steps),
-        Some(_) => unreachable!(),
+        Some(Command::Fix(job)) => run_fix(alloc, &job, tree, out, patterns, steps),
+        Some(Command::Session(most, _trace)) => {
+            run_session(alloc, most, tree, input, out, patterns, steps)
+        }
+        Some(Command::Drill(_)) => unreachable!(),
     }
 }

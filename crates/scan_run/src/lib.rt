@@ -8,6 +8,7 @@ mod input;
 mod matching;
 mod output;
 mod scan;
+mod serving;
 mod taking;
 
 pub use entry::run;

@@ -1,12 +1,15 @@
 use Rattle.std.proofs.Common.{◌≡◌, ℕ, List, map, string_bytes, subst, inl, inr, refl}
 use Rattle.wire_words.specs.declared.command.Command.{Command}
-use Rattle.wire_words.specs.Commands.{Request, request, task_of}
+use Rattle.wire_words.specs.Commands.{Task, Request, Scanning, Fixing, Serving, request, task_of}
 use Rattle.run_status.specs.declared.status.Status.{Status}
 use Rattle.run_status.specs.declared.status.Status.TheVariants as statuses
 use Rattle.scan_run.specs.Status.{IsOfInput}
 use Rattle.scan_run.proofs.Files.{keeps_self}
 use Rattle.scan_run.specs.Run.{Asks}
-use Rattle.scan_run.proofs.Requests.{ends_usage, only_usage, ends_match, only_match, front_match, some_match, ends_check, only_check, front_check, ends_scan, only_scan, front_scan, no_match_in_check, no_match_in_scan, no_read_in_scan}
+use Rattle.scan_run.proofs.Requests.{ends_usage, only_usage, ends_match, only_match, front_match, some_match, ends_check, only_check, front_check, ends_scan, only_scan, front_scan, only_other, ends_fix, front_fix, ends_session, front_session, some_session, commands_session, fix_asked, scans_something, no_match_in_check, no_match_in_scan, no_read_in_scan, no_match_in_fix, no_read_in_fix, no_session_in_fix, no_match_in_session, no_read_in_session, no_fix_in_session, no_fix_in_match, no_session_in_match, no_fix_in_check, no_session_in_check, no_fix_in_scan, no_session_in_scan}
+use Rattle.scan_run.proofs.Leaving.{kept_unless_written, cut_by_memory}
+use Rattle.folder_run.specs.Written.{Wrote, Leaves}
+use Rattle.scan_run.specs.Serving.{setting}
 use Rattle.scan_run.proofs.entry.run.Goals as goal
 
 -- what is said of the command that was read holds of its request
@@ -26,13 +29,13 @@ pub returns-in-None-clause-only : goal.returns-in-None-clause-only
 returns-in-None-clause-only g c a told = only_usage (map string_bytes c.args.words.now.items) (g.S.Source.left c.args.input.now) (g.T.Tree.files c.args.tree.now) _ (g.K.Sink.written c.args.out.now) c.in-None.ensures.only
 
 pub returns-in-None-clause-files_kept : goal.returns-in-None-clause-files_kept
-returns-in-None-clause-files_kept g c = keeps_self (g.T.Tree.files c.args.tree.now)
+returns-in-None-clause-files_kept g c nay = keeps_self (g.T.Tree.files c.args.tree.now)
 
 pub returns-in-None-clause-work : goal.returns-in-None-clause-work
 returns-in-None-clause-work g c (lang, text, is) = absurd (c.in-None.ensures.only _ is)
 
 pub returns-in-None-clause-nothing_written : goal.returns-in-None-clause-nothing_written
-returns-in-None-clause-nothing_written g c e = refl
+returns-in-None-clause-nothing_written g c nay e = refl
 
 pub returns-in-Some-Match-clause-ends : goal.returns-in-Some-Match-clause-ends
 returns-in-Some-Match-clause-ends g c a =
@@ -49,7 +52,7 @@ pub returns-in-Some-Match-clause-read_to_its_end : goal.returns-in-Some-Match-cl
 returns-in-Some-Match-clause-read_to_its_end g c ask = c.run_match.ensures.read_to_its_end
 
 pub returns-in-Some-Match-clause-files_kept : goal.returns-in-Some-Match-clause-files_kept
-returns-in-Some-Match-clause-files_kept g c = keeps_self (g.T.Tree.files c.args.tree.now)
+returns-in-Some-Match-clause-files_kept g c nay = keeps_self (g.T.Tree.files c.args.tree.now)
 
 pub returns-in-Some-Match-clause-tree_fault : goal.returns-in-Some-Match-clause-tree_fault
 returns-in-Some-Match-clause-tree_fault g c e = absurd (input_at c.run_match.result statuses.TreeFault c.run_match.ensures.cause e)
@@ -58,7 +61,7 @@ pub returns-in-Some-Match-clause-absent : goal.returns-in-Some-Match-clause-abse
 returns-in-Some-Match-clause-absent g c e = absurd (input_at c.run_match.result statuses.NoSuchPath c.run_match.ensures.cause e)
 
 pub returns-in-Some-Match-clause-nothing_written : goal.returns-in-Some-Match-clause-nothing_written
-returns-in-Some-Match-clause-nothing_written g c h =
+returns-in-Some-Match-clause-nothing_written g c nay h =
     elim h [ inl e ↦ c.run_match.ensures.nothing_written e | inr e ↦ absurd (input_at c.run_match.result statuses.TreeFault c.run_match.ensures.cause e) ]
 
 pub returns-in-Some-Match-clause-front_written : goal.returns-in-Some-Match-clause-front_written
@@ -94,7 +97,7 @@ pub returns-in-Some-Check-clause-read_to_its_end : goal.returns-in-Some-Check-cl
 returns-in-Some-Check-clause-read_to_its_end g c ask = c.run_check.ensures.read_to_its_end
 
 pub returns-in-Some-Check-clause-files_kept : goal.returns-in-Some-Check-clause-files_kept
-returns-in-Some-Check-clause-files_kept g c = keeps_self (g.T.Tree.files c.args.tree.now)
+returns-in-Some-Check-clause-files_kept g c nay = keeps_self (g.T.Tree.files c.args.tree.now)
 
 pub returns-in-Some-Check-clause-tree_fault : goal.returns-in-Some-Check-clause-tree_fault
 returns-in-Some-Check-clause-tree_fault g c e = absurd (input_at c.run_check.result statuses.TreeFault c.run_check.ensures.cause e)
@@ -103,7 +106,7 @@ pub returns-in-Some-Check-clause-absent : goal.returns-in-Some-Check-clause-abse
 returns-in-Some-Check-clause-absent g c e = absurd (input_at c.run_check.result statuses.NoSuchPath c.run_check.ensures.cause e)
 
 pub returns-in-Some-Check-clause-nothing_written : goal.returns-in-Some-Check-clause-nothing_written
-returns-in-Some-Check-clause-nothing_written g c h =
+returns-in-Some-Check-clause-nothing_written g c nay h =
     elim h [ inl e ↦ c.run_check.ensures.nothing_written e | inr e ↦ absurd (input_at c.run_check.result statuses.TreeFault c.run_check.ensures.cause e) ]
 
 pub returns-in-Some-Check-clause-front_written : goal.returns-in-Some-Check-clause-front_written
@@ -142,7 +145,7 @@ pub returns-in-Some-Scan-clause-input_fault : goal.returns-in-Some-Scan-clause-i
 returns-in-Some-Scan-clause-input_fault g c e = absurd (c.run_scan.ensures.no_input e)
 
 pub returns-in-Some-Scan-clause-nothing_written : goal.returns-in-Some-Scan-clause-nothing_written
-returns-in-Some-Scan-clause-nothing_written g c h = elim h [ inl e ↦ absurd (c.run_scan.ensures.no_input e) | inr e ↦ c.run_scan.ensures.nothing_written e ]
+returns-in-Some-Scan-clause-nothing_written g c nay h = elim h [ inl e ↦ absurd (c.run_scan.ensures.no_input e) | inr e ↦ c.run_scan.ensures.nothing_written e ]
 
 pub returns-in-Some-Scan-clause-front_written : goal.returns-in-Some-Scan-clause-front_written
 returns-in-Some-Scan-clause-front_written g c e =
@@ -160,9 +163,167 @@ returns-in-Some-Scan-clause-work g c asked =
 pub returns-in-Some-Scan-clause-no_work : goal.returns-in-Some-Scan-clause-no_work
 returns-in-Some-Scan-clause-no_work g c nay =
     let is = asks (map string_bytes c.args.words.now.items) _ _ c.in-Some-Scan.field-0-is c.in-Some-Scan.ensures.read in
-    absurd (nay.0 (task_of c.in-Some-Scan.job) is)
+    absurd (scans_something (map string_bytes c.args.words.now.items) (Scanning (task_of c.in-Some-Scan.job)) (only_asks (map string_bytes c.args.words.now.items) _ _ c.in-Some-Scan.field-0-is c.in-Some-Scan.ensures.only) is (λ x. x) nay.0)
 
 pub returns-in-Some-Scan-clause-patterns_kept : goal.returns-in-Some-Scan-clause-patterns_kept
 returns-in-Some-Scan-clause-patterns_kept g c nay =
     let is = asks (map string_bytes c.args.words.now.items) _ _ c.in-Some-Scan.field-0-is c.in-Some-Scan.ensures.read in
-    absurd (nay (task_of c.in-Some-Scan.job) is)
+    absurd (scans_something (map string_bytes c.args.words.now.items) (Scanning (task_of c.in-Some-Scan.job)) (only_asks (map string_bytes c.args.words.now.items) _ _ c.in-Some-Scan.field-0-is c.in-Some-Scan.ensures.only) is (λ x. x) nay)
+
+pub returns-in-Some-Match-clause-files_fixed : goal.returns-in-Some-Match-clause-files_fixed
+returns-in-Some-Match-clause-files_fixed g c a task is = absurd (no_fix_in_match (map string_bytes c.args.words.now.items) c.in-Some-Match.lang c.in-Some-Match.text.now (only_asks (map string_bytes c.args.words.now.items) _ _ c.in-Some-Match.field-0-is c.in-Some-Match.ensures.only) task is)
+
+pub returns-in-Some-Match-clause-files_left : goal.returns-in-Some-Match-clause-files_left
+returns-in-Some-Match-clause-files_left g c task is = absurd (no_fix_in_match (map string_bytes c.args.words.now.items) c.in-Some-Match.lang c.in-Some-Match.text.now (only_asks (map string_bytes c.args.words.now.items) _ _ c.in-Some-Match.field-0-is c.in-Some-Match.ensures.only) task is)
+
+pub returns-in-Some-Match-clause-commands_written : goal.returns-in-Some-Match-clause-commands_written
+returns-in-Some-Match-clause-commands_written g c ask cut = absurd (no_session_in_match (map string_bytes c.args.words.now.items) c.in-Some-Match.lang c.in-Some-Match.text.now (only_asks (map string_bytes c.args.words.now.items) _ _ c.in-Some-Match.field-0-is c.in-Some-Match.ensures.only) ask)
+
+pub returns-in-Some-Check-clause-files_fixed : goal.returns-in-Some-Check-clause-files_fixed
+returns-in-Some-Check-clause-files_fixed g c a task is = absurd (no_fix_in_check (map string_bytes c.args.words.now.items) (only_asks (map string_bytes c.args.words.now.items) _ _ c.in-Some-Check.field-0-is c.in-Some-Check.ensures.only) task is)
+
+pub returns-in-Some-Check-clause-files_left : goal.returns-in-Some-Check-clause-files_left
+returns-in-Some-Check-clause-files_left g c task is = absurd (no_fix_in_check (map string_bytes c.args.words.now.items) (only_asks (map string_bytes c.args.words.now.items) _ _ c.in-Some-Check.field-0-is c.in-Some-Check.ensures.only) task is)
+
+pub returns-in-Some-Check-clause-commands_written : goal.returns-in-Some-Check-clause-commands_written
+returns-in-Some-Check-clause-commands_written g c ask cut = absurd (no_session_in_check (map string_bytes c.args.words.now.items) (only_asks (map string_bytes c.args.words.now.items) _ _ c.in-Some-Check.field-0-is c.in-Some-Check.ensures.only) ask)
+
+pub returns-in-Some-Scan-clause-files_fixed : goal.returns-in-Some-Scan-clause-files_fixed
+returns-in-Some-Scan-clause-files_fixed g c a task is = absurd (no_fix_in_scan (map string_bytes c.args.words.now.items) (task_of c.in-Some-Scan.job) (only_asks (map string_bytes c.args.words.now.items) _ _ c.in-Some-Scan.field-0-is c.in-Some-Scan.ensures.only) task is)
+
+pub returns-in-Some-Scan-clause-files_left : goal.returns-in-Some-Scan-clause-files_left
+returns-in-Some-Scan-clause-files_left g c task is = absurd (no_fix_in_scan (map string_bytes c.args.words.now.items) (task_of c.in-Some-Scan.job) (only_asks (map string_bytes c.args.words.now.items) _ _ c.in-Some-Scan.field-0-is c.in-Some-Scan.ensures.only) task is)
+
+pub returns-in-Some-Scan-clause-commands_written : goal.returns-in-Some-Scan-clause-commands_written
+returns-in-Some-Scan-clause-commands_written g c ask cut = absurd (no_session_in_scan (map string_bytes c.args.words.now.items) (task_of c.in-Some-Scan.job) (only_asks (map string_bytes c.args.words.now.items) _ _ c.in-Some-Scan.field-0-is c.in-Some-Scan.ensures.only) ask)
+
+pub returns-in-None-clause-files_fixed : goal.returns-in-None-clause-files_fixed
+returns-in-None-clause-files_fixed g c a task is = absurd (c.in-None.ensures.only _ is)
+
+pub returns-in-None-clause-files_left : goal.returns-in-None-clause-files_left
+returns-in-None-clause-files_left g c task is = absurd (c.in-None.ensures.only _ is)
+
+pub returns-in-None-clause-commands_written : goal.returns-in-None-clause-commands_written
+returns-in-None-clause-commands_written g c (most, trace, is) cut = absurd (c.in-None.ensures.only _ is)
+
+pub returns-in-Some-Fix-clause-ends : goal.returns-in-Some-Fix-clause-ends
+returns-in-Some-Fix-clause-ends g c a =
+    let is = asks (map string_bytes c.args.words.now.items) _ _ c.in-Some-Fix.field-0-is c.in-Some-Fix.ensures.read in
+    ends_fix (map string_bytes c.args.words.now.items) (g.S.Source.left c.args.input.now) (g.T.Tree.files c.args.tree.now) _ (g.K.Sink.written c.args.out.now) (g.K.Sink.written c.run_fix.new.out) (task_of c.in-Some-Fix.job) is c.run_fix.result (c.run_fix.ensures.ends a)
+
+pub returns-in-Some-Fix-clause-only : goal.returns-in-Some-Fix-clause-only
+returns-in-Some-Fix-clause-only g c a told =
+    let is = asks (map string_bytes c.args.words.now.items) _ _ c.in-Some-Fix.field-0-is c.in-Some-Fix.ensures.read in
+    only_other (map string_bytes c.args.words.now.items) (g.S.Source.left c.args.input.now) (g.T.Tree.files c.args.tree.now) _ (g.K.Sink.written c.args.out.now) (g.K.Sink.written c.run_fix.new.out) (Fixing (task_of c.in-Some-Fix.job)) is (λ x. x) c.run_fix.result told
+
+pub returns-in-Some-Fix-clause-read_to_its_end : goal.returns-in-Some-Fix-clause-read_to_its_end
+returns-in-Some-Fix-clause-read_to_its_end g c ask =
+    absurd (no_read_in_fix (map string_bytes c.args.words.now.items) (task_of c.in-Some-Fix.job) (only_asks (map string_bytes c.args.words.now.items) _ _ c.in-Some-Fix.field-0-is c.in-Some-Fix.ensures.only) ask)
+
+pub returns-in-Some-Fix-clause-files_kept : goal.returns-in-Some-Fix-clause-files_kept
+returns-in-Some-Fix-clause-files_kept g c nay =
+    let is = asks (map string_bytes c.args.words.now.items) _ _ c.in-Some-Fix.field-0-is c.in-Some-Fix.ensures.read in
+    kept_unless_written (setting (task_of c.in-Some-Fix.job).most (g.T.Tree.files c.args.tree.now) _) (task_of c.in-Some-Fix.job) _ (λ e. nay (task_of c.in-Some-Fix.job, is, e)) c.run_fix.ensures.left
+
+pub returns-in-Some-Fix-clause-files_fixed : goal.returns-in-Some-Fix-clause-files_fixed
+returns-in-Some-Fix-clause-files_fixed g c a =
+    fix_asked (map string_bytes c.args.words.now.items) (task_of c.in-Some-Fix.job) (only_asks (map string_bytes c.args.words.now.items) _ _ c.in-Some-Fix.field-0-is c.in-Some-Fix.ensures.only) (λ (t : Task). Wrote (setting t.most (g.T.Tree.files c.args.tree.now) _) t _ c.run_fix.result) (c.run_fix.ensures.wrote a)
+
+pub returns-in-Some-Fix-clause-files_left : goal.returns-in-Some-Fix-clause-files_left
+returns-in-Some-Fix-clause-files_left g c =
+    fix_asked (map string_bytes c.args.words.now.items) (task_of c.in-Some-Fix.job) (only_asks (map string_bytes c.args.words.now.items) _ _ c.in-Some-Fix.field-0-is c.in-Some-Fix.ensures.only) (λ (t : Task). Leaves (setting t.most (g.T.Tree.files c.args.tree.now) _) t _) c.run_fix.ensures.left
+
+pub returns-in-Some-Fix-clause-input_fault : goal.returns-in-Some-Fix-clause-input_fault
+returns-in-Some-Fix-clause-input_fault g c e =
+    absurd (c.run_fix.ensures.no_input e)
+
+pub returns-in-Some-Fix-clause-nothing_written : goal.returns-in-Some-Fix-clause-nothing_written
+returns-in-Some-Fix-clause-nothing_written g c nay h =
+    elim h [ inl e ↦ absurd (c.run_fix.ensures.no_input e) | inr e ↦ c.run_fix.ensures.nothing_written e ]
+
+pub returns-in-Some-Fix-clause-commands_written : goal.returns-in-Some-Fix-clause-commands_written
+returns-in-Some-Fix-clause-commands_written g c ask cut =
+    absurd (no_session_in_fix (map string_bytes c.args.words.now.items) (task_of c.in-Some-Fix.job) (only_asks (map string_bytes c.args.words.now.items) _ _ c.in-Some-Fix.field-0-is c.in-Some-Fix.ensures.only) ask)
+
+pub returns-in-Some-Fix-clause-front_written : goal.returns-in-Some-Fix-clause-front_written
+returns-in-Some-Fix-clause-front_written g c e =
+    let is = asks (map string_bytes c.args.words.now.items) _ _ c.in-Some-Fix.field-0-is c.in-Some-Fix.ensures.read in
+    front_fix (map string_bytes c.args.words.now.items) (g.S.Source.left c.args.input.now) (g.T.Tree.files c.args.tree.now) _ (g.K.Sink.written c.args.out.now) (g.K.Sink.written c.run_fix.new.out) (task_of c.in-Some-Fix.job) is (c.run_fix.ensures.front_written e)
+
+pub returns-in-Some-Fix-clause-whole_lines : goal.returns-in-Some-Fix-clause-whole_lines
+returns-in-Some-Fix-clause-whole_lines g c e =
+    inl (c.run_fix.ensures.unwritten e)
+
+pub returns-in-Some-Fix-clause-work : goal.returns-in-Some-Fix-clause-work
+returns-in-Some-Fix-clause-work g c asked =
+    absurd (no_match_in_fix (map string_bytes c.args.words.now.items) (task_of c.in-Some-Fix.job) (only_asks (map string_bytes c.args.words.now.items) _ _ c.in-Some-Fix.field-0-is c.in-Some-Fix.ensures.only) asked)
+
+pub returns-in-Some-Fix-clause-no_work : goal.returns-in-Some-Fix-clause-no_work
+returns-in-Some-Fix-clause-no_work g c nay =
+    let is = asks (map string_bytes c.args.words.now.items) _ _ c.in-Some-Fix.field-0-is c.in-Some-Fix.ensures.read in
+    absurd (scans_something (map string_bytes c.args.words.now.items) (Fixing (task_of c.in-Some-Fix.job)) (only_asks (map string_bytes c.args.words.now.items) _ _ c.in-Some-Fix.field-0-is c.in-Some-Fix.ensures.only) is (λ x. x) nay.0)
+
+pub returns-in-Some-Fix-clause-patterns_kept : goal.returns-in-Some-Fix-clause-patterns_kept
+returns-in-Some-Fix-clause-patterns_kept g c nay =
+    let is = asks (map string_bytes c.args.words.now.items) _ _ c.in-Some-Fix.field-0-is c.in-Some-Fix.ensures.read in
+    absurd (scans_something (map string_bytes c.args.words.now.items) (Fixing (task_of c.in-Some-Fix.job)) (only_asks (map string_bytes c.args.words.now.items) _ _ c.in-Some-Fix.field-0-is c.in-Some-Fix.ensures.only) is (λ x. x) nay)
+
+pub returns-in-Some-Session-clause-ends : goal.returns-in-Some-Session-clause-ends
+returns-in-Some-Session-clause-ends g c a =
+    let is = asks (map string_bytes c.args.words.now.items) _ _ c.in-Some-Session.field-0-is c.in-Some-Session.ensures.read in
+    ends_session (map string_bytes c.args.words.now.items) (g.S.Source.left c.args.input.now) (g.T.Tree.files c.args.tree.now) _ (g.K.Sink.written c.args.out.now) (g.K.Sink.written c.run_session.new.out) c.in-Some-Session.most c.in-Some-Session._trace is c.run_session.result (c.run_session.ensures.ends a)
+
+pub returns-in-Some-Session-clause-only : goal.returns-in-Some-Session-clause-only
+returns-in-Some-Session-clause-only g c a told =
+    let is = asks (map string_bytes c.args.words.now.items) _ _ c.in-Some-Session.field-0-is c.in-Some-Session.ensures.read in
+    only_other (map string_bytes c.args.words.now.items) (g.S.Source.left c.args.input.now) (g.T.Tree.files c.args.tree.now) _ (g.K.Sink.written c.args.out.now) (g.K.Sink.written c.run_session.new.out) (Serving c.in-Some-Session.most c.in-Some-Session._trace) is (λ x. x) c.run_session.result told
+
+pub returns-in-Some-Session-clause-read_to_its_end : goal.returns-in-Some-Session-clause-read_to_its_end
+returns-in-Some-Session-clause-read_to_its_end g c ask =
+    absurd (no_read_in_session (map string_bytes c.args.words.now.items) c.in-Some-Session.most c.in-Some-Session._trace (only_asks (map string_bytes c.args.words.now.items) _ _ c.in-Some-Session.field-0-is c.in-Some-Session.ensures.only) ask)
+
+pub returns-in-Some-Session-clause-files_fixed : goal.returns-in-Some-Session-clause-files_fixed
+returns-in-Some-Session-clause-files_fixed g c a task is =
+    absurd (no_fix_in_session (map string_bytes c.args.words.now.items) c.in-Some-Session.most c.in-Some-Session._trace (only_asks (map string_bytes c.args.words.now.items) _ _ c.in-Some-Session.field-0-is c.in-Some-Session.ensures.only) task is)
+
+pub returns-in-Some-Session-clause-files_left : goal.returns-in-Some-Session-clause-files_left
+returns-in-Some-Session-clause-files_left g c task is =
+    absurd (no_fix_in_session (map string_bytes c.args.words.now.items) c.in-Some-Session.most c.in-Some-Session._trace (only_asks (map string_bytes c.args.words.now.items) _ _ c.in-Some-Session.field-0-is c.in-Some-Session.ensures.only) task is)
+
+pub returns-in-Some-Session-clause-nothing_written : goal.returns-in-Some-Session-clause-nothing_written
+returns-in-Some-Session-clause-nothing_written g c nay h =
+    let is = asks (map string_bytes c.args.words.now.items) _ _ c.in-Some-Session.field-0-is c.in-Some-Session.ensures.read in
+    absurd (nay (c.in-Some-Session.most, c.in-Some-Session._trace, is))
+
+pub returns-in-Some-Session-clause-commands_written : goal.returns-in-Some-Session-clause-commands_written
+returns-in-Some-Session-clause-commands_written g c ask cut =
+    let is = asks (map string_bytes c.args.words.now.items) _ _ c.in-Some-Session.field-0-is c.in-Some-Session.ensures.read in
+    commands_session (map string_bytes c.args.words.now.items) (g.S.Source.left c.args.input.now) (g.T.Tree.files c.args.tree.now) _ (g.K.Sink.written c.args.out.now) (g.K.Sink.written c.run_session.new.out) c.in-Some-Session.most c.in-Some-Session._trace is (c.run_session.ensures.commands_written cut)
+
+pub returns-in-Some-Session-clause-front_written : goal.returns-in-Some-Session-clause-front_written
+returns-in-Some-Session-clause-front_written g c e =
+    let is = asks (map string_bytes c.args.words.now.items) _ _ c.in-Some-Session.field-0-is c.in-Some-Session.ensures.read in
+    front_session (map string_bytes c.args.words.now.items) (g.S.Source.left c.args.input.now) (g.T.Tree.files c.args.tree.now) _ (g.K.Sink.written c.args.out.now) (g.K.Sink.written c.run_session.new.out) c.in-Some-Session.most c.in-Some-Session._trace is (c.run_session.ensures.front_written e)
+
+pub returns-in-Some-Session-clause-whole_lines : goal.returns-in-Some-Session-clause-whole_lines
+returns-in-Some-Session-clause-whole_lines g c e =
+    let is = asks (map string_bytes c.args.words.now.items) _ _ c.in-Some-Session.field-0-is c.in-Some-Session.ensures.read in
+    inr (some_session (map string_bytes c.args.words.now.items) (g.S.Source.left c.args.input.now) (g.T.Tree.files c.args.tree.now) _ (g.K.Sink.written c.args.out.now) (g.K.Sink.written c.run_session.new.out) c.in-Some-Session.most c.in-Some-Session._trace is (c.run_session.ensures.commands_written (cut_by_memory c.run_session.result e)))
+
+pub returns-in-Some-Session-clause-absent : goal.returns-in-Some-Session-clause-absent
+returns-in-Some-Session-clause-absent g c e =
+    absurd (c.run_session.ensures.there e)
+
+pub returns-in-Some-Session-clause-work : goal.returns-in-Some-Session-clause-work
+returns-in-Some-Session-clause-work g c asked =
+    absurd (no_match_in_session (map string_bytes c.args.words.now.items) c.in-Some-Session.most c.in-Some-Session._trace (only_asks (map string_bytes c.args.words.now.items) _ _ c.in-Some-Session.field-0-is c.in-Some-Session.ensures.only) asked)
+
+pub returns-in-Some-Session-clause-no_work : goal.returns-in-Some-Session-clause-no_work
+returns-in-Some-Session-clause-no_work g c nay =
+    let is = asks (map string_bytes c.args.words.now.items) _ _ c.in-Some-Session.field-0-is c.in-Some-Session.ensures.read in
+    absurd (scans_something (map string_bytes c.args.words.now.items) (Serving c.in-Some-Session.most c.in-Some-Session._trace) (only_asks (map string_bytes c.args.words.now.items) _ _ c.in-Some-Session.field-0-is c.in-Some-Session.ensures.only) is (λ x. x) nay.0)
+
+pub returns-in-Some-Session-clause-patterns_kept : goal.returns-in-Some-Session-clause-patterns_kept
+returns-in-Some-Session-clause-patterns_kept g c nay =
+    let is = asks (map string_bytes c.args.words.now.items) _ _ c.in-Some-Session.field-0-is c.in-Some-Session.ensures.read in
+    absurd (scans_something (map string_bytes c.args.words.now.items) (Serving c.in-Some-Session.most c.in-Some-Session._trace) (only_asks (map string_bytes c.args.words.now.items) _ _ c.in-Some-Session.field-0-is c.in-Some-Session.ensures.only) is (λ x. x) nay)

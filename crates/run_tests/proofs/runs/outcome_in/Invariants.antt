@@ -1,4 +1,4 @@
-use Rattle.run_tests.proofs.runs.outcome.Given as goal
+use Rattle.run_tests.proofs.runs.outcome_in.Given as goal
 
 abbrev pub ghosts-counted : goal.ghosts-counted
 ghosts-counted g a = record { name = a.blank.name; parts = a.blank.parts }

@@ -1,0 +1,66 @@
+-- What a session that begins with nothing makes of the settings of a run.
+use Rattle.std.proofs.Common.{◌≡◌, ◌⊎◌, inl, inr, ℕ, List, [], refl, sym, ap, subst}
+use Rattle.std.specs.Prelude.{Option}
+use Rattle.scan_world.specs.Files.{Files}
+use Rattle.run_status.specs.declared.status.Status.{Status}
+use Rattle.run_status.specs.declared.status.Status.TheVariants as statuses
+use Rattle.run_status.specs.Status.{IsAnswer, IsCutShort}
+use Rattle.run_status.specs.Ways.{Printed}
+use Rattle.workspace.specs.State.{State}
+use Rattle.stream_run.specs.Doing.{Setting}
+use Rattle.stream_run.specs.Playing.{SessionEnds, ended, bad, long, over, PrintsEnd, PrintsFirst, PrintsWhole}
+use Rattle.stream_run.specs.Still.{IsNew}
+use Rattle.scan_run.specs.Serving.{setting}
+
+-- a session that holds nothing
+abbrev pub nothing : ℕ → State
+nothing most = record { files = []; rules = []; decided = record { refused = []; built = [] }; most = most }
+
+pub is_new : (most : ℕ) (state : State) → state ≡ nothing most → IsNew state
+is_new most state e =
+    record {
+      files = ap (λ (s : State). s.files) e;
+      rules = ap (λ (s : State). s.rules) e;
+      refused = ap (λ (s : State). s.decided.refused) e;
+      built = ap (λ (s : State). s.decided.built) e;
+    }
+
+-- what holds of the setting of the session holds of that of the run
+pub of_setting : (told : Option Files) (refused : List (List ℕ)) (most : ℕ) (state : State) → state ≡ nothing most → (P : Setting → Type 0) → P (setting state.most told refused) → P (setting most told refused)
+of_setting told refused most state e P p = subst (λ (n : ℕ). P (setting n told refused)) (ap (λ (s : State). s.most) e) p
+
+module _ (s : Setting) (stream w v : Option (List ℕ)) where
+  pub printed_of : (status : Status) → PrintsEnd s stream w v status → Printed (SessionEnds s stream) w v status
+  printed_of status p = record { lines = p.lines; ends = p.ends; printed = p.printed }
+
+  -- the commands that were handed over are the first ones
+  first_of : (after : Option (List ℕ)) → PrintsWhole s stream after w v → PrintsFirst s stream w v
+  first_of after p = record { lines = p.lines; first = (p.place, p.shelves, p.left, p.plays); printed = p.printed }
+
+  -- so where a session is cut short, the lines of its first commands were written
+  pub first_lines : (after : Option (List ℕ)) (status : Status) → ((status ≡ statuses.Memory) ⊎ (status ≡ statuses.TreeFault) → PrintsFirst s stream w v) → (status ≡ statuses.InputFault → PrintsWhole s stream after w v) → IsCutShort status → PrintsFirst s stream w v
+  first_lines after statuses.Memory f h cut = f (inl refl)
+  first_lines after statuses.TreeFault f h cut = f (inr refl)
+  first_lines after statuses.InputFault f h cut = first_of after (h refl)
+  first_lines after statuses.Done f h cut = absurd cut
+  first_lines after statuses.Findings f h cut = absurd cut
+  first_lines after statuses.Usage f h cut = absurd cut
+  first_lines after statuses.OutputFault f h cut = absurd cut
+  first_lines after (statuses.BadCommand place) f h cut = absurd cut
+  first_lines after (statuses.OverLimit kind n) f h cut = absurd cut
+  first_lines after (statuses.TooMany n) f h cut = absurd cut
+  first_lines after statuses.NoSuchPath f h cut = absurd cut
+  first_lines after statuses.BadTarget f h cut = absurd cut
+  first_lines after statuses.BadPattern f h cut = absurd cut
+
+  no_end : (status : Status) (lines : List (List ℕ)) → SessionEnds s stream status lines → status ≡ statuses.NoSuchPath → ⊥
+  no_end _ _ (ended place count lines shelves left rest plays on short) e = cc
+  no_end _ _ (bad place lines shelves left plays none) e = cc
+  no_end _ _ (long place lines shelves left plays longer) e = cc
+  no_end _ _ (over place count lines shelves left rest wire kind n plays on short passes) e = cc
+
+  -- no session ends for want of a file
+  pub no_absence : (status : Status) → (IsAnswer status → PrintsEnd s stream w v status) → status ≡ statuses.NoSuchPath → ⊥
+  no_absence status f e =
+      let p = f (subst (λ (x : Status). IsAnswer x) (sym e) tt) in
+      no_end status p.lines p.ends e

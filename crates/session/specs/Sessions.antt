@@ -1,0 +1,26 @@
+-- How a session is seen.
+use Rattle.std.specs.Prelude.{◌≡◌, ◌⊎◌, ◌≤◌, ℕ, List, [], ◌∷◌, ◌++◌, All}
+use Rattle.report_form.specs.declared.report.Reported.{Reported}
+use Rattle.fix_apply.specs.Choices.{AreChosen}
+use Rattle.workspace.specs.Fixes.{IsFixed}
+use Rattle.report_form.specs.declared.edit.Edit.{Edit}
+use Rattle.file_map.specs.FileMap.{File}
+use Rattle.fix_apply.specs.declared.fixed.FixedFile.{FixedFile}
+use Rattle.workspace.specs.State.{State}
+use Rattle.session.specs.declared.session.Session.{Session}
+
+-- what a session holds
+abbrev pub state_of : {R : Type 0} → Session R → State
+state_of s = record { files = s.files; rules = s.rules.files; decided = s.decided; most = s.most }
+
+-- the edits end within so many bytes
+abbrev pub EndWithin : ℕ → List Edit → Type 0
+EndWithin size edits = All (λ e. e.span.to ≤ size) edits
+
+-- a changed file with all of its text
+abbrev pub text_of : FixedFile → File
+text_of fixed = (fixed.path, fixed.whole)
+
+-- the file was added with the fixes that are taken in it, or there are none
+abbrev pub AddsFixed : List Reported → File → List FixedFile → List FixedFile → Type 0
+AddsFixed results file old new = ((new ≡ old) × AreChosen file.0 results []) ⊎ ((one : FixedFile) × IsFixed results file one × (new ≡ old ++ one ∷ []))

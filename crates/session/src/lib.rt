@@ -1,0 +1,12 @@
+//! A session: files and rule files that are edited, scanned and fixed, one command after the other.
+//!
+//! It is a [`Workspace`]: each report is that of a fresh scan of what is there then.
+//!
+//! [`Workspace`]: workspace::Workspace
+#![tactic(auto)]
+
+mod fixing;
+mod scanning;
+mod session;
+
+pub use session::Session;

@@ -1,0 +1,122 @@
+//! Files and rule files that are edited, scanned and fixed.
+
+ghost use Rattle.std.specs.Prelude.{◌≡◌, []};
+ghost use Rattle.session.specs.Sessions.{state_of};
+
+use crate::fixing::{fixed_files, texts_of};
+use crate::scanning::scan_files;
+use code_reader::{PatternReader, TreeReader};
+use comment_reader::CommentReader;
+use decided_texts::DecidedTexts;
+use file_map::{FileMap, PutFault, SyncFault};
+use fix_apply::FixReport;
+use node_tree::Steps;
+use report_form::Report;
+use rule_map::RuleMap;
+use rx_text::Patterns;
+use scan_session::ScanFault;
+use scan_world::Tree;
+use std::alloc::Global;
+use std::sync::ledger::Ledger;
+use workspace::{FixFault, Workspace};
+
+/// Files and rule files that are edited, scanned and fixed, one command after the other.
+#[derive(Drop)]
+pub struct Session<'r, R: PatternReader> {
+    alloc: Global,
+    files: FileMap,
+    rules: RuleMap<'r, R>,
+    decided: DecidedTexts,
+    most: u64,
+}
+
+impl<'r, R: TreeReader + CommentReader + PatternReader> Session<'r, R> {
+    /// Neither files nor rules, which are read by the reader. A report may have at most so many findings. It takes no memory.
+    pub fn new(alloc: Global, reader: &'r R, most: u64) -> Session<'r, R>
+        ensures new { state_of result ≡ record { files = []; rules = []; decided = record { refused = []; built = [] }; most = most } }
+        ensures reader { result.rules.reader ≡ reader.now }
+    {
+        Session {
+            alloc,
+            files: FileMap::new(alloc),
+            rules: RuleMap::new(alloc, reader),
+            decided: DecidedTexts::new(alloc),
+            most,
+        }
+    }
+}
+
+impl<'r, R: TreeReader + CommentReader + PatternReader> Workspace for Session<'r, R> {
+    type Reader = R;
+
+    ghost use Rattle.session.specs.Sessions.{state_of};
+    ghost use Rattle.workspace.specs.Reports.{readings_of};
+
+    ghost reader = { λ s. s.rules.reader };
+
+    ghost readings = { λ r. readings_of (R.spells r) (R.knows r) (R.comments r) (R.writes r) };
+
+    ghost state = { state_of };
+
+    fn put(&mut self, path: &str, bytes: &[u8]) -> Result<(), PutFault> {
+        self.files.put(path, bytes)
+    }
+
+    fn del(&mut self, path: &str) -> bool {
+        self.files.del(path)
+    }
+
+    fn put_rules(&mut self, name: &str, bytes: &[u8]) -> Result<(), PutFault> {
+        self.rules.put(name, bytes)
+    }
+
+    fn del_rules(&mut self, name: &str) -> bool {
+        self.rules.del(name)
+    }
+
+    fn file(&self, path: &str) -> Option<&[u8]> {
+        self.files.get(path)
+    }
+
+    fn sync<T: Tree>(&mut self, tree: &mut T, prefix: &str) -> Result<(), SyncFault> {
+        self.files.sync(tree, prefix)
+    }
+
+    fn scan<P: Patterns, L: Ledger>(
+        &mut self,
+        patterns: &mut P,
+        steps: &mut Steps<L>,
+    ) -> Result<Report, ScanFault> {
+        let reader = self.rules.reader();
+        let rules = self.rules.contents();
+        scan_files(
+            self.alloc,
+            reader,
+            &self.files,
+            rules,
+            self.most,
+            &mut self.decided,
+            patterns,
+            steps,
+        )
+    }
+
+    fn fix<P: Patterns, L: Ledger>(
+        &mut self,
+        patterns: &mut P,
+        steps: &mut Steps<L>,
+    ) -> Result<FixReport, FixFault> {
+        let report = match self.scan(patterns, steps) {
+            Ok(report) => report,
+            Err(ScanFault::Memory) => return Err(FixFault::Memory),
+            Err(ScanFault::TooMany(most)) => return Err(FixFault::TooMany(most)),
+        };
+        let files = fixed_files(self.alloc, &self.files, &report.results)?;
+        let texts = texts_of(self.alloc, files.as_slice())?;
+        match self.files.replace_all(texts.as_slice()) {
+            Ok(()) => Ok(FixReport { report, files }),
+            Err(PutFault::Memory) => Err(FixFault::Memory),
+            Err(PutFault::OverLimit(kind, count)) => Err(FixFault::OverLimit(kind, count)),
+        }
+    }
+}
