@@ -1,0 +1,81 @@
+-- One pair is met: marked where it is kept, and else matched and kept.
+use Rattle.std.proofs.Common.{◌≡◌, ◌∙◌, ℕ, List, [], ◌∷◌, ◌⊎◌, inl, inr, refl, sym, ap, subst, Bool, true, false}
+use Rattle.std.specs.Prelude.{Option, None, Some, is_some, Result, Ok, Err, OnOk, OnErr}
+use Rattle.node_tree.specs.declared.view.Pattern.{Pattern}
+use Rattle.piece_form.specs.declared.piece.Piece.{Piece}
+use Rattle.piece_form.specs.Identity.{IsSamePiece}
+use Rattle.piece_store.specs.Kept.{put_pair}
+use Rattle.piece_store.specs.Slots.{marked}
+use Rattle.tree_match.specs.declared.leaf.Leaf.{Leaf}
+use Rattle.tree_match.specs.Leaf.{IsLeaf}
+use Rattle.piece_match.specs.Pieces.{IsPieceMember, known_piece}
+use Rattle.kept_leaves.specs.declared.leaf.KeptLeaf.{KeptLeaf}
+use Rattle.kept_leaves.specs.Kept.{PieceRef, PatternRef, Map, piece_cmp, pattern_cmp, AreKeys, AreRight}
+use Rattle.kept_leaves.specs.Growth.{Stays, Grows}
+use Rattle.kept_leaves.specs.Pairs.{Pair, IsSamePair}
+use Rattle.kept_leaves.proofs.Keyed.{IsAlike, tied}
+use Rattle.kept_leaves.proofs.Laws.{some_pair, grows_none, grows_then, grows_as, stays_as, right_as}
+use Rattle.kept_leaves.proofs.Pairs.{same_itself}
+use Rattle.kept_leaves.proofs.Puts.{same_none, marks, marks_right, keeping, keeping_right}
+
+-- an answer that is there
+there : (o : Option (KeptLeaf × Bool)) → is_some o ≡ true → (leaf : Leaf) × (met : Bool) × (o ≡ some_pair leaf met)
+there None e = absurd (let f : false ≡ true = e in cc)
+there (Some k) e = (k.0.leaf, k.1, refl)
+
+not_there : (o : Option (KeptLeaf × Bool)) → is_some o ≡ false → o ≡ None
+not_there None e = refl
+not_there (Some k) e = absurd (let f : true ≡ false = e in cc)
+
+module _ (old mid : Map) (alike : IsAlike old) (x : Pair) (a : PieceRef) (b : PatternRef) (keys : AreKeys x a b)
+  (mark : (path : List ℕ) (p : PieceRef) (q : PatternRef) → mid path p q ≡ put_pair piece_cmp pattern_cmp x.path a b (marked (old x.path a b)) old path p q) where
+  -- it was kept
+  module _ (told : is_some (old x.path a b) ≡ true) where
+    pub marked_grows : Grows old mid (IsSamePair x) []
+    marked_grows = let (leaf, met, e) = there (old x.path a b) told in marks old mid alike x a b keys (marked (old x.path a b)) mark leaf met e refl
+
+    pub marked_right : AreRight old → AreRight mid
+    marked_right = let (leaf, met, e) = there (old x.path a b) told in marks_right old mid alike x a b keys (marked (old x.path a b)) mark leaf met e refl
+
+  -- it wasn't
+  module _ (told : is_some (old x.path a b) ≡ false) where
+    none : old x.path a b ≡ None
+    none = not_there (old x.path a b) told
+
+    as_before : (path : List ℕ) (p : PieceRef) (q : PatternRef) → mid path p q ≡ old path p q
+    as_before = same_none old mid alike x a b keys (marked (old x.path a b)) mark none (ap marked none)
+
+    pub unmarked_stays : Stays old mid
+    unmarked_stays = stays_as old mid as_before
+
+    pub unmarked_right : AreRight old → AreRight mid
+    unmarked_right right = right_as old mid as_before right
+
+    -- a leaf is kept for it
+    module _ (new : Map) (c : PieceRef) (d : PatternRef) (its : AreKeys x c d) (leaf : Leaf)
+      (keep : (path : List ℕ) (p : PieceRef) (q : PatternRef) → new path p q ≡ put_pair piece_cmp pattern_cmp x.path c d (some_pair leaf true) mid path p q) where
+      mid_alike : IsAlike mid
+      mid_alike path p r q s e f = as_before path p q ∙ alike path p r q s e f ∙ sym (as_before path r s)
+
+      still_none : mid x.path c d ≡ None
+      still_none = let t = tied x x c d its a b keys (same_itself x) in mid_alike x.path c a d b t.0 t.1 ∙ as_before x.path a b ∙ none
+
+      pub kept_grows : Grows old new (IsSamePair x) (x ∷ [])
+      kept_grows =
+          let whole = grows_then old mid new (λ y. ⊥) (IsSamePair x) [] (x ∷ []) (grows_none old mid as_before) (keeping mid new mid_alike x c d its (some_pair leaf true) keep leaf still_none refl) in
+          grows_as old new (x ∷ []) (λ y. ⊥ ⊎ IsSamePair x y) (IsSamePair x) (λ y. (λ h. elim h [ inl n ↦ absurd n | inr e ↦ e ], λ e. inr e)) whole
+
+      pub kept_right : ((p : Piece) → IsSamePiece x.piece p → IsLeaf (IsPieceMember x.pattern (known_piece p)) leaf) → AreRight old → AreRight new
+      kept_right exact right =
+          keeping_right mid new mid_alike x c d its (some_pair leaf true) keep leaf still_none refl (λ y same.
+          let P : Pattern → Type 0 = λ q. IsLeaf (IsPieceMember q (known_piece y.piece)) leaf in
+          subst P same.pattern (exact y.piece same.piece)) (unmarked_right right)
+
+-- what holds after both outcomes
+pub either_way : {X E : Type 0} (A B C : Type 0) (r : Result X E) → (A → C) → (B → C) → OnOk r A → OnErr r B → C
+either_way A B C (Ok x) f g a b = f a
+either_way A B C (Err e) f g a b = g b
+
+pub on_ok_of : {X E : Type 0} (P : Type 0) (r : Result X E) → P → OnOk r P
+on_ok_of P (Ok x) p = p
+on_ok_of P (Err e) p = tt

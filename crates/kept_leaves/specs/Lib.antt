@@ -1,0 +1,4 @@
+pub mod Pairs
+pub mod Kept
+pub mod Growth
+pub mod Ready
