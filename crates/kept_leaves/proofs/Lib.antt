@@ -1,6 +1,0 @@
-pub mod Keyed
-pub mod Pairs
-pub mod Laws
-pub mod Puts
-pub mod Needs
-pub mod Meeting

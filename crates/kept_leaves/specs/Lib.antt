@@ -1,4 +1,0 @@
-pub mod Pairs
-pub mod Kept
-pub mod Growth
-pub mod Ready
