@@ -10,7 +10,7 @@ use Rattle.languages.specs.Comments.{AreComments}
 use Rattle.rule_files.specs.declared.rule_file.RuleFile.{RuleFile}
 use Rattle.scan_session.specs.Sets.{HasMore}
 use Rattle.scan_session.specs.Reports.{reported_cmp}
-use Rattle.scan_session.specs.Running.{running}
+use Rattle.running_rules.specs.Running.{running}
 use Rattle.scan_session.specs.Quieted.{Grammars, grammars_of}
 use Rattle.scan_session.specs.Fresh.{IsResult, IsFresh}
 use Rattle.wire_words.specs.Commands.{Task}

@@ -14,7 +14,7 @@ use Rattle.tree_match.specs.Ascending.{IsAscending}
 use Rattle.report_form.specs.declared.report.Reported.{Reported}
 use Rattle.fix_apply.specs.Order.{place_cmp, AreInOrder}
 use Rattle.scan_session.specs.Reports.{bound_cmp, reported_cmp}
-use Rattle.scan_session.specs.NoteOrder.{name_total}
+use Rattle.running_rules.specs.NoteOrder.{name_total}
 
 place_total : IsTotalOrder place_cmp
 place_total = then_total (on_total (λ (r : Reported). r.path) name_total) (on_total (λ (r : Reported). r.finding.span) (total_of span_cmp span_order span_chains))

@@ -20,7 +20,7 @@ use Rattle.part_judge.specs.Findings.{PartFinds, findings_of}
 use Rattle.scan_session.specs.declared.looking.Judged.{Judged}
 use Rattle.scan_session.specs.Looking.{Allows, AreLeaves, LooksAt, PartFindsIn, by_names}
 use Rattle.scan_session.specs.Judging.{PartJudges, PartAdds, RuleJudges, RuleAdds, IsJudged, AreAllPlaced}
-use Rattle.scan_session.proofs.Members.{one_there}
+use Rattle.running_rules.proofs.Members.{one_there}
 
 -- ---- the members of the patterns
 

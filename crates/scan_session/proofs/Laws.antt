@@ -5,11 +5,11 @@ use Rattle.report_form.specs.declared.report.Reported.{Reported}
 use Rattle.report_form.specs.declared.report.Report.{Report}
 use Rattle.rule_files.specs.declared.rule_file.RuleFile.{RuleFile}
 use Rattle.scan_session.specs.Sets.{HasMore}
-use Rattle.scan_session.specs.Notes.{notice_cmp}
-use Rattle.scan_session.specs.NoteOrder.{notice_total}
+use Rattle.running_rules.specs.Notes.{notice_cmp}
+use Rattle.running_rules.specs.NoteOrder.{notice_total}
 use Rattle.scan_session.specs.Reports.{reported_cmp}
 use Rattle.scan_session.specs.HitOrder.{reported_total}
-use Rattle.scan_session.specs.Running.{running}
+use Rattle.running_rules.specs.Running.{running}
 use Rattle.scan_session.specs.Quieted.{Grammars}
 use Rattle.scan_session.specs.Fresh.{File, IsResult, IsFresh}
 use Rattle.scan_session.proofs.Orders.{exactly_once, few_or_more}

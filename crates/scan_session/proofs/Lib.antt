@@ -1,10 +1,5 @@
-pub mod Members
-pub mod Repeats
-pub mod Deciding
-pub mod Taking
 pub mod Orders
 pub mod Quieted
-pub mod Ids
 pub mod Somes
 pub mod Views
 pub mod Judged

@@ -13,9 +13,9 @@ use Rattle.rule_files.specs.declared.rule_file.RuleFile.{RuleFile}
 use Rattle.rule_files.specs.RuleFiles.{outcomes_of}
 use Rattle.scan_session.specs.Sets.{IsExactly}
 use Rattle.scan_session.specs.Reports.{reported_cmp}
-use Rattle.scan_session.specs.Running.{Stated, stated_at, stated_from, stated, is_taken, has_refused, firsts, built, running}
-use Rattle.scan_session.specs.Taking.{firsts_after}
-use Rattle.scan_session.proofs.Repeats.{firsts_are}
+use Rattle.running_rules.specs.Running.{Stated, stated_at, stated_from, stated, is_taken, has_refused, firsts, built, running}
+use Rattle.running_rules.specs.Taking.{firsts_after}
+use Rattle.running_rules.proofs.Repeats.{firsts_are}
 use Rattle.scan_session.specs.Quieted.{Grammars}
 use Rattle.scan_session.specs.Fresh.{File, IsResultIn, IsResult, IsFresh}
 use Rattle.scan_session.specs.HitOrder.{reported_total}

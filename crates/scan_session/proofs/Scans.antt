@@ -21,16 +21,15 @@ use Rattle.node_tree.specs.declared.node.Node.{Node}
 use Rattle.rule_files.specs.declared.rule_file.RuleFile.{RuleFile}
 use Rattle.scan_session.specs.declared.scanner.Scanner.{Scanner}
 use Rattle.scan_session.specs.Sets.{IsExactly}
-use Rattle.scan_session.specs.Notes.{notice_cmp}
-use Rattle.scan_session.specs.NoteOrder.{name_total}
-use Rattle.scan_session.specs.Running.{stated, running, rule_notices}
-use Rattle.scan_session.specs.Judging.{AreApart}
+use Rattle.running_rules.specs.Notes.{notice_cmp}
+use Rattle.running_rules.specs.NoteOrder.{name_total}
+use Rattle.running_rules.specs.Running.{stated, running, rule_notices, AreApart}
 use Rattle.scan_session.specs.Reports.{reported_cmp, bound_cmp}
 use Rattle.scan_session.specs.Quieted.{Grammars}
 use Rattle.scan_session.specs.Fresh.{File, file_cmp, lang_at, Shows, InView, opened_notices, IsShownIn, IsNotedIn, IsResultIn, IsNoticeIn, IsResult, IsFileNotice, IsFresh}
 use Rattle.scan_session.specs.Scans.{AreAll, AreTooMany, HasScanned, Scans}
-use Rattle.scan_session.proofs.Ids.{are_apart}
-use Rattle.scan_session.proofs.Members.{among_left, among_right, among_either, appended, adds_both}
+use Rattle.running_rules.proofs.Ids.{are_apart}
+use Rattle.running_rules.proofs.Members.{among_left, among_right, among_either, appended, adds_both}
 use Rattle.scan_session.proofs.Orders.{before_below, ascends_front, ascends_on, first_decides}
 use Rattle.scan_session.proofs.Views.{shows_one, notes_one}
 

@@ -21,8 +21,8 @@ use Rattle.report_form.specs.declared.report.Reported.{Reported}
 use Rattle.report_form.specs.declared.report.Report.{Report}
 use Rattle.rule_files.specs.declared.rule_file.RuleFile.{RuleFile}
 use Rattle.scan_session.specs.Sets.{IsExactly}
-use Rattle.scan_session.specs.Notes.{notice, notice_cmp}
-use Rattle.scan_session.specs.Running.{running, rule_notices}
+use Rattle.running_rules.specs.Notes.{notice, notice_cmp}
+use Rattle.running_rules.specs.Running.{running, rule_notices}
 use Rattle.scan_session.specs.Looking.{LeafOf, RuleFinds}
 use Rattle.scan_session.specs.Quieted.{Comments, Grammars, IsQuietedIn}
 use Rattle.scan_session.specs.Reports.{reported, reported_cmp, outcome_notices}

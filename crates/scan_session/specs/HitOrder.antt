@@ -19,7 +19,7 @@ use Rattle.sorted_sets.specs.Orders.{total_of}
 use Rattle.report_form.specs.declared.report.Reported.{Reported}
 use Rattle.scan_session.specs.Reports.{bound_cmp, reported_cmp}
 use Rattle.scan_session.specs.Hits.{Hit, hit_cmp}
-use Rattle.scan_session.specs.NoteOrder.{name_total, name_same}
+use Rattle.running_rules.specs.NoteOrder.{name_total, name_same}
 
 span_total : IsTotalOrder span_cmp
 span_total = total_of span_cmp span_order span_chains

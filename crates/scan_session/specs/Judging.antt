@@ -93,7 +93,3 @@ AreNumberedHits rules hits = (h : Hit) → Among hits h → (rule : Rule) × (sl
 -- each stands at places of the text
 abbrev pub ArePlacedHits : List ℕ → List Hit → Type 0
 ArePlacedHits text hits = (h : Hit) → Among hits h → IsFindingPlaced text h.finding
-
--- no two rules have one id
-abbrev pub AreApart : List Rule → Type 0
-AreApart rules = (i j : ℕ) (r s : Rule) → slice_get rules i ≡ Some r → slice_get rules j ≡ Some s → r.id ≡ s.id → i ≡ j

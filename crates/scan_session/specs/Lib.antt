@@ -1,9 +1,4 @@
 pub mod Sets
-pub mod Notes
-pub mod NoteOrder
-pub mod Refused
-pub mod Running
-pub mod Taking
 pub mod Looking
 pub mod Needing
 pub mod Following

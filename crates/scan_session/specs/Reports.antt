@@ -15,7 +15,7 @@ use Rattle.part_judge.specs.declared.outcome.Outcome.TheVariants as outcomes
 use Rattle.report_form.specs.declared.notice.Notice.{Notice}
 use Rattle.report_form.specs.declared.notice.NoticeKind.TheVariants as kinds
 use Rattle.report_form.specs.declared.report.Reported.{Reported}
-use Rattle.scan_session.specs.Notes.{notice}
+use Rattle.running_rules.specs.Notes.{notice}
 
 -- by binding, then source; no source comes before any source, and sources go by their ranges
 abbrev pub bound_cmp : Finding → Finding → Ordering

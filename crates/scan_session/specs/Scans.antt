@@ -9,7 +9,7 @@ use Rattle.rule_files.specs.declared.rule_file.RuleFile.{RuleFile}
 use Rattle.scan_session.specs.declared.scanner.Scanner.{Scanner}
 use Rattle.scan_session.specs.Sets.{IsExactly, HasMore}
 use Rattle.scan_session.specs.Reports.{reported_cmp}
-use Rattle.scan_session.specs.Running.{running, rule_notices}
+use Rattle.running_rules.specs.Running.{running, rule_notices}
 use Rattle.scan_session.specs.Quieted.{Grammars}
 use Rattle.scan_session.specs.Fresh.{File, file_cmp, IsResult, IsFileNotice}
 

@@ -4,9 +4,9 @@ ghost use Rattle.std.specs.Prelude.{◌↔◌, IsTrue};
 ghost use Rattle.scan_session.specs.Following.{FollowsIn, RuleFollowsIn, SomeFollowsIn};
 
 use crate::looking::looks_at;
-use crate::runner::Runner;
 use node_tree::Lang;
 use rule_form::{Body, Part};
+use running_rules::Runner;
 
 // Whether the part follows data in files of the language.
 fn follows_in(part: &Part, lang: Lang) -> bool

@@ -12,12 +12,9 @@ mod fault;
 mod following;
 mod looking;
 mod needing;
-mod note;
 mod quiet;
 mod reporting;
 mod row;
-mod runner;
-mod running;
 mod scanner;
 mod scanning;
 

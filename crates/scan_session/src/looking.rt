@@ -11,11 +11,11 @@ ghost use Rattle.scan_session.specs.Looking.{GlobMatches, SomeMatches, Allows, A
 ghost use Rattle.scan_session.specs.declared.looking.Judged.{Judged as a_judged};
 ghost use Rattle.scan_session.specs.Judging.{PartJudges, PartAdds, RuleJudges, RuleAdds, IsJudged, AreAllPlaced};
 
-use crate::runner::Runner;
 use node_tree::{Lang, List, Memory, Pattern, Steps, Text};
 use part_judge::{Found, SharedFile, judge};
 use path_glob::matches;
 use rule_form::{Part, Rule};
+use running_rules::Runner;
 use std::alloc::Global;
 use std::sync::ledger::Ledger;
 use tree_match::{Leaf, ReadyFile, match_ready};

@@ -6,10 +6,10 @@ ghost use Rattle.scan_session.specs.Looking.{LooksAt};
 ghost use Rattle.scan_session.specs.Needing.{NeedsNoNames, PatternsNeedNoNames, PartsNeedNoNames, RulesNeedNoNames};
 
 use crate::looking::looks_at;
-use crate::runner::Runner;
 use literal_use::uses_literals;
 use node_tree::{Memory, Pattern};
 use rule_form::Part;
+use running_rules::Runner;
 use std::alloc::Global;
 use tree_match::ReadyFile;
 

@@ -12,14 +12,13 @@ ghost use Rattle.scan_session.specs.Reports.{reported as reported_as, outcome_no
 ghost use Rattle.scan_session.specs.Judging.{AreNumbered, AreReported, ArePlacedHits, AreNumberedHits, judged_notices};
 
 use crate::looking::Judged;
-use crate::note::{Noted, add_notice};
 use crate::row::Row;
-use crate::runner::{Runner, rule_at};
 use meta_bind::{Binding, Finding, fill};
 use node_tree::{FileView, List, Memory, Places, Text, Twin};
 use part_judge::FoundNotice;
 use report_form::{NoticeKind, Reported};
 use rule_form::Rule;
+use running_rules::{Noted, Runner, add_notice, rule_at};
 use std::alloc::Global;
 
 // The fix with the metavariables filled in, where there is one.

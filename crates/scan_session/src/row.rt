@@ -8,9 +8,9 @@ ghost use Rattle.scan_session.specs.Hits.{Hit};
 ghost use Rattle.scan_session.specs.Judging.{IsHit, AreNumbered, IsHitOf};
 
 use crate::looking::Judged;
-use crate::runner::{Runner, rule_at};
 use meta_bind::{Finding, Trail};
 use node_tree::{Memory, Span};
+use running_rules::{Runner, rule_at};
 use sorted_sets::Ordered;
 use std::alloc::Global;
 use std::cmp::Ordering;

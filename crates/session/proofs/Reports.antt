@@ -14,7 +14,7 @@ use Rattle.decided_texts.specs.Deciding.{Grows}
 use Rattle.scan_session.specs.declared.fault.ScanFault.{ScanFault}
 use Rattle.scan_session.specs.Sets.{HasMore}
 use Rattle.scan_session.specs.Reports.{reported_cmp}
-use Rattle.scan_session.specs.Running.{running, texts_of, stated, AreTextsOf}
+use Rattle.running_rules.specs.Running.{running, texts_of, stated, AreTextsOf}
 use Rattle.scan_session.specs.Fresh.{IsFresh, IsResult}
 use Rattle.workspace.specs.Reports.{Readings, IsReport, HasMoreResults, AreAsked, AreAllDecided, GainsSome}
 

@@ -9,7 +9,7 @@ ghost use Rattle.decided_texts.specs.Deciding.{Grows, TakesAll};
 ghost use Rattle.scan_session.specs.declared.fault.ScanFault.TheVariants as faults;
 ghost use Rattle.scan_session.specs.Sets.{HasMore};
 ghost use Rattle.scan_session.specs.Reports.{reported_cmp};
-ghost use Rattle.scan_session.specs.Running.{running, stated, texts_of, AreTextsOf};
+ghost use Rattle.running_rules.specs.Running.{running, stated, texts_of, AreTextsOf};
 ghost use Rattle.scan_session.specs.Quieted.{grammars_of};
 ghost use Rattle.scan_session.specs.Fresh.{IsFresh, IsResult, file_cmp};
 ghost use Rattle.scan_session.specs.Scans.{Scans};

@@ -5,7 +5,7 @@ use Rattle.std.proofs.lemmas.List.{append-nil}
 use Rattle.node_match.specs.Sets.{Among}
 use Rattle.decided_texts.specs.Decided.{Decisions, is_decided, AreUndecided}
 use Rattle.decided_texts.specs.Refused.{gained, Gains}
-use Rattle.scan_session.proofs.Members.{among_either}
+use Rattle.running_rules.proofs.Members.{among_either}
 use Rattle.workspace.specs.Reports.{StayDecided}
 
 abbrev pub Texts : Type 0

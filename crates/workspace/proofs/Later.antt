@@ -9,7 +9,7 @@ use Rattle.fix_apply.specs.declared.fixed.FixReport.{FixReport}
 use Rattle.decided_texts.specs.Decided.{Decisions, AreDecided, AreUndecided}
 use Rattle.scan_session.specs.Sets.{HasMore}
 use Rattle.scan_session.specs.Reports.{reported_cmp}
-use Rattle.scan_session.specs.Running.{stated, texts_of}
+use Rattle.running_rules.specs.Running.{stated, texts_of}
 use Rattle.scan_session.specs.Fresh.{IsResult}
 use Rattle.scan_session.proofs.Later.{same_running, same_fresh}
 use Rattle.workspace.specs.Reports.{Readings, IsReport, HasMoreResults, AreAllDecided}

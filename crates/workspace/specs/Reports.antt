@@ -9,7 +9,7 @@ use Rattle.report_form.specs.declared.report.Report.{Report}
 use Rattle.decided_texts.specs.Decided.{Decisions, is_decided}
 use Rattle.scan_session.specs.Sets.{HasMore}
 use Rattle.scan_session.specs.Reports.{reported_cmp}
-use Rattle.scan_session.specs.Running.{running, texts_of, stated}
+use Rattle.running_rules.specs.Running.{running, texts_of, stated}
 use Rattle.file_open.specs.Reading.{Spells}
 use Rattle.file_open.specs.Naming.{Knows}
 use Rattle.scan_session.specs.Quieted.{Comments, Grammars, grammars_of}

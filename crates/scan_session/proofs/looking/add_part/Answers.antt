@@ -4,7 +4,7 @@ use Rattle.rule_form.specs.declared.rule.Part.{Part}
 use Rattle.rule_form.specs.declared.rule.Rule.{Rule}
 use Rattle.tree_match.specs.Members.{known_tree}
 use Rattle.scan_session.specs.Looking.{LooksAt}
-use Rattle.scan_session.proofs.Members.{read_there}
+use Rattle.running_rules.proofs.Members.{read_there}
 use Rattle.scan_session.proofs.Judged.{part_adds, part_adds_none, all_placed_more}
 use Rattle.scan_session.proofs.looking.add_part.Goals as goal
 

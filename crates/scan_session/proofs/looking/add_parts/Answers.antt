@@ -2,7 +2,7 @@ use Rattle.std.proofs.Common.{◌+◌, ◌<◌, length, refl, ap, ◌∙◌, dro
 use Rattle.std.proofs.lemmas.List.{drop_all}
 use Rattle.rule_form.specs.declared.rule.Rule.{Rule}
 use Rattle.tree_match.specs.Members.{known_tree}
-use Rattle.scan_session.proofs.Members.{there_is}
+use Rattle.running_rules.proofs.Members.{there_is}
 use Rattle.scan_session.proofs.Judged.{gathers_start, gathers_on, gathers_end}
 use Rattle.scan_session.proofs.looking.add_parts.Goals as goal
 

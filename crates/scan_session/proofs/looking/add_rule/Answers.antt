@@ -2,7 +2,7 @@ use Rattle.std.proofs.Common.{subst}
 use Rattle.rule_form.specs.declared.rule.Rule.{Rule}
 use Rattle.tree_match.specs.Members.{known_tree}
 use Rattle.scan_session.specs.Looking.{Allows}
-use Rattle.scan_session.proofs.Members.{on_ok_map}
+use Rattle.running_rules.proofs.Members.{on_ok_map}
 use Rattle.scan_session.proofs.Judged.{rule_adds}
 use Rattle.scan_session.proofs.looking.add_rule.Goals as goal
 

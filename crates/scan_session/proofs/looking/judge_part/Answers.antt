@@ -11,7 +11,7 @@ use Rattle.rule_form.specs.declared.rule.Part.{Part}
 use Rattle.rule_form.specs.declared.rule.Rule.{Rule}
 use Rattle.tree_match.specs.Members.{known_tree}
 use Rattle.scan_session.specs.Looking.{AreLeaves, by_names}
-use Rattle.scan_session.proofs.Members.{read_there}
+use Rattle.running_rules.proofs.Members.{read_there}
 use Rattle.scan_session.proofs.Judged.{part_judges, part_finds, part_only}
 use Rattle.scan_session.proofs.looking.judge_part.Goals as goal
 

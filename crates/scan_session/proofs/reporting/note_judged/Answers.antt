@@ -6,7 +6,7 @@ use Rattle.rule_form.specs.declared.rule.Rule.{Rule}
 use Rattle.node_match.proofs.Sets.{among_at}
 use Rattle.scan_session.specs.Reports.{outcome_notices}
 use Rattle.scan_session.specs.Judging.{judged_notices, notices_by}
-use Rattle.scan_session.proofs.Members.{flat_step, flat_end}
+use Rattle.running_rules.proofs.Members.{flat_step, flat_end}
 use Rattle.scan_session.proofs.reporting.note_judged.Goals as goal
 
 pub rule_at-requires : goal.rule_at-requires

@@ -8,7 +8,7 @@ use Rattle.scan_session.specs.Reports.{reported_cmp}
 use Rattle.scan_session.specs.Sets.{IsExactly}
 use Rattle.scan_session.specs.Quieted.{grammars_of}
 use Rattle.scan_session.specs.Fresh.{lang_at, IsShownIn, IsResultIn}
-use Rattle.scan_session.proofs.Members.{on_ok_map}
+use Rattle.running_rules.proofs.Members.{on_ok_map}
 use Rattle.scan_session.proofs.Hits.{if_reported}
 use Rattle.scan_session.proofs.Scans.{opened_as, only_as, no_results, own_notices, seen_results, seen_notices}
 use Rattle.scan_session.proofs.scanning.scan_file.Goals as goal

@@ -11,7 +11,7 @@ use Rattle.scan_session.specs.Reports.{reported_cmp}
 use Rattle.scan_session.specs.Sets.{IsExactly}
 use Rattle.scan_session.specs.Judging.{IsJudged, AreAllPlaced, AreReported, judged_notices, named_leaf}
 use Rattle.scan_session.specs.Fresh.{IsFoundIn, IsNotedIn}
-use Rattle.scan_session.proofs.Members.{appended, on_ok}
+use Rattle.running_rules.proofs.Members.{appended, on_ok}
 use Rattle.scan_session.proofs.Hits.{found_all, shown_all, numbered, hits_numbered, hits_placed, results_exactly, noted_exactly, if_reported}
 use Rattle.scan_session.proofs.scanning.scan_view.Goals as goal
 

@@ -3,7 +3,7 @@ use Rattle.scan_session.specs.Sets.{IsExactly}
 use Rattle.scan_session.specs.Looking.{own_leaf}
 use Rattle.scan_session.specs.Judging.{named_leaf}
 use Rattle.scan_session.specs.Fresh.{IsShownIn}
-use Rattle.scan_session.proofs.Members.{on_ok_map}
+use Rattle.running_rules.proofs.Members.{on_ok_map}
 use Rattle.scan_session.proofs.Hits.{if_reported}
 use Rattle.scan_session.proofs.Named.{shown_named, noted_named}
 use Rattle.scan_session.proofs.scanning.show_named.Goals as goal

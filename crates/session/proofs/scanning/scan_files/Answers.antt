@@ -4,7 +4,7 @@ use Rattle.report_form.specs.declared.report.Report.{Report}
 use Rattle.scan_session.specs.declared.fault.ScanFault.TheVariants as faults
 use Rattle.scan_session.specs.Sets.{HasMore}
 use Rattle.scan_session.specs.Reports.{reported_cmp}
-use Rattle.scan_session.specs.Running.{running}
+use Rattle.running_rules.specs.Running.{running}
 use Rattle.scan_session.specs.Quieted.{grammars_of}
 use Rattle.scan_session.specs.Fresh.{IsFresh, IsResult}
 use Rattle.session.proofs.Scans.{after_all}

@@ -1,0 +1,5 @@
+pub mod Notes
+pub mod NoteOrder
+pub mod Refused
+pub mod Running
+pub mod Taking

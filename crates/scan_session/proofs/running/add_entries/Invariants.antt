@@ -1,7 +1,0 @@
-use Rattle.std.proofs.Common.{◌≡◌, ◌++◌, map, drop}
-use Rattle.scan_session.specs.Running.{stated_from}
-use Rattle.scan_session.specs.Taking.{said}
-use Rattle.scan_session.proofs.running.add_entries.Given as goal
-
-abbrev pub invariant-loop-number : goal.invariant-loop-number
-invariant-loop-number l = map said l.entries.items ++ stated_from l.file l.number (drop l.number l.outcomes) ≡ map said l.fn.entries.items ++ stated_from l.file 0 l.outcomes

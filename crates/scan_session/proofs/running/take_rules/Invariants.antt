@@ -1,7 +1,0 @@
-use Rattle.std.proofs.Common.{map, drop}
-use Rattle.scan_session.specs.Taking.{said}
-use Rattle.scan_session.proofs.Taking.{TakesUp}
-use Rattle.scan_session.proofs.running.take_rules.Given as goal
-
-abbrev pub invariant-loop-entry : goal.invariant-loop-entry
-invariant-loop-entry l = TakesUp l.decided (map said l.entries) l.fn.notices.items l.taken l.running.items l.notices.items (map said (drop l.entry-index l.entries))
