@@ -7,17 +7,15 @@ use node_tree::{FileView, Memory};
 use std::alloc::Global;
 use std::marker::Model;
 use taint_judge::FlowTree;
-use tree_match::ReadyFile;
 
-/// A file that is lent to many rules: ready for the search of patterns, and for data to be followed in it where that is wanted. Contracts see
-/// the file.
+/// A file that is lent to many rules, ready for data to be followed in it where that is wanted. Contracts see the file.
 #[derive(Drop)]
-pub struct SharedFile<'f, 'v> {
-    ready: &'f ReadyFile<'v>,
+pub struct SharedFile<'v> {
+    view: &'v FileView,
     flow: Option<FlowTree<'v>>,
 }
 
-impl<'f, 'v> Model for SharedFile<'f, 'v> {
+impl<'v> Model for SharedFile<'v> {
     ghost use Rattle.std.specs.Prelude.{◌≡◌, MatchOption};
     ghost use Rattle.node_tree.specs.declared.view.FileView.{FileView as file_view};
     ghost use Rattle.node_tree.specs.contracts.view.FileView as file_views;
@@ -26,9 +24,9 @@ impl<'f, 'v> Model for SharedFile<'f, 'v> {
 
     ghost coded = { file_views.the_row.coded };
 
-    ghost view = { λ f. f.ready.now };
+    ghost view = { λ f. f.view.now };
 
-    ghost invariant = { λ f. MatchOption f.flow (Unit {0}) (λ tree. tree ≡ f.ready.now.tree) };
+    ghost invariant = { λ f. MatchOption f.flow (Unit {0}) (λ tree. tree ≡ f.view.now.tree) };
 }
 
 // What it takes to follow data in the file, where that is asked for.
@@ -46,24 +44,13 @@ fn flow_of<'v>(
     }
 }
 
-impl<'f, 'v> SharedFile<'f, 'v> {
-    /// A file that is ready for the search of patterns, and where `follows` says so for data to be followed in it.
-    pub fn of(
-        alloc: Global,
-        ready: &'f ReadyFile<'v>,
-        follows: bool,
-    ) -> Result<SharedFile<'f, 'v>, Memory>
-        ensures { IfOk result (λ file. file ≡ ready.now) }
+impl<'v> SharedFile<'v> {
+    /// A file to be lent, ready for data to be followed in it where `follows` says so.
+    pub fn of(alloc: Global, view: &'v FileView, follows: bool) -> Result<SharedFile<'v>, Memory>
+        ensures { IfOk result (λ file. file ≡ view.now) }
     {
-        let flow = flow_of(alloc, ready.view(), follows)?;
-        Ok(SharedFile { ready, flow })
-    }
-
-    /// The file for the search of patterns.
-    pub fn ready(&self) -> &'f ReadyFile<'v>
-        ensures { result.now ≡ self.now }
-    {
-        self.ready
+        let flow = flow_of(alloc, view, follows)?;
+        Ok(SharedFile { view, flow })
     }
 
     /// What it takes to follow data in it, if it was made.
@@ -80,6 +67,6 @@ impl<'f, 'v> SharedFile<'f, 'v> {
     pub fn view(&self) -> &'v FileView
         ensures { result.now ≡ self.now }
     {
-        self.ready.view()
+        self.view
     }
 }
