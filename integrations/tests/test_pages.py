@@ -3,9 +3,11 @@ import json
 import os
 import re
 import shlex
+import shutil
 import subprocess
+import unittest
 
-from .support import INTEGRATIONS, PROGRAM, TOP, InFolder, needs_program, run, scan
+from .support import INTEGRATIONS, PROGRAM, TOP, InFolder, get, needs_program, run, scan
 
 HEAD = 'rules:\n- id: r\n  languages: [%s]\n  severity: %s\n  message: m\n'
 ROWS = [  # the language, the severity, what else a rule says, and the kind and key of its notice, if it has one
@@ -57,6 +59,17 @@ def commands_of(text):
             yield command, said
 
 
+def real(words):
+    """The words of a page with the built program in place of ./semscan."""
+    return words.replace('./semscan ', shlex.quote(PROGRAM or '') + ' ')
+
+
+def in_bash(words, folder):
+    """A run of a command of a page."""
+    return subprocess.run(['bash', '-o', 'pipefail', '-c', real(words)], cwd=folder, stdin=subprocess.DEVNULL, capture_output=True, check=False,
+                          env={**os.environ, 'SEMSCAN': PROGRAM})
+
+
 class Readme(InFolder):
     """README.md: its commands print what it says, where a line with three dots stands for any lines."""
 
@@ -67,14 +80,20 @@ class Readme(InFolder):
     @needs_program
     def test_commands(self):
         for command, said in commands_of(page('README.md', '.')):
-            words = command.replace('./semscan ', shlex.quote(PROGRAM) + ' ')
-            ran = subprocess.run(['bash', '-c', words], cwd=TOP, capture_output=True, check=False, env={**os.environ, 'SEMSCAN': PROGRAM})
+            ran = in_bash(command, TOP)
             pieces = ['\n' + piece for piece in re.split(r'^\.\.\.\n', said, flags=re.MULTILINE)]
             at, printed = 0, '\n' + ran.stdout.decode()
             for piece in pieces:
                 self.assertIn(piece, printed[at:], command)
                 at = printed.index(piece, at) + len(piece) - 1
             self.assertTrue(len(pieces) > 1 or printed == pieces[0], command)
+
+    @needs_program
+    def test_commands_to_try(self):
+        first, second = next(block for block in blocks_of(page('README.md', '.')) if block.startswith('./semscan ')).splitlines()
+        for command in (first, second):
+            ran = in_bash(command, TOP)
+            self.assertEqual((ran.returncode, ran.stderr, bool(ran.stdout)), (0, b'', True), command)
 
     def test_pages_that_are_named_are_there(self):
         for name in ['README.md', *(os.path.join('docs', name) for name in os.listdir(os.path.join(TOP, 'docs')))]:
@@ -95,6 +114,36 @@ class Integrations(InFolder):
             self.assertIn(picture, found.stdout.decode())
         command, said = next(block for block in blocks if block.startswith('$ ')).splitlines()
         self.assertEqual(run('semscan-report', *command.split()[2:], cwd=TOP).stderr.decode(), said + '\n')
+
+    @needs_program
+    def test_commands(self):
+        """The commands of the page, as a newcomer copies them, in a copy of what they need."""
+        for name in ('examples', 'rules'):
+            shutil.copytree(os.path.join(TOP, name), os.path.join(self.folder, name))
+        os.symlink(INTEGRATIONS, os.path.join(self.folder, 'integrations'))
+        shutil.copytree(os.path.join(TOP, 'examples/shop'), os.path.join(self.folder, 'src'))
+        shutil.copy(os.path.join(TOP, 'examples/rules.yaml'), self.folder)
+        lines = [line for block in blocks_of(page('INTEGRATIONS.md')) for line in block.splitlines()]
+        commands = [line for line in lines if line.startswith(('integrations/', './semscan '))]
+        self.assertGreater(len(commands), 6)
+        for command in commands:
+            ran = in_bash(command, self.folder)
+            self.assertEqual((ran.returncode, bool(ran.stdout or '>' in command or '--write' in command)), (0, True), '%s: %s' % (command, ran.stderr.decode()))
+        self.assertIn(b'fgets(line', get(self.folder, 'examples/shop/lib/names.c'))
+
+    @needs_program
+    @unittest.skipUnless(shutil.which('git'), 'needs git')
+    def test_check_of_settings(self):
+        script = next(block for block in blocks_of(page('INTEGRATIONS.md')) if block.startswith('git ls-files'))
+        self.put('good.json', '{"port": 80}')
+        subprocess.run(['git', 'init', '-q', '.'], cwd=self.folder, check=True)
+        subprocess.run(['git', 'add', '.'], cwd=self.folder, check=True)
+        ran = in_bash(script, self.folder)
+        self.assertEqual((ran.returncode, ran.stdout), (0, b''), ran.stderr)
+        self.put('settings/bad.json', '{"port": 80,}')
+        subprocess.run(['git', 'add', '.'], cwd=self.folder, check=True)
+        ran = in_bash(script, self.folder)
+        self.assertEqual((ran.returncode != 0, ran.stdout), (True, b'settings/bad.json: bad 12\n'), ran.stderr)
 
     def test_all_that_is_there_is_told(self):
         text = page('INTEGRATIONS.md')

@@ -34,10 +34,11 @@ class Rules(InFolder):
 
     @needs_program
     def test_all_rules_load_together_without_a_notice(self):
-        joined = run('semscan-rules', 'join', *('rules/' + name for name in ('python', 'c', 'json', 'texts')), cwd=TOP)
+        joined = run('semscan-rules', 'join', *('rules/' + name for name in ('python', 'c', 'json', 'texts', 'flow')), cwd=TOP)
         self.assertEqual((joined.returncode, joined.stderr), (0, b''))
         self.put('rules.yaml', joined.stdout)
-        self.put('src/a.py', b'f(1)\n')
+        for name, content in (('a.py', 'f(1)\n'), ('a.c', 'int x;\n'), ('a.json', '1\n'), ('a.md', 'text\n')):
+            self.put('src/' + name, content)
         found = run('semscan-report', 'scan', '--config', 'rules.yaml', 'src', cwd=self.folder)
         self.assertEqual((found.stdout, found.stderr), (b'0 findings, 0 notices\n', b''))
 
