@@ -2,8 +2,7 @@
 """Runs all tests of the folders integrations and rules.
 
 Those that need the built program use the one that SEMSCAN names, else crates/semscan/out/semscan; where there is none they are
-skipped, and so are those that need a word which that program doesn't have yet, or Dask, pre-commit, Neovim or Emacs where these
-are not installed.
+skipped, and so are those that need Dask, pre-commit, Neovim, Emacs or git where these are not installed.
 """
 import collections
 import os

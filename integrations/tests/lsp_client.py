@@ -9,7 +9,7 @@ import time
 
 from .support import INTEGRATIONS
 
-PATIENCE = 60
+PATIENCE = 120
 CAPABILITIES = {'workspace': {'workspaceEdit': {'documentChanges': True}, 'didChangeWatchedFiles': {'dynamicRegistration': True}},
                 'textDocument': {'codeAction': {}}}
 
