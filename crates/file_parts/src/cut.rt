@@ -76,8 +76,8 @@ fn same_known(a: &[Known], b: &[Known]) -> bool
     true
 }
 
-// Whether both files have the same tree, with the same known names.
-fn same_tree(a: &FileView, b: &FileView) -> bool
+/// Whether both files have the same tree, with the same known names.
+pub fn same_tree(a: &FileView, b: &FileView) -> bool
     ensures { result ≡ true → known_tree a.now ≡ known_tree b.now }
 {
     if !a.tree.same(&b.tree) {

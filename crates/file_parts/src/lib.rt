@@ -10,5 +10,6 @@ mod cut;
 mod joining;
 mod parts;
 
+pub use cut::same_tree;
 pub use joining::{PartLeaf, join};
 pub use parts::{Part, Parts, parts_of};

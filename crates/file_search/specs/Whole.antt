@@ -1,0 +1,26 @@
+-- A file that is searched as a whole.
+use Rattle.std.specs.Prelude.{◌≡◌, ◌⊎◌, ◌+◌, ℕ, List, [], Option, None, Some}
+use Rattle.node_tree.specs.declared.known.Known.{Known}
+use Rattle.node_tree.specs.declared.node.Node.{Node}
+use Rattle.node_tree.specs.declared.view.FileView.{FileView}
+use Rattle.node_tree.specs.declared.view.Lang.{Lang}
+use Rattle.node_tree.specs.declared.view.Lang.TheVariants as langs
+use Rattle.node_tree.specs.declared.view.Pattern.{Pattern}
+use Rattle.tree_match.specs.declared.leaf.Leaf.TheVariants.{Full}
+use Rattle.tree_match.specs.Trees.{known_in}
+use Rattle.import_names.specs.Resolved.{IsResolved}
+use Rattle.file_parts.specs.Parts.{ResolvesToItself}
+use Rattle.file_parts.specs.Seen.{seen_leaf}
+
+-- beside a file in Python there is the file with its names resolved, unless that is the same; beside another there is none
+abbrev pub IsBeside : FileView → Option FileView → Type 0
+IsBeside view None = (view.lang ≡ langs.Python → ⊥) ⊎ ResolvesToItself view
+IsBeside view (Some resolved) = (view.lang ≡ langs.Python) × IsResolved view resolved
+
+-- a step for the tree of the file, and one for that with names resolved, if that is searched
+abbrev pub TakesSteps : ℕ → ℕ → Type 0
+TakesSteps before after = (after ≡ before + 1) ⊎ (after ≡ before + 2)
+
+-- whatever names are known in the tree, the pattern has no member there
+abbrev pub HasNone : Lang → Node → Pattern → Type 0
+HasNone lang tree pattern = (known : List Known) → seen_leaf lang (known_in tree known) pattern (Full [])
