@@ -18,7 +18,7 @@ const CALLS: &[u8] =
     b"rules:\n- id: p\n  languages: [python]\n  severity: INFO\n  message: m\n  pattern: f($X)\n";
 
 // Reports: of nothing, of a call with one argument in the first line, of a call in the third line, of the second command that a
-// program runs, and of `a+` in `caab`.
+// program runs, of `a+` in `caab`, and of a call of a name that is imported.
 const NOTHING: &str = "{\"notices\":[],\"results\":[]}\n";
 
 const FIRST: &str =
@@ -32,6 +32,9 @@ const SECOND: &str =
 
 const A_PLUS: &str =
     "{\"notices\":[],\"results\":[{\"check_id\":\"p\",\"end\":{\"col\":4,\"line\":1,\"offset\":3},\"extra\":{\"message\":\"m\",\"metavars\":{},\"severity\":\"INFO\"},\"path\":\"n.txt\",\"start\":{\"col\":2,\"line\":1,\"offset\":1}}]}\n";
+
+const LOAD: &str =
+    "{\"notices\":[],\"results\":[{\"check_id\":\"p\",\"end\":{\"col\":11,\"line\":2,\"offset\":29},\"extra\":{\"message\":\"m\",\"metavars\":{},\"severity\":\"INFO\"},\"path\":\"a.py\",\"start\":{\"col\":1,\"line\":2,\"offset\":19}}]}\n";
 
 // How a scan of these files ends, of which these calls fail.
 fn scanned(
@@ -105,6 +108,23 @@ fn prints_what_a_rule_finds(rt: HostRuntime) -> Result<(), Fail> {
         (
             "python ⇒   pattern: f(\"a\")\n  options:\n    constant_propagation: false\n ⇒ a.py ⇒ x = \"a\"\nf(x)\n",
             NOTHING,
+        ),
+        // Names that are imported, seen through unless another place assigns them.
+        (
+            "python ⇒   pattern: os.system($C)\n ⇒ a.py ⇒ from os import system as s\ns(c)\n",
+            "{\"notices\":[],\"results\":[{\"check_id\":\"p\",\"end\":{\"col\":5,\"line\":2,\"offset\":31},\"extra\":{\"message\":\"m\",\"metavars\":{\"$C\":[29,30]},\"severity\":\"INFO\"},\"path\":\"a.py\",\"start\":{\"col\":1,\"line\":2,\"offset\":27}}]}\n",
+        ),
+        (
+            "python ⇒   pattern: os.system($C)\n ⇒ a.py ⇒ from os import system as s\ns(c)\ns = 1\n",
+            NOTHING,
+        ),
+        (
+            "python ⇒   pattern: numpy.load(...)\n ⇒ a.py ⇒ import numpy as np\nnp.load(x)\n",
+            LOAD,
+        ),
+        (
+            "python ⇒   pattern: np.load(...)\n ⇒ a.py ⇒ import numpy as np\nnp.load(x)\n",
+            LOAD,
         ),
         // Texts that are only searched, one of them a file without a tree.
         ("regex ⇒   pattern-regex: a+\n ⇒ n.txt ⇒ caab\n", A_PLUS),

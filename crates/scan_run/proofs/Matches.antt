@@ -1,5 +1,5 @@
 -- A match ends in one way.
-use Rattle.std.proofs.Common.{◌≡◌, ◌⊎◌, inl, inr, ℕ, ◌+◌, ◌≤◌, List, [], length, map, refl, sym, ap, ◌∙◌, subst, arith}
+use Rattle.std.proofs.Common.{◌≡◌, ◌⊎◌, inl, inr, ◌↔◌, ℕ, ◌+◌, ◌≤◌, List, [], length, map, refl, sym, ap, ◌∙◌, subst, arith}
 use Rattle.std.specs.Prelude.{Option, Some, None, IsSome}
 use Rattle.std.specs.List.{concat}
 use Rattle.std.specs.Io.KnownBytes.{Appends}
@@ -13,14 +13,12 @@ use Rattle.tree_match.specs.declared.leaf.Leaf.{Leaf}
 use Rattle.tree_match.specs.declared.leaf.Leaf.TheVariants.{Full, Crowded}
 use Rattle.tree_match.specs.Members.{Member, IsMember}
 use Rattle.tree_match.specs.Trees.{known_in}
+use Rattle.tree_match.specs.Leaf.{IsLeaf}
+use Rattle.tree_match.proofs.Exclusion.{whole_once, few_or_more}
 use Rattle.file_open.specs.declared.opened.Opened.{Opened}
 use Rattle.file_open.specs.declared.opened.Opened.TheVariants as opened
 use Rattle.file_open.specs.Opening.{IsOpened, HasOnlyTree}
-use Rattle.languages.specs.Trees.{IsTree, AreKnown}
-use Rattle.scan_session.specs.Looking.{by_names}
-use Rattle.scan_session.specs.Needing.{Serves}
-use Rattle.scan_session.proofs.Judged.{leaf_one}
-use Rattle.scan_session.proofs.Named.{leaf_served}
+use Rattle.languages.specs.Trees.{IsTree}
 use Rattle.run_status.specs.declared.status.Status.{Status}
 use Rattle.run_status.specs.declared.status.Status.TheVariants.{OverLimit, BadTarget, BadPattern, TooMany, Done}
 use Rattle.run_status.specs.declared.status.Status.TheVariants as statuses
@@ -31,7 +29,7 @@ use Rattle.scan_run.specs.Reading.{IsFileOf, IsOnlyFile, HasNoFile}
 use Rattle.scan_run.specs.Lines.{line_of}
 use Rattle.scan_run.specs.Streams.{Tells, IsTarget, IsTooLong}
 use Rattle.run_status.specs.Ways.{Printed, PrintedFront, PrintedSome, IsOnlyEnd}
-use Rattle.scan_run.specs.Matching.{HasNoPattern, Having, has_members, SearchEnds, too_many, done, MatchEnds, bad_pattern, over_limit, bad_target, searched, Matches}
+use Rattle.scan_run.specs.Matching.{HasNoPattern, Having, by_names, has_members, ServesPattern, SearchEnds, too_many, done, MatchEnds, bad_pattern, over_limit, bad_target, searched, Matches}
 use Rattle.scan_run.proofs.Streaming.{nothing_written}
 use Rattle.scan_run.proofs.Inputs.{some_input}
 
@@ -51,10 +49,27 @@ search_as : (Has Other : Having) → ((leaf : Leaf) → Has leaf → Other leaf)
 search_as Has Other f _ _ (too_many more) = too_many (f Crowded more)
 search_as Has Other f _ _ (done members whole) = done members (f (Full members) whole)
 
+leaf_one : (Set : Member → Type 0) (l m : Leaf) → IsLeaf Set l → IsLeaf Set m → l ≡ m
+leaf_one Set (Full xs) (Full ys) h k = ap Full (whole_once Set xs ys h.0 k.0)
+leaf_one Set (Full xs) Crowded h k = absurd (few_or_more Set 10000 xs h.0 h.1 k)
+leaf_one Set Crowded (Full ys) h k = absurd (few_or_more Set 10000 ys k.0 k.1 h)
+leaf_one Set Crowded Crowded h k = refl
+
+-- by names that serve it a pattern has its own members
+leaf_served : (lang : Lang) (tree : Node) (known : List Known) (p : Pattern) → ServesPattern lang tree known p → (leaf : Leaf) → by_names known tree p leaf ↔ has_members lang tree p leaf
+leaf_served lang tree known p (inl just) leaf = (
+  λ h. inl (known, just.are, h),
+  λ own. elim own [
+    | inl k ↦ (let P : List Known → Type 0 = λ ks. by_names ks tree p leaf in subst P (just.only k.0 k.1) k.2)
+    | inr all ↦ all known
+  ],
+)
+leaf_served lang tree known p (inr free) leaf = (λ h. inr (λ other. free known other leaf h), λ own. elim own [ inl k ↦ free k.0 known leaf k.2 | inr all ↦ all known ])
+
 -- by names that serve the pattern it has one leaf
-one_leaf : (lang : Lang) (tree : Node) (known : List Known) (p : Pattern) → Serves AreKnown lang tree known p → IsOne (has_members lang tree p)
+one_leaf : (lang : Lang) (tree : Node) (known : List Known) (p : Pattern) → ServesPattern lang tree known p → IsOne (has_members lang tree p)
 one_leaf lang tree known p serves l m h k =
-    let same = leaf_served AreKnown lang tree known p serves in
+    let same = leaf_served lang tree known p serves in
     leaf_one (IsMember p (known_in tree known)) l m ((same l).1 h) ((same m).1 k)
 
 -- a match that ends so has searched a file
@@ -129,10 +144,10 @@ pub only_read : (lang : Lang) (bytes : List ℕ) (view : FileView) (tree : Node)
 only_read lang bytes view tree only e other f = only other f.is_tree ∙ sym e
 
 -- what serves a pattern in that file
-pub serves_read : (lang : Lang) (bytes : List ℕ) (view : FileView) (tree : Node) (known : List Known) (p : Pattern) → IsOpened IsTree lang bytes (opened.Read view) → tree ≡ view.tree → Serves AreKnown view.lang view.tree known p → Serves AreKnown lang tree known p
+pub serves_read : (lang : Lang) (bytes : List ℕ) (view : FileView) (tree : Node) (known : List Known) (p : Pattern) → IsOpened IsTree lang bytes (opened.Read view) → tree ≡ view.tree → ServesPattern view.lang view.tree known p → ServesPattern lang tree known p
 serves_read lang bytes view tree known p o e serves =
-    let P : Lang → Type 0 = λ l. Serves AreKnown l view.tree known p in
-    let Q : Node → Type 0 = λ t. Serves AreKnown lang t known p in
+    let P : Lang → Type 0 = λ l. ServesPattern l view.tree known p in
+    let Q : Node → Type 0 = λ t. ServesPattern lang t known p in
     subst Q (sym e) (subst P o.2.lang_is serves)
 
 -- bytes that are opened as no file of the language are none
@@ -210,13 +225,13 @@ module _ (lang : Lang) (text : List ℕ) (pattern : Pattern) (is : IsPatternOf l
   pub ends_bad_target : HasNoFile lang read → Unprinted lang text left BadTarget
   ends_bad_target none = record { input = read; told = target.told; ends = bad_target pattern is target.short none }
 
-  module _ (tree : Node) (file : IsFileOf lang read tree) (known : List Known) (serves : Serves AreKnown lang tree known pattern) where
+  module _ (tree : Node) (file : IsFileOf lang read tree) (known : List Known) (serves : ServesPattern lang tree known pattern) where
     -- the search by these names
     abbrev By : Having
     By = by_names known tree pattern
 
     ends_so : (s : Status) (lines : List (List ℕ)) → SearchEnds By s lines → MatchEnds lang text read s lines
-    ends_so s lines ends = searched pattern tree s lines is file (search_as By (has_members lang tree pattern) (λ leaf. (leaf_served AreKnown lang tree known pattern serves leaf).0) s lines ends)
+    ends_so s lines ends = searched pattern tree s lines is file (search_as By (has_members lang tree pattern) (λ leaf. (leaf_served lang tree known pattern serves leaf).0) s lines ends)
 
     found : (s : Status) (lines : List (List ℕ)) → SearchEnds By s lines → Matches lang text left s lines
     found s lines ends = (read, target.told, ends_so s lines ends)

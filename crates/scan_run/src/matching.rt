@@ -3,13 +3,10 @@
 ghost use Rattle.std.specs.Prelude.{◌≡◌, ◌⊎◌, ◌+◌, ◌≤◌, IfOk, IsSome};
 ghost use Rattle.std.specs.Io.KnownBytes.{IsAtEnd};
 ghost use Rattle.scan_world.specs.Faults.{Rose};
-ghost use Rattle.languages.specs.Trees.{AreKnown};
-ghost use Rattle.scan_session.specs.Looking.{by_names};
-ghost use Rattle.scan_session.specs.Needing.{Serves};
 ghost use Rattle.run_status.specs.Status.{IsAnswer};
 ghost use Rattle.scan_run.specs.Status.{IsOfSearch, IsOfInput};
 ghost use Rattle.run_status.specs.Ways.{Printed, PrintedFront, PrintedSome, IsOnlyEnd};
-ghost use Rattle.scan_run.specs.Matching.{SearchEnds, Matches};
+ghost use Rattle.scan_run.specs.Matching.{by_names, ServesPattern, SearchEnds, Matches};
 ghost use Rattle.scan_run.specs.Steps.{TakesSteps};
 
 use crate::input::read_target;
@@ -28,7 +25,7 @@ use tree_match::{Leaf, match_leaf};
 // The file with the names that are known in it, where the pattern may take them; else as it is.
 fn named_for(alloc: Global, pattern: &Pattern, file: FileView) -> Result<FileView, Memory>
     ensures same { IfOk result (λ named. named.tree ≡ file.tree) }
-    ensures serves { IfOk result (λ named. Serves AreKnown file.lang file.tree named.known pattern.now) }
+    ensures serves { IfOk result (λ named. ServesPattern file.lang file.tree named.known pattern.now) }
 {
     if !uses_literals(pattern) {
         return Ok(file);

@@ -27,7 +27,8 @@ use Rattle.scan_session.specs.Reports.{reported, reported_cmp, bound_cmp}
 use Rattle.scan_session.specs.Hits.{Hit, hit_cmp}
 use Rattle.running_rules.specs.NoteOrder.{name_total, name_same}
 use Rattle.running_rules.specs.Running.{AreApart}
-use Rattle.scan_session.specs.Judging.{IsJudged, IsHit, IsHitOf, AreAllPlaced, AreNumbered, AreNumberedHits, ArePlacedHits, AreReported, judged_notices, notices_by, named_leaf}
+use Rattle.scan_session.specs.Judging.{IsJudged, IsHit, IsHitOf, AreAllPlaced, AreNumbered, AreNumberedHits, ArePlacedHits, AreReported, judged_notices, notices_by}
+use Rattle.scan_session.specs.Looking.{named_leaf}
 use Rattle.scan_session.specs.Fresh.{IsFoundIn, IsNotedIn}
 use Rattle.running_rules.proofs.Members.{get_among, among_get, one_there, among_flat, flat_among}
 use Rattle.scan_session.proofs.Orders.{last_unneeded}

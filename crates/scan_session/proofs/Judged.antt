@@ -8,70 +8,63 @@ use Rattle.node_tree.specs.declared.view.Pattern.{Pattern}
 use Rattle.rule_form.specs.declared.rule.Rule.{Rule}
 use Rattle.rule_form.specs.declared.rule.Part.{Part}
 use Rattle.tree_match.specs.declared.leaf.Leaf.{Leaf}
-use Rattle.tree_match.specs.declared.leaf.Leaf.TheVariants.{Full, Crowded}
 use Rattle.node_match.specs.Sets.{Among, Adds}
-use Rattle.tree_match.specs.Members.{Member, KnownTree, IsMember}
-use Rattle.tree_match.specs.Leaf.{IsLeaf}
+use Rattle.tree_match.specs.Members.{KnownTree}
+use Rattle.tree_match.specs.Trees.{known_in}
 use Rattle.node_match.proofs.Sets.{gathered, pushed, among_more, adds_as, adds_none}
-use Rattle.tree_match.proofs.Exclusion.{whole_once, few_or_more}
+use Rattle.file_parts.proofs.Once.{seen_once}
 use Rattle.part_judge.specs.declared.outcome.Outcome.{Outcome}
 use Rattle.taint_judge.specs.Placed.{IsFindingPlaced}
 use Rattle.part_judge.specs.Findings.{PartFinds, findings_of}
 use Rattle.scan_session.specs.declared.looking.Judged.{Judged}
-use Rattle.scan_session.specs.Looking.{Allows, AreLeaves, LooksAt, PartFindsIn, by_names}
+use Rattle.scan_session.specs.Looking.{Allows, AreLeaves, LooksAt, PartFindsIn, named_leaf}
 use Rattle.scan_session.specs.Judging.{PartJudges, PartAdds, RuleJudges, RuleAdds, IsJudged, AreAllPlaced}
 use Rattle.running_rules.proofs.Members.{one_there}
 
 -- ---- the members of the patterns
 
-pub leaf_one : (Set : Member → Type 0) (l m : Leaf) → IsLeaf Set l → IsLeaf Set m → l ≡ m
-leaf_one Set (Full xs) (Full ys) h k = ap Full (whole_once Set xs ys h.0 k.0)
-leaf_one Set (Full xs) Crowded h k = absurd (few_or_more Set 10000 xs h.0 h.1 k)
-leaf_one Set Crowded (Full ys) h k = absurd (few_or_more Set 10000 ys k.0 k.1 h)
-leaf_one Set Crowded Crowded h k = refl
+module _ (lang : Lang) (tree : KnownTree) where
+  leaves_one : (ps : List Pattern) (ls ms : List Leaf) → AreLeaves (named_leaf tree.known lang) tree.tree ps ls → AreLeaves (named_leaf tree.known lang) tree.tree ps ms → ls ≡ ms
+  leaves_one [] ls ms h k = h ∙ sym k
+  leaves_one (p ∷ ps) ls ms (l, l-is, (ls', h, e)) (m, m-is, (ms', k, f)) =
+      e ∙ ap (λ (x : Leaf). x ∷ ls') (seen_once lang (known_in tree.tree tree.known) p l m l-is m-is) ∙ ap (λ (xs : List Leaf). m ∷ xs) (leaves_one ps ls' ms' h k) ∙ sym f
 
-leaves_one : (tree : KnownTree) (ps : List Pattern) (ls ms : List Leaf) → AreLeaves (by_names tree.known) tree.tree ps ls → AreLeaves (by_names tree.known) tree.tree ps ms → ls ≡ ms
-leaves_one tree [] ls ms h k = h ∙ sym k
-leaves_one tree (p ∷ ps) ls ms (l, l-is, (ls', h, e)) (m, m-is, (ms', k, f)) =
-    e ∙ ap (λ (x : Leaf). x ∷ ls') (leaf_one (IsMember p tree) l m l-is m-is) ∙ ap (λ (xs : List Leaf). m ∷ xs) (leaves_one tree ps ls' ms' h k) ∙ sym f
+  -- the members of the patterns that are left, behind these, are those of all
+  abbrev pub Leads : List Pattern → List Leaf → List Pattern → Type 0
+  Leads all leaves left = (rest : List Leaf) → AreLeaves (named_leaf tree.known lang) tree.tree left rest → AreLeaves (named_leaf tree.known lang) tree.tree all (leaves ++ rest)
 
--- the members of the patterns that are left, behind these, are those of all
-abbrev pub Leads : KnownTree → List Pattern → List Leaf → List Pattern → Type 0
-Leads tree all leaves left = (rest : List Leaf) → AreLeaves (by_names tree.known) tree.tree left rest → AreLeaves (by_names tree.known) tree.tree all (leaves ++ rest)
+  pub leads_start : (all left : List Pattern) (leaves : List Leaf) → leaves ≡ [] → left ≡ all → Leads all leaves left
+  leads_start all left leaves e f rest are =
+      let P : List Pattern → Type 0 = λ ps. AreLeaves (named_leaf tree.known lang) tree.tree ps rest in
+      let Q : List Leaf → Type 0 = λ ls. AreLeaves (named_leaf tree.known lang) tree.tree all (ls ++ rest) in
+      subst Q (sym e) (subst P f are)
 
-pub leads_start : (tree : KnownTree) (all left : List Pattern) (leaves : List Leaf) → leaves ≡ [] → left ≡ all → Leads tree all leaves left
-leads_start tree all left leaves e f rest are =
-    let P : List Pattern → Type 0 = λ ps. AreLeaves (by_names tree.known) tree.tree ps rest in
-    let Q : List Leaf → Type 0 = λ ls. AreLeaves (by_names tree.known) tree.tree all (ls ++ rest) in
-    subst Q (sym e) (subst P f are)
+  pub leads_on : (all : List Pattern) (old new : List Leaf) (left ps : List Pattern) (p : Pattern) (leaf : Leaf) → Leads all old left → left ≡ p ∷ ps → new ≡ old ++ leaf ∷ [] → named_leaf tree.known lang tree.tree p leaf → Leads all new ps
+  leads_on all old new left ps p leaf far left-is new-is is rest are =
+      let P : List Pattern → Type 0 = λ xs. AreLeaves (named_leaf tree.known lang) tree.tree xs (leaf ∷ rest) in
+      let Q : List Leaf → Type 0 = λ xs. AreLeaves (named_leaf tree.known lang) tree.tree all xs in
+      let R : List Leaf → Type 0 = λ xs. AreLeaves (named_leaf tree.known lang) tree.tree all (xs ++ rest) in
+      subst R (sym new-is) (subst Q (sym (append_assoc old (leaf ∷ []) rest)) (far (leaf ∷ rest) (subst P (sym left-is) (leaf, is, (rest, are, refl)))))
 
-pub leads_on : (tree : KnownTree) (all : List Pattern) (old new : List Leaf) (left ps : List Pattern) (p : Pattern) (leaf : Leaf)
-    → Leads tree all old left → left ≡ p ∷ ps → new ≡ old ++ leaf ∷ [] → IsLeaf (IsMember p tree) leaf → Leads tree all new ps
-leads_on tree all old new left ps p leaf far left-is new-is is rest are =
-    let P : List Pattern → Type 0 = λ xs. AreLeaves (by_names tree.known) tree.tree xs (leaf ∷ rest) in
-    let Q : List Leaf → Type 0 = λ xs. AreLeaves (by_names tree.known) tree.tree all xs in
-    let R : List Leaf → Type 0 = λ xs. AreLeaves (by_names tree.known) tree.tree all (xs ++ rest) in
-    subst R (sym new-is) (subst Q (sym (append_assoc old (leaf ∷ []) rest)) (far (leaf ∷ rest) (subst P (sym left-is) (leaf, is, (rest, are, refl)))))
-
-pub leads_end : (tree : KnownTree) (all : List Pattern) (leaves : List Leaf) (left : List Pattern) → Leads tree all leaves left → left ≡ [] → AreLeaves (by_names tree.known) tree.tree all leaves
-leads_end tree all leaves left far left-is =
-    let P : List Pattern → Type 0 = λ xs. AreLeaves (by_names tree.known) tree.tree xs [] in
-    let Q : List Leaf → Type 0 = λ xs. AreLeaves (by_names tree.known) tree.tree all xs in
-    subst Q (append-nil leaves) (far [] (subst P (sym left-is) refl))
+  pub leads_end : (all : List Pattern) (leaves : List Leaf) (left : List Pattern) → Leads all leaves left → left ≡ [] → AreLeaves (named_leaf tree.known lang) tree.tree all leaves
+  leads_end all leaves left far left-is =
+      let P : List Pattern → Type 0 = λ xs. AreLeaves (named_leaf tree.known lang) tree.tree xs [] in
+      let Q : List Leaf → Type 0 = λ xs. AreLeaves (named_leaf tree.known lang) tree.tree all xs in
+      subst Q (append-nil leaves) (far [] (subst P (sym left-is) refl))
 
 -- ---- one part
 
-pub part_judges : (texts : List (List ℕ)) (text : List ℕ) (tree : KnownTree) (parts : List Part) (k n : ℕ) (p : Part) (leaves : List Leaf) → slice_get parts k ≡ Some p → n ≡ k → AreLeaves (by_names tree.known) tree.tree p.patterns leaves → (r : Result Outcome Memory)
-    → IfOk r (PartFinds leaves texts text tree.tree (slice_get parts n)) → IfOk r (λ found. (o : Outcome) → PartFinds leaves texts text tree.tree (slice_get parts n) o → o ≡ found) → IfOk r (PartJudges texts text tree p)
-part_judges texts text tree parts k n p leaves at n-is are (Err e) finds only = tt
-part_judges texts text tree parts k n p leaves at n-is are (Ok found) finds only =
+pub part_judges : (lang : Lang) (texts : List (List ℕ)) (text : List ℕ) (tree : KnownTree) (parts : List Part) (k n : ℕ) (p : Part) (leaves : List Leaf) → slice_get parts k ≡ Some p → n ≡ k → AreLeaves (named_leaf tree.known lang) tree.tree p.patterns leaves → (r : Result Outcome Memory)
+    → IfOk r (PartFinds leaves texts text tree.tree (slice_get parts n)) → IfOk r (λ found. (o : Outcome) → PartFinds leaves texts text tree.tree (slice_get parts n) o → o ≡ found) → IfOk r (PartJudges lang texts text tree p)
+part_judges lang texts text tree parts k n p leaves at n-is are (Err e) finds only = tt
+part_judges lang texts text tree parts k n p leaves at n-is are (Ok found) finds only =
     let there : slice_get parts n ≡ Some p = ap (slice_get parts) n-is ∙ at in
     let P : Option Part → Type 0 = λ q. PartFinds leaves texts text tree.tree q found in record {
       finds = (leaves, are, subst P there finds);
       only = λ o h.
           let Q : List Leaf → Type 0 = λ ls. PartFinds ls texts text tree.tree (Some p) o in
           let R : Option Part → Type 0 = λ q. PartFinds leaves texts text tree.tree q o in
-          only o (subst R (sym there) (subst Q (leaves_one tree p.patterns h.0 leaves h.1 are) h.2));
+          only o (subst R (sym there) (subst Q (leaves_one lang tree p.patterns h.0 leaves h.1 are) h.2));
     }
 
 -- the same of equal texts and parts
@@ -97,7 +90,7 @@ module _ (texts : List (List ℕ)) (lang : Lang) (text : List ℕ) (tree : Known
       let P : List Part → Type 0 = λ qs. RuleJudges texts lang text tree number qs x ↔ (PartAdds texts lang text tree number p x ⊎ RuleJudges texts lang text tree number ps x) in
       subst P (sym e) (
         λ h. elim h.has [
-          | inl f ↦ (let Q : Part → Type 0 = λ q. LooksAt q lang in let R : Part → Type 0 = λ q. PartFindsIn (by_names tree.known) texts text tree.tree q x.found in inl (subst Q (sym f) h.looks, h.number_is, subst R (sym f) h.finds))
+          | inl f ↦ (let Q : Part → Type 0 = λ q. LooksAt q lang in let R : Part → Type 0 = λ q. PartFindsIn (named_leaf tree.known lang) texts text tree.tree q x.found in inl (subst Q (sym f) h.looks, h.number_is, subst R (sym f) h.finds))
           | inr a ↦ inr (record { number_is = h.number_is; part = h.part; has = a; looks = h.looks; finds = h.finds })
         ],
         λ h. elim h [
@@ -110,9 +103,9 @@ module _ (texts : List (List ℕ)) (lang : Lang) (text : List ℕ) (tree : Known
   Gathers before now all left = (x : Judged) → (Among now x ⊎ RuleJudges texts lang text tree number left x) ↔ (Among before x ⊎ RuleJudges texts lang text tree number all x)
 
   -- what the part finds is this alone
-  pub part_adds : (p : Part) (y : Judged) (old new : List Judged) → new ≡ old ++ y ∷ [] → y.number ≡ number → LooksAt p lang → PartJudges texts text tree p y.found → Adds old new (PartAdds texts lang text tree number p)
+  pub part_adds : (p : Part) (y : Judged) (old new : List Judged) → new ≡ old ++ y ∷ [] → y.number ≡ number → LooksAt p lang → PartJudges lang texts text tree p y.found → Adds old new (PartAdds texts lang text tree number p)
   part_adds p y old new new-is n looks j = adds_as old new (λ x. y ≡ x) (PartAdds texts lang text tree number p) (pushed old new y new-is) (λ x. (
-    λ e. let P : Judged → Type 0 = λ z. PartFindsIn (by_names tree.known) texts text tree.tree p z.found in (looks, sym (ap (λ (z : Judged). z.number) e) ∙ n, subst P e j.finds),
+    λ e. let P : Judged → Type 0 = λ z. PartFindsIn (named_leaf tree.known lang) texts text tree.tree p z.found in (looks, sym (ap (λ (z : Judged). z.number) e) ∙ n, subst P e j.finds),
     λ f.
         let g : ℕ → Judged = λ k. record { number = k; found = y.found } in
         let h : Outcome → Judged = λ o. record { number = x.number; found = o } in
@@ -180,7 +173,7 @@ module _ (path : List ℕ) (lang : Lang) (text : List ℕ) (tree : KnownTree) (r
           let same = one_there rules x.number n j.rule rule j.at at e in
           let P : Rule → Type 0 = λ r. Among r.parts j.finds.part in
           let Q : Rule → Type 0 = λ r. Allows r path in
-          let R : Rule → Type 0 = λ r. PartFindsIn (by_names tree.known) r.texts text tree.tree j.finds.part x.found in
+          let R : Rule → Type 0 = λ r. PartFindsIn (named_leaf tree.known lang) r.texts text tree.tree j.finds.part x.found in
           (adds x).1 (inr (subst Q same j.finds.allows, record { number_is = e; part = j.finds.part; has = subst P same j.finds.has; looks = j.finds.looks; finds = subst R same j.finds.finds }))
           )
     ],

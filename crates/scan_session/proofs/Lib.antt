@@ -2,6 +2,7 @@ pub mod Orders
 pub mod Quieted
 pub mod Somes
 pub mod Views
+pub mod Asking
 pub mod Judged
 pub mod Hits
 pub mod Named

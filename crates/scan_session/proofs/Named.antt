@@ -1,26 +1,31 @@
 -- What rules find by the names of a file.
-use Rattle.std.proofs.Common.{◌≡◌, inl, inr, ◌↔◌, ℕ, List, [], ◌∷◌, refl, subst}
+use Rattle.std.proofs.Common.{◌≡◌, inl, inr, ◌↔◌, ℕ, List, [], ◌∷◌, refl, sym, subst}
+use Rattle.std.specs.Prelude.{Result, Ok, Err, IfOk}
 use Rattle.node_tree.specs.declared.known.Known.{Known}
 use Rattle.node_tree.specs.declared.node.Node.{Node}
 use Rattle.node_tree.specs.declared.view.FileView.{FileView}
 use Rattle.node_tree.specs.declared.view.Lang.{Lang}
+use Rattle.node_tree.specs.declared.view.Lang.TheVariants as langs
 use Rattle.node_tree.specs.declared.view.Pattern.{Pattern}
 use Rattle.rule_form.specs.declared.rule.Rule.{Rule}
 use Rattle.rule_form.specs.declared.rule.Part.{Part}
 use Rattle.node_match.specs.Sets.{Among, Adds}
 use Rattle.node_match.proofs.Sets.{adds_as}
 use Rattle.tree_match.specs.declared.leaf.Leaf.{Leaf}
-use Rattle.tree_match.specs.Members.{Member, IsMember}
+use Rattle.tree_match.specs.declared.leaf.Leaf.TheVariants.{Full}
 use Rattle.tree_match.specs.Trees.{known_in}
-use Rattle.literal_use.proofs.Names.{leaf_over}
+use Rattle.literal_use.specs.Literals.{LeavesNeedNoNames}
+use Rattle.file_parts.specs.Seen.{resolved_tree}
+use Rattle.file_parts.proofs.Once.{seen_once}
+use Rattle.file_search.specs.Whole.{HasNone}
+use Rattle.import_names.specs.Resolved.{IsResolved, tree_in, known_in as names_in}
 use Rattle.file_open.specs.Naming.{Knows, IsNamed}
 use Rattle.part_judge.specs.declared.outcome.Outcome.{Outcome}
 use Rattle.report_form.specs.declared.notice.Notice.{Notice}
 use Rattle.report_form.specs.declared.report.Reported.{Reported}
 use Rattle.scan_session.specs.Sets.{IsExactly}
 use Rattle.scan_session.specs.Reports.{reported_cmp}
-use Rattle.scan_session.specs.Looking.{AreLeaves, LooksAt, RuleFinds, by_names, own_leaf}
-use Rattle.scan_session.specs.Judging.{named_leaf}
+use Rattle.scan_session.specs.Looking.{AreLeaves, LooksAt, RuleFinds, named_leaf, own_leaf}
 use Rattle.scan_session.specs.Needing.{NeedsNoNames, Serves, ServesRules}
 use Rattle.scan_session.specs.Quieted.{Comments}
 use Rattle.scan_session.specs.Fresh.{IsFoundIn, IsShownIn, IsNotedIn}
@@ -41,23 +46,36 @@ rests_end {X} Q all left far e = far (λ y a. let P : List X → Type 0 = λ xs.
 
 -- ---- one pattern
 
--- without a word that it needs it has no member, whatever names are known
-pub lacking : (tree : Node) (p : Pattern) → ((known : List Known) (m : Member) → IsMember p (known_in tree known) m → ⊥) → NeedsNoNames tree p
-lacking tree p none known other leaf = leaf_over (IsMember p (known_in tree known)) (IsMember p (known_in tree other)) leaf (λ m. (λ x. absurd (none known m x), λ x. absurd (none other m x)))
+-- a pattern that takes no names has the same members in the file, and in the file with its names resolved
+pub unnamed : (lang : Lang) (tree : Node) (p : Pattern) → LeavesNeedNoNames p → NeedsNoNames lang tree p
+unnamed langs.Python tree p free known other leaf j = record {
+  plain = j.plain;
+  further = j.further;
+  plain_is = free (known_in tree known) (known_in tree other) refl j.plain j.plain_is;
+  further_is = free (resolved_tree langs.Python (known_in tree known)) (resolved_tree langs.Python (known_in tree other)) refl j.further j.further_is;
+  joined = j.joined;
+}
+unnamed _ tree p free known other leaf h = free (known_in tree known) (known_in tree other) refl leaf h
+
+-- one without members has none, whatever names are known
+pub lacking : (lang : Lang) (tree : Node) (p : Pattern) → HasNone lang tree p → NeedsNoNames lang tree p
+lacking lang tree p none known other leaf h =
+    let P : Leaf → Type 0 = named_leaf other lang tree p in
+    subst P (sym (seen_once lang (known_in tree known) p leaf (Full []) h (none known))) (none other)
 
 module _ (knows : Knows) (lang : Lang) (tree : Node) (known : List Known) where
   -- by names that serve it a pattern has its own members
-  pub leaf_served : (p : Pattern) → Serves knows lang tree known p → (leaf : Leaf) → by_names known tree p leaf ↔ own_leaf knows lang tree p leaf
+  pub leaf_served : (p : Pattern) → Serves knows lang tree known p → (leaf : Leaf) → named_leaf known lang tree p leaf ↔ own_leaf knows lang tree p leaf
   leaf_served p (inl just) leaf = (
     λ h. inl (known, just.are, h),
     λ own. elim own [
-      | inl k ↦ (let P : List Known → Type 0 = λ ks. by_names ks tree p leaf in subst P (just.only k.0 k.1) k.2)
+      | inl k ↦ (let P : List Known → Type 0 = λ ks. named_leaf ks lang tree p leaf in subst P (just.only k.0 k.1) k.2)
       | inr all ↦ all known
     ],
   )
   leaf_served p (inr free) leaf = (λ h. inr (λ other. free known other leaf h), λ own. elim own [ inl k ↦ free k.0 known leaf k.2 | inr all ↦ all known ])
 
-  leaves_served : (ps : List Pattern) → ((p : Pattern) → Among ps p → Serves knows lang tree known p) → (leaves : List Leaf) → AreLeaves (by_names known) tree ps leaves ↔ AreLeaves (own_leaf knows lang) tree ps leaves
+  leaves_served : (ps : List Pattern) → ((p : Pattern) → Among ps p → Serves knows lang tree known p) → (leaves : List Leaf) → AreLeaves (named_leaf known lang) tree ps leaves ↔ AreLeaves (own_leaf knows lang) tree ps leaves
   leaves_served [] serves leaves = (λ h. h, λ h. h)
   leaves_served (p ∷ ps) serves leaves =
       let one = leaf_served p (serves p (inl refl)) in
@@ -69,7 +87,7 @@ module _ (knows : Knows) (lang : Lang) (tree : Node) (known : List Known) where
   -- ---- the rules
 
   module _ (rules : List Rule) (serves : ServesRules knows lang tree known rules) where
-    part_served : (rule : Rule) → Among rules rule → (part : Part) → Among rule.parts part → LooksAt part lang → (leaves : List Leaf) → AreLeaves (by_names known) tree part.patterns leaves ↔ AreLeaves (own_leaf knows lang) tree part.patterns leaves
+    part_served : (rule : Rule) → Among rules rule → (part : Part) → Among rule.parts part → LooksAt part lang → (leaves : List Leaf) → AreLeaves (named_leaf known lang) tree part.patterns leaves ↔ AreLeaves (own_leaf knows lang) tree part.patterns leaves
     part_served rule runs part has looks = leaves_served part.patterns (λ p a. elim serves [ inl just ↦ inl just | inr free ↦ inr (free rule runs part has looks p a) ])
 
     finds_served : (path text : List ℕ) (rule : Rule) (outcome : Outcome) → Among rules rule → RuleFinds (named_leaf known) path lang text tree rule outcome ↔ RuleFinds (own_leaf knows) path lang text tree rule outcome
@@ -115,3 +133,23 @@ module _ (knows : Knows) (bare view : FileView) (named : IsNamed knows bare view
       let B : List ℕ → Type 0 = λ b. Adds old new (IsNotedIn (named_leaf view.known) rules path bare.lang b view.tree) in
       let T : Node → Type 0 = λ t. Adds old new (IsNotedIn (named_leaf view.known) rules path bare.lang bare.bytes t) in
       noted_served knows bare.lang bare.tree view.known rules (inl named.known) path bare.bytes old new (subst T named.tree_is (subst B named.bytes_are (subst L named.lang_is h)))
+
+-- ---- files that resolve to themselves
+
+-- in another language than Python no name stands for another
+pub resolved_itself : (view : FileView) → (view.lang ≡ langs.Python → ⊥) → IsResolved view view
+resolved_itself view other = record { lang = refl; bytes = refl; tree = tree_stays view.lang view.tree other; known = known_stays view.lang view.tree view.known other }
+  where
+    tree_stays : (lang : Lang) (tree : Node) → (lang ≡ langs.Python → ⊥) → tree ≡ tree_in lang tree
+    tree_stays langs.Python tree other = absurd (other refl)
+    tree_stays _ tree other = refl
+
+    known_stays : (lang : Lang) (tree : Node) (known : List Known) → (lang ≡ langs.Python → ⊥) → known ≡ names_in lang tree known
+    known_stays langs.Python tree known other = absurd (other refl)
+    known_stays _ tree known other = refl
+
+-- ---- answers
+
+pub if_ok_map : {A E : Type 0} (P Q : A → Type 0) (r : Result A E) → ((a : A) → P a → Q a) → IfOk r P → IfOk r Q
+if_ok_map P Q (Ok a) f h = f a h
+if_ok_map P Q (Err e) f h = tt

@@ -4,7 +4,6 @@ use Rattle.node_tree.specs.declared.view.Lang.{Lang}
 use Rattle.rule_form.specs.declared.rule.Rule.{Rule}
 use Rattle.rule_form.specs.declared.rule.Part.{Part}
 use Rattle.node_match.specs.Sets.{Among}
-use Rattle.node_tree.specs.declared.known.Known.{Known}
 use Rattle.tree_match.specs.Members.{KnownTree}
 use Rattle.meta_bind.specs.declared.finding.Finding.{Finding}
 use Rattle.part_judge.specs.declared.outcome.Outcome.{Outcome}
@@ -13,22 +12,19 @@ use Rattle.part_judge.specs.Findings.{findings_of}
 use Rattle.report_form.specs.declared.notice.Notice.{Notice}
 use Rattle.report_form.specs.declared.report.Reported.{Reported}
 use Rattle.scan_session.specs.declared.looking.Judged.{Judged}
-use Rattle.scan_session.specs.Looking.{LeafOf, Allows, LooksAt, PartFindsIn, RuleFinds, by_names}
+use Rattle.scan_session.specs.Looking.{Allows, LooksAt, PartFindsIn, RuleFinds}
+pub use Rattle.scan_session.specs.Looking.{named_leaf}
 use Rattle.scan_session.specs.Reports.{reported, outcome_notices}
 use Rattle.scan_session.specs.Hits.{Hit}
 
--- the members by these names, in each language
-abbrev pub named_leaf : List Known → LeafOf
-named_leaf known lang = by_names known
-
 -- the part finds this and nothing else, by the names that are known there
-pub record PartJudges (texts : List (List ℕ)) (text : List ℕ) (tree : KnownTree) (part : Part) (outcome : Outcome) : Type 0 where
-  pub finds : PartFindsIn (by_names tree.known) texts text tree.tree part outcome
-  pub only : (o : Outcome) → PartFindsIn (by_names tree.known) texts text tree.tree part o → o ≡ outcome
+pub record PartJudges (lang : Lang) (texts : List (List ℕ)) (text : List ℕ) (tree : KnownTree) (part : Part) (outcome : Outcome) : Type 0 where
+  pub finds : PartFindsIn (named_leaf tree.known lang) texts text tree.tree part outcome
+  pub only : (o : Outcome) → PartFindsIn (named_leaf tree.known lang) texts text tree.tree part o → o ≡ outcome
 
 -- what a part of the rule with that number and these regular expressions finds, if it looks at the file
 abbrev pub PartAdds : List (List ℕ) → Lang → List ℕ → KnownTree → ℕ → Part → Judged → Type 0
-PartAdds texts lang text tree number part x = LooksAt part lang × (x.number ≡ number) × PartFindsIn (by_names tree.known) texts text tree.tree part x.found
+PartAdds texts lang text tree number part x = LooksAt part lang × (x.number ≡ number) × PartFindsIn (named_leaf tree.known lang) texts text tree.tree part x.found
 
 -- what one of the parts of that rule finds, which looks at the file
 pub record RuleJudges (texts : List (List ℕ)) (lang : Lang) (text : List ℕ) (tree : KnownTree) (number : ℕ) (parts : List Part) (x : Judged) : Type 0 where
@@ -36,7 +32,7 @@ pub record RuleJudges (texts : List (List ℕ)) (lang : Lang) (text : List ℕ) 
   pub part : Part
   pub has : Among parts part
   pub looks : LooksAt part lang
-  pub finds : PartFindsIn (by_names tree.known) texts text tree.tree part x.found
+  pub finds : PartFindsIn (named_leaf tree.known lang) texts text tree.tree part x.found
 
 -- what the rule with that number finds, if its globs allow the path
 abbrev pub RuleAdds : List ℕ → Lang → List ℕ → KnownTree → ℕ → Rule → Judged → Type 0

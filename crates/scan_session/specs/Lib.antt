@@ -1,5 +1,6 @@
 pub mod Sets
 pub mod Looking
+pub mod Asking
 pub mod Needing
 pub mod Following
 pub mod Reports

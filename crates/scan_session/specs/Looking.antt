@@ -11,9 +11,8 @@ use Rattle.rule_form.specs.declared.rule.Rule.{Rule}
 use Rattle.rule_form.specs.declared.rule.Part.{Part}
 use Rattle.tree_match.specs.declared.leaf.Leaf.{Leaf}
 use Rattle.node_match.specs.Sets.{Among}
-use Rattle.tree_match.specs.Members.{IsMember}
 use Rattle.tree_match.specs.Trees.{known_in}
-use Rattle.tree_match.specs.Leaf.{IsLeaf}
+use Rattle.file_parts.specs.Seen.{seen_leaf}
 use Rattle.file_open.specs.Naming.{Knows}
 use Rattle.part_judge.specs.declared.outcome.Outcome.{Outcome}
 use Rattle.part_judge.specs.Findings.{PartFinds}
@@ -39,13 +38,14 @@ LeafIn = Node → Pattern → Leaf → Type 0
 abbrev pub LeafOf : Type 1
 LeafOf = Lang → LeafIn
 
--- the members that a pattern has in the tree, where these names and no others are known to hold literals
-abbrev pub by_names : List Known → LeafIn
-by_names known tree p leaf = IsLeaf (IsMember p (known_in tree known)) leaf
+-- the members that a pattern has in a file with the tree, seen through its imports, where these names and no others are known to
+-- hold literals
+abbrev pub named_leaf : List Known → LeafOf
+named_leaf known lang tree p leaf = seen_leaf lang (known_in tree known) p leaf
 
 -- the members by the names that are known in the file; where names make no difference, none need be known
 abbrev pub own_leaf : Knows → LeafOf
-own_leaf knows lang tree p leaf = ((known : List Known) × knows lang tree known × by_names known tree p leaf) ⊎ ((known : List Known) → by_names known tree p leaf)
+own_leaf knows lang tree p leaf = ((known : List Known) × knows lang tree known × named_leaf known lang tree p leaf) ⊎ ((known : List Known) → named_leaf known lang tree p leaf)
 
 -- for each pattern its members in the file with that tree
 abbrev pub AreLeaves : LeafIn → Node → List Pattern → List Leaf → Type 0

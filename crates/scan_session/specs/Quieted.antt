@@ -24,7 +24,7 @@ pub record Grammars : Type 1 where
   pub comments : Comments
   pub leaf_of : LeafOf
 
--- those where patterns are looked for in the trees themselves, by the names that are known in them
+-- those where patterns see through imports, by the names that are known in the trees
 abbrev pub grammars_of : Spells → Knows → Comments → Grammars
 grammars_of spells knows comments = record { spells = spells; comments = comments; leaf_of = own_leaf knows }
 

@@ -7,10 +7,13 @@ ghost use Rattle.tree_match.specs.Placed.{IsLeafPlaced};
 ghost use Rattle.taint_judge.specs.Placed.{IsFindingPlaced};
 ghost use Rattle.part_judge.specs.Findings.{findings_of};
 ghost use Rattle.rule_form.specs.declared.rule.Part.{Part as a_part};
-ghost use Rattle.scan_session.specs.Looking.{GlobMatches, SomeMatches, Allows, AreLeaves, LooksAt, by_names};
+ghost use Rattle.file_search.specs.Asked.{Asked, AsksFor};
+ghost use Rattle.scan_session.specs.Looking.{GlobMatches, SomeMatches, Allows, AreLeaves, LooksAt, named_leaf};
+ghost use Rattle.scan_session.specs.Asking.{PartAsksFor, PartsAskFor, RuleAsksFor, IsAskedFor};
 ghost use Rattle.scan_session.specs.declared.looking.Judged.{Judged as a_judged};
 ghost use Rattle.scan_session.specs.Judging.{PartJudges, PartAdds, RuleJudges, RuleAdds, IsJudged, AreAllPlaced};
 
+use file_search::FileSearch;
 use node_tree::{Lang, List, Memory, Pattern, Steps, Text};
 use part_judge::{Found, SharedFile, judge};
 use path_glob::matches;
@@ -18,7 +21,7 @@ use rule_form::{Part, Rule};
 use running_rules::Runner;
 use std::alloc::Global;
 use std::sync::ledger::Ledger;
-use tree_match::{Leaf, ReadyFile, match_ready};
+use tree_match::Leaf;
 
 /// What one of the rules finds in a file: its number among the rules that run, from 0, and what it finds.
 #[derive(Drop)]
@@ -63,46 +66,48 @@ pub fn looks_at(part: &Part, lang: Lang) -> bool
     part.lang == lang || part.lang == Lang::Regex
 }
 
-// The members of each pattern.
-fn leaves_of<L: Ledger>(
+// The members of each pattern in the file that is searched.
+fn leaves_of<S: FileSearch, L: Ledger>(
     alloc: Global,
-    view: &ReadyFile<'_>,
     patterns: &[Pattern],
+    search: &mut S,
     steps: &mut Steps<L>,
 ) -> Result<List<Leaf>, Memory>
-    ensures leaves { IfOk result (AreLeaves (by_names view.now.known) view.now.tree patterns.now) }
-    ensures placed { IfOk result (λ leaves. All (λ leaf. IsLeafPlaced view.now.bytes leaf) leaves) }
+    ensures leaves { IfOk result (AreLeaves (named_leaf (S.file search.old).known (S.file search.old).lang) (S.file search.old).tree patterns.now) }
+    ensures placed { IfOk result (λ leaves. All (λ leaf. IsLeafPlaced (S.file search.old).bytes leaf) leaves) }
+    ensures same { S.file search.new ≡ S.file search.old }
+    ensures asked { OnOk result (Asked S.asks patterns.now search.old steps.old search.new steps.new) }
 {
     let mut leaves = List::new(alloc);
     for pattern in patterns {
-        leaves.push(match_ready(alloc, view, pattern, steps)?)?;
+        leaves.push(search.leaf(alloc, pattern, steps)?)?;
     }
     Ok(leaves)
 }
 
 // What the part with that number finds.
-fn judge_part<L: Ledger>(
+fn judge_part<S: FileSearch, L: Ledger>(
     alloc: Global,
-    view: &SharedFile<'_, '_>,
+    view: &SharedFile<'_>,
     rule: &Runner<'_>,
     part: usize,
+    search: &mut S,
     steps: &mut Steps<L>,
 ) -> Result<Found, Memory>
-    requires { part < length rule.now.parts }
-    ensures finds { (p : a_part) → slice_get rule.now.parts part ≡ Some p → IfOk result (PartJudges rule.now.texts view.now.bytes (known_tree view.now) p) }
+    requires part { part < length rule.now.parts }
+    requires file { S.file search.old ≡ view.now }
+    ensures finds { (p : a_part) → slice_get rule.now.parts part ≡ Some p → IfOk result (PartJudges view.now.lang rule.now.texts view.now.bytes (known_tree view.now) p) }
     ensures placed { IfOk result (λ found. All (λ finding. IsFindingPlaced view.now.bytes finding) (findings_of found)) }
+    ensures same { S.file search.new ≡ S.file search.old }
+    ensures asked { (p : a_part) → slice_get rule.now.parts part ≡ Some p → OnOk result (Asked S.asks p.patterns search.old steps.old search.new steps.new) }
 {
     let Ok(number) = u32::try_from(part) else {
         return Err(Memory);
     };
     let mut rx = rule.expressions()?;
     let rule = rule.rule();
-    let leaves = leaves_of(
-        alloc,
-        view.ready(),
-        rule.parts.as_slice()[part].patterns.as_slice(),
-        steps,
-    )?;
+    let patterns = &rule.parts.as_slice()[part].patterns;
+    let leaves = leaves_of(alloc, patterns.as_slice(), search, steps)?;
     judge(
         alloc,
         view.view(),
@@ -115,78 +120,93 @@ fn judge_part<L: Ledger>(
 }
 
 // Adds what the part with that number finds, if it looks at the file.
-fn add_part<L: Ledger>(
+fn add_part<S: FileSearch, L: Ledger>(
     alloc: Global,
-    view: &SharedFile<'_, '_>,
+    view: &SharedFile<'_>,
     number: usize,
     rule: &Runner<'_>,
     part: usize,
+    search: &mut S,
     steps: &mut Steps<L>,
     judged: &mut Vec<Judged>,
 ) -> Result<(), Memory>
-    requires { part < length rule.now.parts }
+    requires part { part < length rule.now.parts }
+    requires file { S.file search.old ≡ view.now }
     ensures judged { (p : a_part) → slice_get rule.now.parts part ≡ Some p → OnOk result (Adds judged.old.items judged.new.items (PartAdds rule.now.texts view.now.lang view.now.bytes (known_tree view.now) number p)) }
     ensures placed { AreAllPlaced view.now.bytes judged.old.items → OnOk result (AreAllPlaced view.now.bytes judged.new.items) }
+    ensures same { S.file search.new ≡ S.file search.old }
+    ensures asked { (p : a_part) → slice_get rule.now.parts part ≡ Some p → OnOk result (AsksFor S.asks (PartAsksFor view.now.lang p) search.old steps.old search.new steps.new) }
 {
     if !looks_at(&rule.rule().parts.as_slice()[part], view.view().lang) {
         return Ok(());
     }
-    let found = judge_part(alloc, view, rule, part, steps)?;
+    let found = judge_part(alloc, view, rule, part, search, steps)?;
     judged.push(Judged { number, found })?;
     Ok(())
 }
 
 // Adds what each part of the rule finds that looks at the file.
-fn add_parts<L: Ledger>(
+fn add_parts<S: FileSearch, L: Ledger>(
     alloc: Global,
-    view: &SharedFile<'_, '_>,
+    view: &SharedFile<'_>,
     number: usize,
     rule: &Runner<'_>,
+    search: &mut S,
     steps: &mut Steps<L>,
     judged: &mut Vec<Judged>,
 ) -> Result<(), Memory>
+    requires { S.file search.old ≡ view.now }
     ensures judged { OnOk result (Adds judged.old.items judged.new.items (RuleJudges rule.now.texts view.now.lang view.now.bytes (known_tree view.now) number rule.now.parts)) }
     ensures placed { AreAllPlaced view.now.bytes judged.old.items → OnOk result (AreAllPlaced view.now.bytes judged.new.items) }
+    ensures same { S.file search.new ≡ S.file search.old }
+    ensures asked { OnOk result (AsksFor S.asks (PartsAskFor view.now.lang rule.now.parts) search.old steps.old search.new steps.new) }
 {
     for part in 0..rule.rule().parts.len() {
-        add_part(alloc, view, number, rule, part, steps, judged)?;
+        add_part(alloc, view, number, rule, part, search, steps, judged)?;
     }
     Ok(())
 }
 
 // Adds what the rule finds, if its globs allow the path.
-fn add_rule<L: Ledger>(
+fn add_rule<S: FileSearch, L: Ledger>(
     alloc: Global,
     path: &str,
-    view: &SharedFile<'_, '_>,
+    view: &SharedFile<'_>,
     number: usize,
     rule: &Runner<'_>,
+    search: &mut S,
     steps: &mut Steps<L>,
     judged: &mut Vec<Judged>,
 ) -> Result<(), Memory>
+    requires { S.file search.old ≡ view.now }
     ensures judged { OnOk result (Adds judged.old.items judged.new.items (RuleAdds path.now view.now.lang view.now.bytes (known_tree view.now) number rule.now)) }
     ensures placed { AreAllPlaced view.now.bytes judged.old.items → OnOk result (AreAllPlaced view.now.bytes judged.new.items) }
+    ensures same { S.file search.new ≡ S.file search.old }
+    ensures asked { OnOk result (AsksFor S.asks (RuleAsksFor path.now view.now.lang rule.now) search.old steps.old search.new steps.new) }
 {
     if !allows(rule.rule(), path) {
         return Ok(());
     }
-    add_parts(alloc, view, number, rule, steps, judged)
+    add_parts(alloc, view, number, rule, search, steps, judged)
 }
 
-/// What the rules find in the file at that path.
-pub fn judge_all<L: Ledger>(
+/// What the rules find in the file at that path. The search is asked for just the patterns of the rules that look at it.
+pub fn judge_all<S: FileSearch, L: Ledger>(
     alloc: Global,
     path: &str,
-    view: &SharedFile<'_, '_>,
+    view: &SharedFile<'_>,
     running: &[Runner<'_>],
+    search: &mut S,
     steps: &mut Steps<L>,
 ) -> Result<Vec<Judged>, Memory>
+    requires { S.file search.old ≡ view.now }
     ensures judged { IfOk result (λ judged. (x : a_judged) → Among judged.items x ↔ IsJudged path.now view.now.lang view.now.bytes (known_tree view.now) running.now x) }
     ensures placed { IfOk result (λ judged. AreAllPlaced view.now.bytes judged.items) }
+    ensures asked { OnOk result (AsksFor S.asks (IsAskedFor path.now view.now.lang running.now) search.old steps.old search.new steps.new) }
 {
     let mut judged = Vec::new(alloc);
     for (number, rule) in running.iter().enumerate() {
-        add_rule(alloc, path, view, number, rule, steps, &mut judged)?;
+        add_rule(alloc, path, view, number, rule, search, steps, &mut judged)?;
     }
     Ok(judged)
 }

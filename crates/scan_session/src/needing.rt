@@ -3,20 +3,23 @@
 
 ghost use Rattle.std.specs.Prelude.{◌≡◌, false, IfOk};
 ghost use Rattle.scan_session.specs.Looking.{LooksAt};
-ghost use Rattle.scan_session.specs.Needing.{NeedsNoNames, PatternsNeedNoNames, PartsNeedNoNames, RulesNeedNoNames};
+ghost use Rattle.scan_session.specs.Needing.{NeedsNoNames, PatternsNeedNoNames, PartsNeedNoNames, RulesNeedNoNames, ServesRules};
 
 use crate::looking::looks_at;
+use crate::resolving::{resolved_beside, resolved_or_itself};
+use code_reader::TreeReader;
+use file_open::with_names;
+use file_search::WholeFile;
 use literal_use::uses_literals;
-use node_tree::{Memory, Pattern};
+use node_tree::{FileView, Memory, Pattern};
 use rule_form::Part;
 use running_rules::Runner;
 use std::alloc::Global;
-use tree_match::ReadyFile;
 
 // Whether names may make a difference to the pattern in the file: it may take one that is known to hold a literal, and the file
 // has the words that it needs.
-fn pattern_needs(alloc: Global, file: &ReadyFile<'_>, pattern: &Pattern) -> Result<bool, Memory>
-    ensures { IfOk result (λ needs. needs ≡ false → NeedsNoNames file.now.tree pattern.now) }
+fn pattern_needs(alloc: Global, file: &WholeFile<'_>, pattern: &Pattern) -> Result<bool, Memory>
+    ensures { IfOk result (λ needs. needs ≡ false → NeedsNoNames file.now.lang file.now.tree pattern.now) }
 {
     if !uses_literals(pattern) {
         return Ok(false);
@@ -25,8 +28,8 @@ fn pattern_needs(alloc: Global, file: &ReadyFile<'_>, pattern: &Pattern) -> Resu
 }
 
 // The same for one of the patterns.
-fn patterns_need(alloc: Global, file: &ReadyFile<'_>, patterns: &[Pattern]) -> Result<bool, Memory>
-    ensures { IfOk result (λ need. need ≡ false → PatternsNeedNoNames file.now.tree patterns.now) }
+fn patterns_need(alloc: Global, file: &WholeFile<'_>, patterns: &[Pattern]) -> Result<bool, Memory>
+    ensures { IfOk result (λ need. need ≡ false → PatternsNeedNoNames file.now.lang file.now.tree patterns.now) }
 {
     for pattern in patterns {
         if pattern_needs(alloc, file, pattern)? {
@@ -37,8 +40,8 @@ fn patterns_need(alloc: Global, file: &ReadyFile<'_>, patterns: &[Pattern]) -> R
 }
 
 // The same for a pattern of the part, if it looks at the file.
-fn part_needs(alloc: Global, file: &ReadyFile<'_>, part: &Part) -> Result<bool, Memory>
-    ensures { IfOk result (λ needs. needs ≡ false → LooksAt part.now file.now.lang → PatternsNeedNoNames file.now.tree part.now.patterns) }
+fn part_needs(alloc: Global, file: &WholeFile<'_>, part: &Part) -> Result<bool, Memory>
+    ensures { IfOk result (λ needs. needs ≡ false → LooksAt part.now file.now.lang → PatternsNeedNoNames file.now.lang file.now.tree part.now.patterns) }
 {
     if !looks_at(part, file.view().lang) {
         return Ok(false);
@@ -47,7 +50,7 @@ fn part_needs(alloc: Global, file: &ReadyFile<'_>, part: &Part) -> Result<bool, 
 }
 
 // The same for one of the parts.
-fn parts_need(alloc: Global, file: &ReadyFile<'_>, parts: &[Part]) -> Result<bool, Memory>
+fn parts_need(alloc: Global, file: &WholeFile<'_>, parts: &[Part]) -> Result<bool, Memory>
     ensures { IfOk result (λ need. need ≡ false → PartsNeedNoNames file.now.lang file.now.tree parts.now) }
 {
     for part in parts {
@@ -61,7 +64,7 @@ fn parts_need(alloc: Global, file: &ReadyFile<'_>, parts: &[Part]) -> Result<boo
 /// Whether the names that are known in the file may make a difference to one of the rules.
 pub fn rules_need(
     alloc: Global,
-    file: &ReadyFile<'_>,
+    file: &WholeFile<'_>,
     running: &[Runner<'_>],
 ) -> Result<bool, Memory>
     ensures { IfOk result (λ need. need ≡ false → RulesNeedNoNames file.now.lang file.now.tree running.now) }
@@ -72,4 +75,32 @@ pub fn rules_need(
         }
     }
     Ok(false)
+}
+
+// The same of a file that isn't ready for the search.
+fn view_needs(alloc: Global, view: &FileView, running: &[Runner<'_>]) -> Result<bool, Memory>
+    ensures { IfOk result (λ need. need ≡ false → RulesNeedNoNames view.now.lang view.now.tree running.now) }
+{
+    let beside = resolved_beside(alloc, view)?;
+    let file = WholeFile::of(alloc, view, resolved_or_itself(view, &beside))?;
+    rules_need(alloc, &file, running)
+}
+
+/// The file with the names that are known in it, where these may make a difference to the rules; else as it is.
+pub fn with_needed_names<R: TreeReader>(
+    alloc: Global,
+    reader: &R,
+    view: FileView,
+    running: &[Runner<'_>],
+) -> Result<FileView, Memory>
+    ensures lang { IfOk result (λ named. named.lang ≡ view.lang) }
+    ensures bytes { IfOk result (λ named. named.bytes ≡ view.bytes) }
+    ensures tree { IfOk result (λ named. named.tree ≡ view.tree) }
+    ensures serves { IfOk result (λ named. ServesRules (R.knows reader.now) view.lang view.tree named.known running.now) }
+{
+    if !view_needs(alloc, &view, running)? {
+        return Ok(view);
+    }
+    let named = with_names(alloc, reader, view)?;
+    Ok(named)
 }

@@ -3,14 +3,16 @@
 ghost use Rattle.std.specs.Prelude.{◌≡◌, ◌≤◌, ◌++◌, ◌∷◌, ◌<◌, ◌↔◌, [], ℕ, length, Err, IsTrue, IfOk, OnOk};
 ghost use Rattle.report_form.specs.declared.report.Report.{Report as a_report};
 ghost use Rattle.scan_session.specs.declared.fault.ScanFault.TheVariants.{TooMany};
-ghost use Rattle.scan_session.specs.Sets.{HasMore};
+ghost use Rattle.node_match.specs.Sets.{Among};
+ghost use Rattle.report_form.specs.declared.notice.Notice.{Notice as a_notice};
+ghost use Rattle.scan_session.specs.Sets.{IsExactly, HasMore};
 ghost use Rattle.scan_session.specs.Reports.{reported_cmp};
 ghost use Rattle.decided_texts.specs.Refused.{gained, Gains};
 ghost use Rattle.decided_texts.specs.Decided.{AreDecided, AreUndecided};
 ghost use Rattle.decided_texts.specs.Deciding.{Grows, TakesAll};
 ghost use Rattle.running_rules.specs.Running.{running as rules_of, stated, texts_of, AreTextsOf};
 ghost use Rattle.scan_session.specs.Quieted.{grammars_of};
-ghost use Rattle.scan_session.specs.Fresh.{IsFresh, IsResult};
+ghost use Rattle.scan_session.specs.Fresh.{File as a_file, IsFresh, IsResult, IsResultIn, IsNoticeIn};
 ghost use Rattle.scan_session.specs.Others.{KeepsOtherFiles, KeepsOtherRules};
 ghost use Rattle.scan_session.specs.Scans.{HasScanned, Scans, AfterScan};
 
@@ -20,7 +22,7 @@ use code_reader::TreeReader;
 use comment_reader::CommentReader;
 use decided_texts::DecidedTexts;
 use node_tree::{Bytes, List, Memory, Steps};
-use report_form::{Report, Reported};
+use report_form::{Notice, Report, Reported};
 use rule_files::RuleFile;
 use running_rules::{Noted, Runner, in_order, take_files};
 use rx_text::Patterns;
@@ -34,6 +36,17 @@ fn append(results: &mut List<Reported>, mut more: List<Reported>) -> Result<(), 
     more.reverse();
     while let Some(result) = more.pop() {
         results.push(result)?;
+    }
+    Ok(())
+}
+
+// Adds the notices at the end.
+fn append_notices(notices: &mut Vec<Noted>, mut more: List<Notice>) -> Result<(), Memory>
+    ensures { OnOk result (notices.new.items ≡ notices.old.items ++ more) }
+{
+    more.reverse();
+    while let Some(notice) = more.pop() {
+        notices.push(Noted::of(notice))?;
     }
     Ok(())
 }
@@ -87,6 +100,27 @@ impl<'r, R: TreeReader + CommentReader> Scanner<'r, R> {
         ensures { IsTrue result ↔ self.now.most < length self.now.results }
     {
         self.most < self.results.len() as u64
+    }
+
+    /// The rules that run.
+    pub fn running(&self) -> &[Runner<'r>]
+        ensures { result.now ≡ self.now.running.items }
+    {
+        self.running.as_slice()
+    }
+
+    /// Adds what was found in a file that comes after all so far: of whichever file these are all results and all notices by the
+    /// rules that run. It is passed over where the files so far have too many findings already.
+    pub fn add(&mut self, results: List<Reported>, notices: List<Notice>) -> Result<(), Memory>
+        ensures added { (file : a_file) → IsExactly reported_cmp (IsResultIn (grammars_of (R.spells self.old.reader.now) (R.knows self.old.reader.now) (R.comments self.old.reader.now)) self.old.running.items file) results → ((n : a_notice) → Among notices n ↔ IsNoticeIn (grammars_of (R.spells self.old.reader.now) (R.knows self.old.reader.now) (R.comments self.old.reader.now)) self.old.running.items file n) → OnOk result (Scans (grammars_of (R.spells self.old.reader.now) (R.knows self.old.reader.now) (R.comments self.old.reader.now)) (file ∷ []) self.old self.new) }
+        ensures same_rules { self.new.running.items ≡ self.old.running.items }
+        ensures same_reader { self.new.reader.now ≡ self.old.reader.now }
+    {
+        if self.is_over() {
+            return Ok(());
+        }
+        append_notices(&mut self.notices, notices)?;
+        append(&mut self.results, results)
     }
 
     /// Scans the file at a path that comes after those of all files so far. It is opened in the language that the path's ending

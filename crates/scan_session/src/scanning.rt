@@ -2,11 +2,12 @@
 
 ghost use Rattle.std.specs.Prelude.{◌≡◌, None, IfOk, IfSome, IsSome, OnOk};
 ghost use Rattle.node_match.specs.Sets.{Adds};
+ghost use Rattle.file_search.specs.Asked.{AsksFor};
 ghost use Rattle.scan_session.specs.Sets.{IsExactly};
 ghost use Rattle.running_rules.specs.Running.{AreApart};
-ghost use Rattle.scan_session.specs.Judging.{named_leaf};
 ghost use Rattle.scan_session.specs.Reports.{reported_cmp};
-ghost use Rattle.scan_session.specs.Looking.{own_leaf};
+ghost use Rattle.scan_session.specs.Looking.{named_leaf, own_leaf};
+ghost use Rattle.scan_session.specs.Asking.{IsAskedFor};
 ghost use Rattle.scan_session.specs.Quieted.{grammars_of};
 ghost use Rattle.scan_session.specs.Fresh.{IsResultIn, IsFoundIn, IsShownIn, IsNotedIn, IsNoticeIn};
 
@@ -15,10 +16,12 @@ use crate::looking::judge_all;
 use crate::needing::rules_need;
 use crate::quiet::without_quieted;
 use crate::reporting::{note_judged, report_rows};
+use crate::resolving::{resolved_beside, resolved_or_itself};
 use crate::row::rows_of;
 use code_reader::TreeReader;
 use comment_reader::CommentReader;
 use file_open::{Opened, open_file, with_names};
+use file_search::{FileSearch, WholeFile};
 use node_tree::{Bytes, FileView, Lang, List, Memory, Steps};
 use part_judge::SharedFile;
 use path_glob::lang_of;
@@ -27,25 +30,25 @@ use running_rules::{Noted, Runner, add_notice};
 use sorted_sets::settled;
 use std::alloc::Global;
 use std::sync::ledger::Ledger;
-use tree_match::ReadyFile;
 
 // What the rules find in the file at that path, by the names that are known in what was opened. The notices are added.
-fn scan_view<L: Ledger>(
+fn find_view<S: FileSearch, L: Ledger>(
     alloc: Global,
     path: &str,
     view: &FileView,
-    ready: &ReadyFile<'_>,
+    search: &mut S,
     running: &[Runner<'_>],
     steps: &mut Steps<L>,
     notices: &mut Vec<Noted>,
 ) -> Result<List<Reported>, Memory>
-    requires { ready.now ≡ view.now }
+    requires { S.file search.old ≡ view.now }
     ensures results { AreApart running.now → IfOk result (IsExactly reported_cmp (IsFoundIn (named_leaf view.now.known) running.now path.now view.now.lang view.now.bytes view.now.tree)) }
     ensures notices { OnOk result (Adds notices.old.items notices.new.items (IsNotedIn (named_leaf view.now.known) running.now path.now view.now.lang view.now.bytes view.now.tree)) }
+    ensures asked { OnOk result (AsksFor S.asks (IsAskedFor path.now view.now.lang running.now) search.old steps.old search.new steps.new) }
 {
     let follows = some_follows_in(running, view.lang);
-    let file = SharedFile::of(alloc, ready, follows)?;
-    let judged = judge_all(alloc, path, &file, running, steps)?;
+    let file = SharedFile::of(alloc, view, follows)?;
+    let judged = judge_all(alloc, path, &file, running, search, steps)?;
     let found = judged.as_slice();
     note_judged(alloc, path, running, found, notices)?;
     let unsorted = rows_of(alloc, running, found)?;
@@ -53,23 +56,24 @@ fn scan_view<L: Ledger>(
     report_rows(alloc, path, view, running, rows.as_slice())
 }
 
-// What the rules find in the file at that path and no comment there quiets, by the names that are known in what was opened. The
-// notices are added.
-fn show_ready<R: CommentReader, L: Ledger>(
+/// What the rules find in the file at that path and no comment there quiets, by the names that are known in what was opened. The
+/// notices are added. The search is asked for just the patterns that the rules ask for in the file.
+pub fn scan_view<R: CommentReader, S: FileSearch, L: Ledger>(
     alloc: Global,
     reader: &R,
     path: &str,
     view: &FileView,
-    ready: &ReadyFile<'_>,
+    search: &mut S,
     running: &[Runner<'_>],
     steps: &mut Steps<L>,
     notices: &mut Vec<Noted>,
 ) -> Result<List<Reported>, Memory>
-    requires { ready.now ≡ view.now }
+    requires { S.file search.old ≡ view.now }
     ensures results { AreApart running.now → IfOk result (IsExactly reported_cmp (IsShownIn (named_leaf view.now.known) (R.comments reader.now) running.now path.now view.now.lang view.now.bytes view.now.tree)) }
     ensures notices { OnOk result (Adds notices.old.items notices.new.items (IsNotedIn (named_leaf view.now.known) running.now path.now view.now.lang view.now.bytes view.now.tree)) }
+    ensures asked { OnOk result (AsksFor S.asks (IsAskedFor path.now view.now.lang running.now) search.old steps.old search.new steps.new) }
 {
-    let found = scan_view(alloc, path, view, ready, running, steps, notices)?;
+    let found = find_view(alloc, path, view, search, running, steps, notices)?;
     without_quieted(alloc, reader, view, found)
 }
 
@@ -87,11 +91,14 @@ fn show_bare<R: TreeReader + CommentReader, L: Ledger>(
     ensures notices { IfOk result (λ shown. IsSome shown → Adds notices.old.items notices.new.items (IsNotedIn (own_leaf (R.knows reader.now)) running.now path.now view.now.lang view.now.bytes view.now.tree)) }
     ensures untold { IfOk result (λ shown. shown ≡ None → notices.new.items ≡ notices.old.items) }
 {
-    let ready = ReadyFile::of(alloc, view)?;
-    if rules_need(alloc, &ready, running)? {
+    let beside = resolved_beside(alloc, view)?;
+    let mut file = WholeFile::of(alloc, view, resolved_or_itself(view, &beside))?;
+    if rules_need(alloc, &file, running)? {
         return Ok(None);
     }
-    let shown = show_ready(alloc, reader, path, view, &ready, running, steps, notices)?;
+    let shown = scan_view(
+        alloc, reader, path, view, &mut file, running, steps, notices,
+    )?;
     Ok(Some(shown))
 }
 
@@ -109,8 +116,11 @@ fn show_named<R: TreeReader + CommentReader, L: Ledger>(
     ensures notices { OnOk result (Adds notices.old.items notices.new.items (IsNotedIn (own_leaf (R.knows reader.now)) running.now path.now view.lang view.bytes view.tree)) }
 {
     let named = with_names(alloc, reader, view)?;
-    let ready = ReadyFile::of(alloc, &named)?;
-    show_ready(alloc, reader, path, &named, &ready, running, steps, notices)
+    let beside = resolved_beside(alloc, &named)?;
+    let mut file = WholeFile::of(alloc, &named, resolved_or_itself(&named, &beside))?;
+    scan_view(
+        alloc, reader, path, &named, &mut file, running, steps, notices,
+    )
 }
 
 // What the rules find in the file at that path and no comment there quiets. The notices are added. The names that are known in

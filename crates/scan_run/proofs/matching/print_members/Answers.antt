@@ -1,9 +1,8 @@
 use Rattle.std.proofs.Common.{Err, [], ap, subst, map, inr}
 use Rattle.tree_match.specs.declared.leaf.Leaf.{Leaf}
-use Rattle.scan_session.specs.Looking.{by_names}
 use Rattle.run_status.specs.declared.status.Status.TheVariants.{Done}
 use Rattle.scan_run.specs.Lines.{line_of}
-use Rattle.scan_run.specs.Matching.{too_many, done}
+use Rattle.scan_run.specs.Matching.{by_names, too_many, done}
 use Rattle.scan_run.proofs.Streaming.{nothing_written}
 use Rattle.scan_run.proofs.matching.print_members.Goals as goal
 

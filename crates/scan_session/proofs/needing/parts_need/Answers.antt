@@ -13,11 +13,11 @@ loop-part-preserved c =
     let ps = c.args.parts.now in
     let p = c.part-item.result in
     let v = c.args.file.now in
-    rests_on (λ (q : Part). LooksAt q v.lang → PatternsNeedNoNames v.tree q.patterns) ps (drop i ps) (drop (i + 1) ps) p c.loop-part.invariant (opened ps i p c.loop-part-test.true c.part-item.is) (c.in_ok-part_needs.ensures c.if-branch.false)
+    rests_on (λ (q : Part). LooksAt q v.lang → PatternsNeedNoNames v.lang v.tree q.patterns) ps (drop i ps) (drop (i + 1) ps) p c.loop-part.invariant (opened ps i p c.loop-part-test.true c.part-item.is) (c.in_ok-part_needs.ensures c.if-branch.false)
 
 pub returns : goal.returns
 returns c _ =
     let i = c.loop-part.part-index in
     let ps = c.args.parts.now in
     let v = c.args.file.now in
-    rests_end (λ (q : Part). LooksAt q v.lang → PatternsNeedNoNames v.tree q.patterns) ps (drop i ps) c.loop-part.invariant (drop_all i ps c.loop-part-test.false)
+    rests_end (λ (q : Part). LooksAt q v.lang → PatternsNeedNoNames v.lang v.tree q.patterns) ps (drop i ps) c.loop-part.invariant (drop_all i ps c.loop-part-test.false)

@@ -1,74 +1,30 @@
-use Rattle.std.proofs.Common.{◌↔◌, ℕ, List, sym, subst, ◌∙◌}
-use Rattle.node_tree.specs.declared.view.FileView.{FileView}
-use Rattle.rule_form.specs.declared.rule.Rule.{Rule}
-use Rattle.std.specs.List.{flat_map}
-use Rattle.tree_match.specs.Ascending.{IsAscending}
-use Rattle.node_match.specs.Sets.{Among, Adds}
-use Rattle.tree_match.specs.Members.{known_tree}
-use Rattle.scan_session.specs.declared.looking.Judged.{Judged}
-use Rattle.scan_session.specs.Hits.{Hit, hit_cmp}
-use Rattle.scan_session.specs.Reports.{reported_cmp}
+use Rattle.node_match.specs.Sets.{Adds}
+use Rattle.file_search.specs.Asked.{AsksFor}
 use Rattle.scan_session.specs.Sets.{IsExactly}
-use Rattle.scan_session.specs.Judging.{IsJudged, AreAllPlaced, AreReported, judged_notices, named_leaf}
-use Rattle.scan_session.specs.Fresh.{IsFoundIn, IsNotedIn}
-use Rattle.running_rules.proofs.Members.{appended, on_ok}
-use Rattle.scan_session.proofs.Hits.{found_all, shown_all, numbered, hits_numbered, hits_placed, results_exactly, noted_exactly, if_reported}
+use Rattle.scan_session.specs.Reports.{reported_cmp}
+use Rattle.scan_session.specs.Looking.{named_leaf}
+use Rattle.scan_session.specs.Asking.{IsAskedFor}
+use Rattle.scan_session.specs.Quieted.{AreUnquieted}
+use Rattle.scan_session.specs.Fresh.{IsShownIn, IsNotedIn}
+use Rattle.running_rules.proofs.Members.{on_ok}
+use Rattle.scan_session.proofs.Hits.{if_reported}
+use Rattle.scan_session.proofs.Quieted.{shown_exactly}
 use Rattle.scan_session.proofs.scanning.scan_view.Goals as goal
-
--- what the rules find in a file
-abbrev Found : List ℕ → List Rule → List Judged → FileView → Type 0
-Found path rules judged v = (x : Judged) → Among judged x ↔ IsJudged path v.lang v.bytes (known_tree v) rules x
-
-pub note_judged-requires : goal.note_judged-requires
-note_judged-requires g c =
-    let v = c.args.view.now in
-    let path = c.args.path.now in
-    let rules = c.args.running.now in
-    let found = c.as_slice-found.result.now in
-    numbered path v.lang v.bytes (known_tree v) rules found (found_all path v.lang v.bytes (known_tree v) rules c.in_ok-judged.judged.items found c.as_slice-found.ensures.value (subst (Found path rules c.in_ok-judged.judged.items) (c.in_ok-file.ensures ∙ c.requires) c.in_ok-judged.ensures.judged))
-
-pub report_rows-requires-clause-numbered : goal.report_rows-requires-clause-numbered
-report_rows-requires-clause-numbered g c =
-    let v = c.args.view.now in
-    let path = c.args.path.now in
-    let rules = c.args.running.now in
-    let found = c.as_slice-found.result.now in
-    let all = found_all path v.lang v.bytes (known_tree v) rules c.in_ok-judged.judged.items found c.as_slice-found.ensures.value (subst (Found path rules c.in_ok-judged.judged.items) (c.in_ok-file.ensures ∙ c.requires) c.in_ok-judged.ensures.judged) in
-    let whole = shown_all rules found c.in_ok-unsorted.unsorted.items c.in_ok-rows.rows.items c.as_slice.result.now c.as_slice.ensures.value c.in_ok-rows.ensures.same c.in_ok-unsorted.ensures in
-    hits_numbered path v.lang v.bytes (known_tree v) rules found all c.as_slice.result.now whole
-
-pub report_rows-requires-clause-placed : goal.report_rows-requires-clause-placed
-report_rows-requires-clause-placed g c =
-    let v = c.args.view.now in
-    let path = c.args.path.now in
-    let rules = c.args.running.now in
-    let found = c.as_slice-found.result.now in
-    let all = found_all path v.lang v.bytes (known_tree v) rules c.in_ok-judged.judged.items found c.as_slice-found.ensures.value (subst (Found path rules c.in_ok-judged.judged.items) (c.in_ok-file.ensures ∙ c.requires) c.in_ok-judged.ensures.judged) in
-    let whole = shown_all rules found c.in_ok-unsorted.unsorted.items c.in_ok-rows.rows.items c.as_slice.result.now c.as_slice.ensures.value c.in_ok-rows.ensures.same c.in_ok-unsorted.ensures in
-    let P : List Judged → Type 0 = AreAllPlaced v.bytes in
-    let Q : FileView → Type 0 = λ w. AreAllPlaced w.bytes c.in_ok-judged.judged.items in
-    hits_placed path v.lang v.bytes (known_tree v) rules found all c.as_slice.result.now whole (subst P (sym c.as_slice-found.ensures.value) (subst Q (c.in_ok-file.ensures ∙ c.requires) c.in_ok-judged.ensures.placed))
 
 pub returns-clause-results : goal.returns-clause-results
 returns-clause-results g c apart =
     let v = c.args.view.now in
-    let path = c.args.path.now in
     let rules = c.args.running.now in
-    let found = c.as_slice-found.result.now in
-    let shown = c.as_slice.result.now in
-    let all = found_all path v.lang v.bytes (known_tree v) rules c.in_ok-judged.judged.items found c.as_slice-found.ensures.value (subst (Found path rules c.in_ok-judged.judged.items) (c.in_ok-file.ensures ∙ c.requires) c.in_ok-judged.ensures.judged) in
-    let whole = shown_all rules found c.in_ok-unsorted.unsorted.items c.in_ok-rows.rows.items shown c.as_slice.ensures.value c.in_ok-rows.ensures.same c.in_ok-unsorted.ensures in
-    let P : List Hit → Type 0 = IsAscending hit_cmp in
-    let up = subst P (sym c.as_slice.ensures.value) c.in_ok-rows.ensures.ordered in
-    if_reported (AreReported path v.bytes rules shown) (IsExactly reported_cmp (IsFoundIn (named_leaf v.known) rules path v.lang v.bytes v.tree)) c.report_rows.result (λ rs are. results_exactly path v.lang v.bytes (known_tree v) rules found all shown whole apart rs are up) c.report_rows.ensures
+    let path = c.args.path.now in
+    let comments = g.R.CommentReader.comments c.args.reader.now in
+    if_reported (AreUnquieted comments v.lang v.bytes c.in_ok-found.found) (IsExactly reported_cmp (IsShownIn (named_leaf v.known) comments rules path v.lang v.bytes v.tree)) c.without_quieted.result
+    (λ shown u. shown_exactly comments v.lang v.bytes (named_leaf v.known) rules path v.tree c.in_ok-found.found shown (c.in_ok-found.ensures.results apart) u) c.without_quieted.ensures
 
 pub returns-clause-notices : goal.returns-clause-notices
 returns-clause-notices g c =
     let v = c.args.view.now in
-    let path = c.args.path.now in
-    let rules = c.args.running.now in
-    let found = c.as_slice-found.result.now in
-    let all = found_all path v.lang v.bytes (known_tree v) rules c.in_ok-judged.judged.items found c.as_slice-found.ensures.value (subst (Found path rules c.in_ok-judged.judged.items) (c.in_ok-file.ensures ∙ c.requires) c.in_ok-judged.ensures.judged) in
-    let old = c.args.notices.now.items in
-    let new = c.note_judged.new.notices.items in
-    on_ok (Adds old new (IsNotedIn (named_leaf v.known) rules path v.lang v.bytes v.tree)) c.report_rows.result (appended old new (flat_map (judged_notices path rules) found) (IsNotedIn (named_leaf v.known) rules path v.lang v.bytes v.tree) c.in_ok-note_judged.ensures (noted_exactly path v.lang v.bytes (known_tree v) rules found all))
+    on_ok (Adds c.args.notices.now.items c.find_view.new.notices.items (IsNotedIn (named_leaf v.known) c.args.running.now c.args.path.now v.lang v.bytes v.tree)) c.without_quieted.result c.in_ok-found.ensures.notices
+
+pub returns-clause-asked : goal.returns-clause-asked
+returns-clause-asked g c =
+    on_ok (AsksFor g.S.FileSearch.asks (IsAskedFor c.args.path.now c.args.view.now.lang c.args.running.now) c.args.search.now c.args.steps.now c.find_view.new.search c.find_view.new.steps) c.without_quieted.result c.in_ok-found.ensures.asked

@@ -8,12 +8,12 @@ pub returns-clause-results : goal.returns-clause-results
 returns-clause-results g c apart =
     let v = c.args.view.now in
     let rules = c.args.running.now in
-    let free = subst (λ (w : FileView). RulesNeedNoNames w.lang w.tree rules) c.in_ok-ready.ensures (c.in_ok-rules_need.ensures c.if-branch.false) in
+    let free = subst (λ (w : FileView). RulesNeedNoNames w.lang w.tree rules) c.in_ok-file.ensures (c.in_ok-rules_need.ensures c.if-branch.false) in
     shown_served (g.R.TreeReader.knows c.args.reader.now) v.lang v.tree v.known rules (inr free) (g.R.CommentReader.comments c.args.reader.now) c.args.path.now v.bytes c.in_ok-shown.shown (c.in_ok-shown.ensures.results apart)
 
 pub returns-clause-notices : goal.returns-clause-notices
 returns-clause-notices g c _ =
     let v = c.args.view.now in
     let rules = c.args.running.now in
-    let free = subst (λ (w : FileView). RulesNeedNoNames w.lang w.tree rules) c.in_ok-ready.ensures (c.in_ok-rules_need.ensures c.if-branch.false) in
-    noted_served (g.R.TreeReader.knows c.args.reader.now) v.lang v.tree v.known rules (inr free) c.args.path.now v.bytes c.args.notices.now.items c.show_ready.new.notices.items c.in_ok-shown.ensures.notices
+    let free = subst (λ (w : FileView). RulesNeedNoNames w.lang w.tree rules) c.in_ok-file.ensures (c.in_ok-rules_need.ensures c.if-branch.false) in
+    noted_served (g.R.TreeReader.knows c.args.reader.now) v.lang v.tree v.known rules (inr free) c.args.path.now v.bytes c.args.notices.now.items c.scan_view.new.notices.items c.in_ok-shown.ensures.notices

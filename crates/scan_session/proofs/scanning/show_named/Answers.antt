@@ -1,7 +1,6 @@
 use Rattle.scan_session.specs.Reports.{reported_cmp}
 use Rattle.scan_session.specs.Sets.{IsExactly}
-use Rattle.scan_session.specs.Looking.{own_leaf}
-use Rattle.scan_session.specs.Judging.{named_leaf}
+use Rattle.scan_session.specs.Looking.{named_leaf, own_leaf}
 use Rattle.scan_session.specs.Fresh.{IsShownIn}
 use Rattle.running_rules.proofs.Members.{on_ok_map}
 use Rattle.scan_session.proofs.Hits.{if_reported}
@@ -16,9 +15,9 @@ returns-clause-results g c apart =
     let v = c.in_ok-named.named in
     let rules = c.args.running.now in
     let path = c.args.path.now in
-    if_reported (IsExactly reported_cmp (IsShownIn (named_leaf v.known) comments rules path v.lang v.bytes v.tree)) (IsExactly reported_cmp (IsShownIn (own_leaf knows) comments rules path bare.lang bare.bytes bare.tree)) c.show_ready.result
-    (λ rs h. shown_named knows bare v c.in_ok-named.ensures rules path comments rs h) (c.show_ready.ensures.results apart)
+    if_reported (IsExactly reported_cmp (IsShownIn (named_leaf v.known) comments rules path v.lang v.bytes v.tree)) (IsExactly reported_cmp (IsShownIn (own_leaf knows) comments rules path bare.lang bare.bytes bare.tree)) c.scan_view.result
+    (λ rs h. shown_named knows bare v c.in_ok-named.ensures rules path comments rs h) (c.scan_view.ensures.results apart)
 
 pub returns-clause-notices : goal.returns-clause-notices
 returns-clause-notices g c =
-    on_ok_map c.show_ready.result (noted_named (g.R.TreeReader.knows c.args.reader.now) c.args.view c.in_ok-named.named c.in_ok-named.ensures c.args.running.now c.args.path.now c.args.notices.now.items c.show_ready.new.notices.items) c.show_ready.ensures.notices
+    on_ok_map c.scan_view.result (noted_named (g.R.TreeReader.knows c.args.reader.now) c.args.view c.in_ok-named.named c.in_ok-named.ensures c.args.running.now c.args.path.now c.args.notices.now.items c.scan_view.new.notices.items) c.scan_view.ensures.notices

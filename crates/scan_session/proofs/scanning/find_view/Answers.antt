@@ -1,0 +1,85 @@
+use Rattle.std.proofs.Common.{◌↔◌, ℕ, List, sym, subst, ◌∙◌}
+use Rattle.node_tree.specs.declared.view.FileView.{FileView}
+use Rattle.rule_form.specs.declared.rule.Rule.{Rule}
+use Rattle.std.specs.List.{flat_map}
+use Rattle.tree_match.specs.Ascending.{IsAscending}
+use Rattle.node_match.specs.Sets.{Among, Adds}
+use Rattle.tree_match.specs.Members.{known_tree}
+use Rattle.scan_session.specs.declared.looking.Judged.{Judged}
+use Rattle.scan_session.specs.Hits.{Hit, hit_cmp}
+use Rattle.scan_session.specs.Reports.{reported_cmp}
+use Rattle.scan_session.specs.Sets.{IsExactly}
+use Rattle.scan_session.specs.Judging.{IsJudged, AreAllPlaced, AreReported, judged_notices}
+use Rattle.file_search.specs.Asked.{AsksFor}
+use Rattle.scan_session.specs.Looking.{named_leaf}
+use Rattle.scan_session.specs.Asking.{IsAskedFor}
+use Rattle.scan_session.specs.Fresh.{IsFoundIn, IsNotedIn}
+use Rattle.running_rules.proofs.Members.{appended, on_ok}
+use Rattle.scan_session.proofs.Hits.{found_all, shown_all, numbered, hits_numbered, hits_placed, results_exactly, noted_exactly, if_reported}
+use Rattle.scan_session.proofs.scanning.find_view.Goals as goal
+
+-- what the rules find in a file
+abbrev Found : List ℕ → List Rule → List Judged → FileView → Type 0
+Found path rules judged v = (x : Judged) → Among judged x ↔ IsJudged path v.lang v.bytes (known_tree v) rules x
+
+pub judge_all-requires : goal.judge_all-requires
+judge_all-requires g c = c.requires ∙ sym c.in_ok-file.ensures
+
+pub note_judged-requires : goal.note_judged-requires
+note_judged-requires g c =
+    let v = c.args.view.now in
+    let path = c.args.path.now in
+    let rules = c.args.running.now in
+    let found = c.as_slice-found.result.now in
+    numbered path v.lang v.bytes (known_tree v) rules found (found_all path v.lang v.bytes (known_tree v) rules c.in_ok-judged.judged.items found c.as_slice-found.ensures.value (subst (Found path rules c.in_ok-judged.judged.items) c.in_ok-file.ensures c.in_ok-judged.ensures.judged))
+
+pub report_rows-requires-clause-numbered : goal.report_rows-requires-clause-numbered
+report_rows-requires-clause-numbered g c =
+    let v = c.args.view.now in
+    let path = c.args.path.now in
+    let rules = c.args.running.now in
+    let found = c.as_slice-found.result.now in
+    let all = found_all path v.lang v.bytes (known_tree v) rules c.in_ok-judged.judged.items found c.as_slice-found.ensures.value (subst (Found path rules c.in_ok-judged.judged.items) c.in_ok-file.ensures c.in_ok-judged.ensures.judged) in
+    let whole = shown_all rules found c.in_ok-unsorted.unsorted.items c.in_ok-rows.rows.items c.as_slice.result.now c.as_slice.ensures.value c.in_ok-rows.ensures.same c.in_ok-unsorted.ensures in
+    hits_numbered path v.lang v.bytes (known_tree v) rules found all c.as_slice.result.now whole
+
+pub report_rows-requires-clause-placed : goal.report_rows-requires-clause-placed
+report_rows-requires-clause-placed g c =
+    let v = c.args.view.now in
+    let path = c.args.path.now in
+    let rules = c.args.running.now in
+    let found = c.as_slice-found.result.now in
+    let all = found_all path v.lang v.bytes (known_tree v) rules c.in_ok-judged.judged.items found c.as_slice-found.ensures.value (subst (Found path rules c.in_ok-judged.judged.items) c.in_ok-file.ensures c.in_ok-judged.ensures.judged) in
+    let whole = shown_all rules found c.in_ok-unsorted.unsorted.items c.in_ok-rows.rows.items c.as_slice.result.now c.as_slice.ensures.value c.in_ok-rows.ensures.same c.in_ok-unsorted.ensures in
+    let P : List Judged → Type 0 = AreAllPlaced v.bytes in
+    let Q : FileView → Type 0 = λ w. AreAllPlaced w.bytes c.in_ok-judged.judged.items in
+    hits_placed path v.lang v.bytes (known_tree v) rules found all c.as_slice.result.now whole (subst P (sym c.as_slice-found.ensures.value) (subst Q c.in_ok-file.ensures c.in_ok-judged.ensures.placed))
+
+pub returns-clause-results : goal.returns-clause-results
+returns-clause-results g c apart =
+    let v = c.args.view.now in
+    let path = c.args.path.now in
+    let rules = c.args.running.now in
+    let found = c.as_slice-found.result.now in
+    let shown = c.as_slice.result.now in
+    let all = found_all path v.lang v.bytes (known_tree v) rules c.in_ok-judged.judged.items found c.as_slice-found.ensures.value (subst (Found path rules c.in_ok-judged.judged.items) c.in_ok-file.ensures c.in_ok-judged.ensures.judged) in
+    let whole = shown_all rules found c.in_ok-unsorted.unsorted.items c.in_ok-rows.rows.items shown c.as_slice.ensures.value c.in_ok-rows.ensures.same c.in_ok-unsorted.ensures in
+    let P : List Hit → Type 0 = IsAscending hit_cmp in
+    let up = subst P (sym c.as_slice.ensures.value) c.in_ok-rows.ensures.ordered in
+    if_reported (AreReported path v.bytes rules shown) (IsExactly reported_cmp (IsFoundIn (named_leaf v.known) rules path v.lang v.bytes v.tree)) c.report_rows.result (λ rs are. results_exactly path v.lang v.bytes (known_tree v) rules found all shown whole apart rs are up) c.report_rows.ensures
+
+pub returns-clause-notices : goal.returns-clause-notices
+returns-clause-notices g c =
+    let v = c.args.view.now in
+    let path = c.args.path.now in
+    let rules = c.args.running.now in
+    let found = c.as_slice-found.result.now in
+    let all = found_all path v.lang v.bytes (known_tree v) rules c.in_ok-judged.judged.items found c.as_slice-found.ensures.value (subst (Found path rules c.in_ok-judged.judged.items) c.in_ok-file.ensures c.in_ok-judged.ensures.judged) in
+    let old = c.args.notices.now.items in
+    let new = c.note_judged.new.notices.items in
+    on_ok (Adds old new (IsNotedIn (named_leaf v.known) rules path v.lang v.bytes v.tree)) c.report_rows.result (appended old new (flat_map (judged_notices path rules) found) (IsNotedIn (named_leaf v.known) rules path v.lang v.bytes v.tree) c.in_ok-note_judged.ensures (noted_exactly path v.lang v.bytes (known_tree v) rules found all))
+
+pub returns-clause-asked : goal.returns-clause-asked
+returns-clause-asked g c =
+    let A : FileView → Type 0 = λ w. AsksFor g.S.FileSearch.asks (IsAskedFor c.args.path.now w.lang c.args.running.now) c.args.search.now c.args.steps.now c.judge_all.new.search c.judge_all.new.steps in
+    on_ok (A c.args.view.now) c.report_rows.result (subst A c.in_ok-file.ensures c.in_ok-judged.ensures.asked)
