@@ -16,7 +16,8 @@ use std::{fs, io};
 const PIECE: usize = 16384;
 
 /// The files below the current folder, with counts of the calls that failed and of the files that were absent. It follows no
-/// links, and it has regular files alone.
+/// links, it has regular files alone, and it lists none whose name begins with a dot or that stands in such a folder below the
+/// prefix.
 #[derive(Drop)]
 pub struct FolderTree<R> {
     rt: R,
@@ -95,7 +96,8 @@ impl Search {
         Ok(())
     }
 
-    // Adds what stands in a folder. A folder that is gone is empty, and a name that is no UTF-8 is in no path.
+    // Adds what stands in a folder, and is not hidden: no scan takes that, so a hidden folder that can't be read does no harm. A
+    // folder that is gone is empty, and a name that is no UTF-8 is in no path.
     fn look_into<R: Files + AllocGlobal + Clone + Drop>(
         &mut self,
         rt: &R,
@@ -103,7 +105,9 @@ impl Search {
     ) -> io::Result<()> {
         let entries = match fs::read_dir(rt, folder) {
             Ok(entries) => entries,
-            Err(e) if e.kind() == ErrorKind::NotFound => return Ok(()),
+            Err(e) if matches!(e.kind(), ErrorKind::NotFound | ErrorKind::NotADirectory) => {
+                return Ok(());
+            }
             Err(e) => return Err(e),
         };
         for entry in entries {
@@ -112,6 +116,9 @@ impl Search {
                 Err(e) if e.kind() == ErrorKind::InvalidFilename => continue,
                 Err(e) => return Err(e),
             };
+            if entry.file_name().starts_with('.') {
+                continue;
+            }
             let path = path_in(rt.alloc(), folder, entry.file_name())?;
             if path_ok(&path)
                 && let Some(metadata) = found(entry.metadata())?

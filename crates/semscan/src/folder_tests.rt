@@ -5,7 +5,7 @@ use scan_world::{Tree, TreeFault};
 use std::fs;
 use std::test::Fail;
 
-// No clause tells what a folder holds. A link in it is not followed, and is no file.
+// No clause tells what a folder holds. A link in it is not followed, and is no file; what is hidden in it is not listed.
 #[test]
 fn reads_and_writes_the_current_folder(rt: HostRuntime) -> Result<(), Fail> {
     let _ = fs::remove_dir_all(&rt, "folder-of-a-test");
@@ -13,6 +13,7 @@ fn reads_and_writes_the_current_folder(rt: HostRuntime) -> Result<(), Fail> {
     assert!(rt; tree.write("folder-of-a-test/b/c.py", b"f(1)\n") == Ok(()));
     assert!(rt; tree.write("folder-of-a-test/b.py", b"") == Ok(()));
     assert!(rt; tree.write("folder-of-a-test/b/c.py", b"g(2)\n") == Ok(()));
+    assert!(rt; tree.write("folder-of-a-test/.hidden/e.py", b"") == Ok(()));
     assert!(rt; std::os::unix::fs::symlink(&rt, "b", "folder-of-a-test/d").is_ok());
     let rows = [
         (
