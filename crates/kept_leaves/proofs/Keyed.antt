@@ -1,0 +1,117 @@
+-- What keys tell of pairs.
+use Rattle.std.proofs.Common.{◌≡◌, ◌∙◌, ℕ, List, [], ◌++◌, refl, sym, ap, subst, Bool, true, false, arith}
+use Rattle.std.specs.Prelude.{Option, None, Some}
+use Rattle.std.specs.declared.cmp.Ordering.{Ordering}
+use Rattle.std.specs.declared.cmp.Ordering.TheVariants.{Less, Equal, Greater}
+use Rattle.std.specs.Ordering.{nat_cmp, ordering_then, is_eq}
+use Rattle.std.specs.Cmp.{IsTotalOrder}
+use Rattle.std.specs.Cmp.Lexicographic.{slice_cmp, bytes_decides}
+use Rattle.std.specs.BTreeMap.{get}
+use Rattle.std.proofs.lemmas.Cmp.{tied_itself, on_total, then_total, nat_list_cmp_total}
+use Rattle.std.proofs.lemmas.Map.Text.{is_eq-slice_cmp}
+use denote.Enum.Bare.{tag_one}
+use denote.Enum.Declared.{tag_of}
+use Rattle.node_tree.specs.declared.node.Node.{Node}
+use Rattle.node_tree.specs.declared.view.Lang.{Lang}
+use Rattle.node_tree.specs.declared.view.Shape.{Shape}
+use Rattle.node_tree.specs.declared.view.Pattern.{Pattern}
+use Rattle.node_tree.specs.contracts.view.Lang.{the_type as the_langs}
+use Rattle.node_tree.specs.contracts.view.Shape.{the_type as the_shapes}
+use Rattle.piece_form.specs.Code.{code_of, lang_place, bool_place, pattern_code, piece_code}
+use Rattle.piece_form.specs.Identity.{Identity}
+use Rattle.piece_form.proofs.Telling.{tree_tells, keys_tell}
+use Rattle.piece_store.specs.declared.table.Table.{Table}
+use Rattle.piece_store.specs.Kept.{answer_of, by_number}
+use Rattle.piece_store.specs.Slots.{row_slot}
+use Rattle.piece_store.specs.Views.{at, met_by, table_slot}
+use Rattle.piece_store.proofs.ByNumber.{same_found, by_numbers}
+use Rattle.kept_leaves.specs.declared.leaf.KeptLeaf.{KeptLeaf}
+use Rattle.kept_leaves.specs.Kept.{PieceRef, PatternRef, Map, Leaves, kept_in, piece_cmp, pattern_cmp, AreKeys}
+use Rattle.kept_leaves.specs.Pairs.{Pair, IsSamePair}
+
+-- ---- orders
+
+pub piece_total : IsTotalOrder piece_cmp
+piece_total = then_total (on_total (λ (a : PieceRef). a.value.bytes.items) nat_list_cmp_total) (on_total (λ (a : PieceRef). a.value.numbers.items) nat_list_cmp_total)
+
+pub pattern_total : IsTotalOrder pattern_cmp
+pattern_total = on_total (λ (b : PatternRef). b.value.numbers.items) nat_list_cmp_total
+
+both_equal : (r s : Ordering) → ordering_then r s ≡ Equal → (r ≡ Equal) × (s ≡ Equal)
+both_equal Less s e = absurd cc
+both_equal Equal s e = (refl, e)
+both_equal Greater s e = absurd cc
+
+text_one : (xs ys : List ℕ) → slice_cmp nat_cmp xs ys ≡ Equal → xs ≡ ys
+text_one xs ys e = (bytes_decides xs ys).0 (sym (is_eq-slice_cmp xs ys) ∙ ap is_eq e)
+
+text_tied : (xs ys : List ℕ) → xs ≡ ys → slice_cmp nat_cmp xs ys ≡ Equal
+text_tied xs ys e = let P : List ℕ → Type 0 = λ zs. slice_cmp nat_cmp xs zs ≡ Equal in subst P e (tied_itself nat_list_cmp_total xs)
+
+-- ---- patterns with equal codes
+
+same_bool : (a b : Bool) → bool_place a ≡ bool_place b → a ≡ b
+same_bool true true e = refl
+same_bool true false e = absurd (omega (arith, e))
+same_bool false true e = absurd (omega (arith, e))
+same_bool false false e = refl
+
+-- patterns of which the same is written out are equal
+pub pattern_tells : (p q : Pattern) → pattern_code p ≡ pattern_code q → p ≡ q
+pattern_tells p q e =
+    let lang : lang_place p.lang ≡ lang_place q.lang = cc in
+    let shape : tag_of the_shapes p.shape ≡ tag_of the_shapes q.shape = cc in
+    let constants : bool_place p.constants ≡ bool_place q.constants = cc in
+    let code : code_of p.tree ≡ code_of q.tree = cc in
+    let tree = tree_tells p.tree q.tree [] [] (ap (λ (c : List ℕ). c ++ []) code) in
+    let langs = tag_one the_langs tt p.lang q.lang lang in
+    let shapes = tag_one the_shapes tt p.shape q.shape shape in
+    ap (λ (x : Lang). record { lang = x; shape = p.shape; tree = p.tree; constants = p.constants }) langs
+    ∙ ap (λ (x : Shape). record { lang = q.lang; shape = x; tree = p.tree; constants = p.constants }) shapes
+    ∙ ap (λ (x : Node). record { lang = q.lang; shape = q.shape; tree = x; constants = p.constants }) tree.0
+    ∙ ap (λ (x : Bool). record { lang = q.lang; shape = q.shape; tree = q.tree; constants = x }) (same_bool p.constants q.constants constants)
+
+-- ---- keys of pairs
+
+module _ (x y : Pair) (a : PieceRef) (b : PatternRef) (keys : AreKeys x a b) where
+  -- a pair that counts as one with this has the same keys
+  pub keys_of_same : IsSamePair x y → AreKeys y a b
+  keys_of_same same = record {
+    of_piece = record { bytes = keys.of_piece.bytes ∙ ap (λ (i : Identity). i.bytes) same.piece; numbers = keys.of_piece.numbers ∙ ap piece_code same.piece };
+    of_pattern = keys.of_pattern ∙ ap pattern_code same.pattern;
+  }
+
+  module _ (c : PieceRef) (d : PatternRef) (its : AreKeys y c d) where
+    -- keys of pairs that count as one are equal
+    pub tied : IsSamePair x y → (piece_cmp a c ≡ Equal) × (pattern_cmp b d ≡ Equal)
+    tied same =
+        let k = keys_of_same same in
+        let bytes = text_tied a.value.bytes.items c.value.bytes.items (k.of_piece.bytes ∙ sym its.of_piece.bytes) in
+        let numbers = text_tied a.value.numbers.items c.value.numbers.items (k.of_piece.numbers ∙ sym its.of_piece.numbers) in
+        let rest : Ordering = slice_cmp nat_cmp a.value.numbers.items c.value.numbers.items in
+        (ap (λ (o : Ordering). ordering_then o rest) bytes ∙ numbers, text_tied b.value.numbers.items d.value.numbers.items (k.of_pattern ∙ sym its.of_pattern))
+
+    -- pairs with equal keys count as one
+    pub told : x.path ≡ y.path → piece_cmp a c ≡ Equal → pattern_cmp b d ≡ Equal → IsSamePair x y
+    told path e f =
+        let parts = both_equal (slice_cmp nat_cmp a.value.bytes.items c.value.bytes.items) (slice_cmp nat_cmp a.value.numbers.items c.value.numbers.items) e in
+        record {
+          path = path;
+          piece = keys_tell x.piece y.piece a.value c.value keys.of_piece its.of_piece (text_one a.value.bytes.items c.value.bytes.items parts.0) (text_one a.value.numbers.items c.value.numbers.items parts.1);
+          pattern = pattern_tells x.pattern y.pattern (sym keys.of_pattern ∙ text_one b.value.numbers.items d.value.numbers.items f ∙ its.of_pattern);
+        }
+
+-- ---- equal keys find the same
+
+slot_alike : (t : Option (Table PieceRef KeptLeaf)) (a c : PieceRef) (i : ℕ) → piece_cmp a c ≡ Equal → table_slot piece_cmp t a i ≡ table_slot piece_cmp t c i
+slot_alike None a c i e = refl
+slot_alike (Some table) a c i e = ap (λ (r : _). met_by table.met (row_slot r i)) (same_found piece_cmp piece_total a c e table.rows.entries)
+
+-- keys that are equal find the same
+abbrev pub IsAlike : Map → Type 0
+IsAlike map = (path : List ℕ) (a c : PieceRef) (b d : PatternRef) → piece_cmp a c ≡ Equal → pattern_cmp b d ≡ Equal → map path a b ≡ map path c d
+
+pub store_alike : (store : Leaves) → IsAlike (kept_in store)
+store_alike store path a c b d e f =
+    ap (by_number (λ i. answer_of store.empty (at piece_cmp store.shelf path a i))) (same_found pattern_cmp pattern_total b d f store.numbers.entries)
+    ∙ by_numbers (λ i. answer_of store.empty (at piece_cmp store.shelf path a i)) (λ i. answer_of store.empty (at piece_cmp store.shelf path c i)) (λ i. ap (answer_of store.empty) (slot_alike _ a c i e)) (get pattern_cmp store.numbers d)

@@ -1,0 +1,5 @@
+pub mod Pairs
+pub mod Kept
+pub mod Growth
+pub mod Ready
+pub mod Asking

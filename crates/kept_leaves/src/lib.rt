@@ -1,0 +1,19 @@
+//! What patterns have in the parts of files, kept from one scan to the next.
+//!
+//! A pair is a path, a piece of the file there, and a pattern. The matcher is called once for each pair that is needed and not
+//! kept. So after an edit the steps are those of the pieces that the edit changed. `KeptSearch` searches a file so.
+#![tactic(auto)]
+
+mod kept;
+mod leaf;
+mod part;
+mod parts;
+mod pattern;
+mod search;
+
+pub use kept::KeptLeaves;
+pub use leaf::{KeptLeaf, KeptPairs};
+pub use part::ReadyPart;
+pub use parts::ReadyParts;
+pub use pattern::ReadyPattern;
+pub use search::KeptSearch;
