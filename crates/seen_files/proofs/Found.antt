@@ -1,0 +1,195 @@
+-- What is seen of one file.
+use Rattle.std.proofs.Common.{◌≡◌, ◌↔◌, inl, inr, ℕ, List, [], ◌∷◌, refl, sym, ◌∙◌, subst}
+use Rattle.std.specs.Prelude.{Result, Ok, Err, IfOk}
+use Rattle.node_tree.specs.declared.node.Node.{Node}
+use Rattle.node_tree.specs.declared.view.FileView.{FileView}
+use Rattle.node_tree.specs.declared.view.Lang.{Lang}
+use Rattle.node_match.specs.Sets.{Among, Adds}
+use Rattle.rule_form.specs.declared.rule.Rule.{Rule}
+use Rattle.file_open.specs.declared.opened.Opened.{Opened}
+use Rattle.file_open.specs.declared.opened.Opened.TheVariants.{TooLarge, NotUtf8, NoTree, Read}
+use Rattle.file_open.specs.Naming.{Knows}
+use Rattle.file_open.specs.Reading.{Spells}
+use Rattle.file_open.specs.Opening.{IsOpened, HasOnlyTree}
+use Rattle.report_form.specs.declared.notice.Notice.{Notice}
+use Rattle.report_form.specs.declared.notice.NoticeKind.TheVariants as kinds
+use Rattle.report_form.specs.declared.report.Reported.{Reported}
+use Rattle.running_rules.specs.Notes.{notice}
+use Rattle.scan_session.specs.Sets.{IsExactly}
+use Rattle.scan_session.specs.Reports.{reported_cmp}
+use Rattle.scan_session.specs.Looking.{named_leaf, own_leaf}
+use Rattle.scan_session.specs.Needing.{ServesRules}
+use Rattle.scan_session.specs.Quieted.{Comments, Grammars}
+use Rattle.scan_session.specs.Fresh.{File, lang_at, Shows, opened_notices, IsShownIn, IsNotedIn, IsResultIn, IsNoticeIn}
+use Rattle.scan_session.proofs.Named.{shown_served, noted_served}
+use Rattle.scan_session.proofs.Scans.{no_results, own_notices, seen_results, seen_notices}
+use Rattle.seen_files.specs.declared.seen.SeenFile.{SeenFile}
+use Rattle.seen_files.specs.Seen.{file_of, IsSameFile, AreAlike, IsOpenedSo, IsSeen}
+
+-- ---- answers
+
+pub if_four : {A E : Type 0} (P Q R S T : A → Type 0) (r : Result A E) → ((a : A) → P a → Q a → R a → S a → T a) → IfOk r P → IfOk r Q → IfOk r R → IfOk r S → IfOk r T
+if_four P Q R S T (Ok a) f p q r s = f a p q r s
+if_four P Q R S T (Err e) f p q r s = tt
+
+added_to_none : {X : Type 0} (old new : List X) (P : X → Type 0) → old ≡ [] → Adds old new P → (x : X) → Among new x ↔ P x
+added_to_none {X} old new P e adds x =
+    let Q : List X → Type 0 = λ xs. Among xs x in
+    (λ h. elim ((adds x).0 h) [ inl a ↦ absurd (subst Q e a) | inr p ↦ p ], λ p. (adds x).1 (inr p))
+
+-- ---- files that count as opened alike
+
+same_then : (a b c : FileView) → IsSameFile a b → IsSameFile b c → IsSameFile a c
+same_then a b c x y = record { lang = y.lang ∙ x.lang; bytes = y.bytes ∙ x.bytes; tree = y.tree ∙ x.tree }
+
+pub same_itself : (a : FileView) → IsSameFile a a
+same_itself a = record { lang = refl; bytes = refl; tree = refl }
+
+pub alike_itself : (o : Opened) → AreAlike o o
+alike_itself TooLarge = tt
+alike_itself NotUtf8 = tt
+alike_itself (NoTree v) = same_itself v
+alike_itself (Read v) = same_itself v
+
+-- what is opened is opened so
+pub opened_so : (spells : Spells) (file : File) (o : Opened) → IsOpened spells (lang_at file.0) file.1 o → HasOnlyTree spells (lang_at file.0) file.1 o → IsOpenedSo spells file o
+opened_so spells file o is only = record { bare = o; is = is; only = only; alike = alike_itself o }
+
+-- ---- a file that is seen so
+
+pub seen_so : (grammars : Grammars) (rules : List Rule) (s : SeenFile) (file : File) → file_of s ≡ file → IsOpenedSo grammars.spells file s.opened → IsExactly reported_cmp (IsResultIn grammars rules file) s.results
+    → ((n : Notice) → Among s.notices n ↔ IsNoticeIn grammars rules file n) → IsSeen grammars rules s
+seen_so grammars rules s file e opened results notices =
+    let P : File → Type 0 = λ f. IsOpenedSo grammars.spells f s.opened in
+    let Q : File → Type 0 = λ f. IsExactly reported_cmp (IsResultIn grammars rules f) s.results in
+    let R : File → Type 0 = λ f. (n : Notice) → Among s.notices n ↔ IsNoticeIn grammars rules f n in
+    record { opened = subst P (sym e) opened; results = subst Q (sym e) results; notices = subst R (sym e) notices }
+
+-- by what is seen of the file as it was opened
+module _ (grammars : Grammars) (rules : List Rule) (file : File) (s : SeenFile) (file_is : file_of s ≡ file) (o : Opened) (opened : s.opened ≡ o) (so : IsOpenedSo grammars.spells file o)
+    (rs : List Reported) (results : s.results ≡ rs) (ns : List Notice) (notices : (n : Notice) → Among s.notices n ↔ Among ns n) where
+  whole : IsExactly reported_cmp (IsResultIn grammars rules file) rs → ((n : Notice) → Among ns n ↔ IsNoticeIn grammars rules file n) → IsSeen grammars rules s
+  whole found noted =
+      let P : Opened → Type 0 = λ x. IsOpenedSo grammars.spells file x in
+      let Q : List Reported → Type 0 = λ xs. IsExactly reported_cmp (IsResultIn grammars rules file) xs in
+      seen_so grammars rules s file file_is (subst P (sym opened) so) (subst Q (sym results) found) (λ n. (λ h. (noted n).0 ((notices n).0 h), λ h. (notices n).1 ((noted n).1 h)))
+
+-- ---- one that can't be looked at
+
+too_large : (o : Opened) → AreAlike o TooLarge → o ≡ TooLarge
+too_large TooLarge h = refl
+too_large NotUtf8 h = absurd h
+too_large (NoTree v) h = absurd h
+too_large (Read v) h = absurd h
+
+not_utf8 : (o : Opened) → AreAlike o NotUtf8 → o ≡ NotUtf8
+not_utf8 TooLarge h = absurd h
+not_utf8 NotUtf8 h = refl
+not_utf8 (NoTree v) h = absurd h
+not_utf8 (Read v) h = absurd h
+
+module _ (grammars : Grammars) (rules : List Rule) (path bytes : List ℕ) (s : SeenFile) (file_is : file_of s ≡ (path, bytes)) (results : s.results ≡ []) where
+  hidden_seen : (o bare : Opened) → s.opened ≡ o → (so : IsOpenedSo grammars.spells (path, bytes) o) → so.bare ≡ bare → ((l : Lang) (t : Node) → Shows bare l t → ⊥)
+      → ((n : Notice) → Among s.notices n ↔ Among (opened_notices path bare) n) → IsSeen grammars rules s
+  hidden_seen o bare opened so e hidden notices =
+      let P : Opened → Type 0 = λ x. IsOpened grammars.spells (lang_at path) bytes x in
+      let Q : Opened → Type 0 = λ x. HasOnlyTree grammars.spells (lang_at path) bytes x in
+      let is = subst P e so.is in
+      let only = subst Q e so.only in
+      whole grammars rules (path, bytes) s file_is o opened so [] results (opened_notices path bare) notices
+      (no_results grammars rules path bytes bare is only hidden [] refl)
+      (added_to_none [] (opened_notices path bare) (IsNoticeIn grammars rules (path, bytes)) refl (own_notices grammars rules path bytes bare is only hidden [] (opened_notices path bare) refl))
+
+  pub large_seen : s.opened ≡ TooLarge → IsOpenedSo grammars.spells (path, bytes) TooLarge → ((n : Notice) → Among s.notices n ↔ Among (notice path [] kinds.TooLarge [] ∷ []) n) → IsSeen grammars rules s
+  large_seen opened so notices = hidden_seen TooLarge TooLarge opened so (too_large so.bare so.alike) (λ l t h. absurd h) notices
+
+  pub odd_seen : s.opened ≡ NotUtf8 → IsOpenedSo grammars.spells (path, bytes) NotUtf8 → ((n : Notice) → Among s.notices n ↔ Among (notice path [] kinds.NotUtf8 [] ∷ []) n) → IsSeen grammars rules s
+  odd_seen opened so notices = hidden_seen NotUtf8 NotUtf8 opened so (not_utf8 so.bare so.alike) (λ l t h. absurd h) notices
+
+-- ---- one that can be
+
+-- the file as it was opened, of which this is the same with names
+bare_read : (o : Opened) (v : FileView) → AreAlike o (Read v) → (b : FileView) × (o ≡ Read b) × IsSameFile b v
+bare_read TooLarge v h = absurd h
+bare_read NotUtf8 v h = absurd h
+bare_read (NoTree b) v h = absurd h
+bare_read (Read b) v h = (b, refl, h)
+
+bare_plain : (o : Opened) (v : FileView) → AreAlike o (NoTree v) → (b : FileView) × (o ≡ NoTree b) × IsSameFile b v
+bare_plain TooLarge v h = absurd h
+bare_plain NotUtf8 v h = absurd h
+bare_plain (NoTree b) v h = (b, refl, h)
+bare_plain (Read b) v h = absurd h
+
+module _ (grammars : Grammars) (rules : List Rule) (path bytes : List ℕ) (v w : FileView) (same : IsSameFile v w) (rs : List Reported)
+    (found : IsExactly reported_cmp (IsShownIn grammars.leaf_of grammars.comments rules path v.lang v.bytes v.tree) rs) (mid new : List Notice) (noted : Adds mid new (IsNotedIn grammars.leaf_of rules path v.lang v.bytes v.tree))
+    (s : SeenFile) (file_is : file_of s ≡ (path, bytes)) (results : s.results ≡ rs) (notices : (n : Notice) → Among s.notices n ↔ Among new n) where
+  pub read_seen : mid ≡ [] → IsOpenedSo grammars.spells (path, bytes) (Read v) → s.opened ≡ Read w → IsSeen grammars rules s
+  read_seen start so opened =
+      let (b, e, alike) = bare_read so.bare v so.alike in
+      let P : Opened → Type 0 = λ x. IsOpened grammars.spells (lang_at path) bytes x in
+      let Q : Opened → Type 0 = λ x. HasOnlyTree grammars.spells (lang_at path) bytes x in
+      let is : IsOpened grammars.spells (lang_at path) bytes (Read b) = subst P e so.is in
+      let only : HasOnlyTree grammars.spells (lang_at path) bytes (Read b) = subst Q e so.only in
+      let text : v.bytes ≡ bytes = alike.bytes ∙ is.2.bytes_are in
+      let shows : Shows (Read b) v.lang v.tree = (sym alike.lang, sym alike.tree) in
+      let one : (l : Lang) (t : Node) → Shows (Read b) l t → (v.lang ≡ l) × (v.tree ≡ t) = λ l t h. (alike.lang ∙ h.0, alike.tree ∙ h.1) in
+      whole grammars rules (path, bytes) s file_is (Read w) opened (record { bare = Read b; is = is; only = only; alike = same_then b v w alike same }) rs results new notices
+      (seen_results grammars rules path bytes (Read b) is only v.lang v.bytes v.tree shows one text rs found)
+      (added_to_none [] new (IsNoticeIn grammars rules (path, bytes)) refl (seen_notices grammars rules path bytes (Read b) is only v.lang v.bytes v.tree shows one text [] mid new start noted))
+
+  pub plain_seen : mid ≡ notice path [] kinds.NoTree [] ∷ [] → IsOpenedSo grammars.spells (path, bytes) (NoTree v) → s.opened ≡ NoTree w → IsSeen grammars rules s
+  plain_seen start so opened =
+      let (b, e, alike) = bare_plain so.bare v so.alike in
+      let P : Opened → Type 0 = λ x. IsOpened grammars.spells (lang_at path) bytes x in
+      let Q : Opened → Type 0 = λ x. HasOnlyTree grammars.spells (lang_at path) bytes x in
+      let is : IsOpened grammars.spells (lang_at path) bytes (NoTree b) = subst P e so.is in
+      let only : HasOnlyTree grammars.spells (lang_at path) bytes (NoTree b) = subst Q e so.only in
+      let text : v.bytes ≡ bytes = alike.bytes ∙ is.2.bytes_are in
+      let shows : Shows (NoTree b) v.lang v.tree = (sym alike.lang, sym alike.tree) in
+      let one : (l : Lang) (t : Node) → Shows (NoTree b) l t → (v.lang ≡ l) × (v.tree ≡ t) = λ l t h. (alike.lang ∙ h.0, alike.tree ∙ h.1) in
+      whole grammars rules (path, bytes) s file_is (NoTree w) opened (record { bare = NoTree b; is = is; only = only; alike = same_then b v w alike same }) rs results new notices
+      (seen_results grammars rules path bytes (NoTree b) is only v.lang v.bytes v.tree shows one text rs found)
+      (added_to_none [] new (IsNoticeIn grammars rules (path, bytes)) refl (seen_notices grammars rules path bytes (NoTree b) is only v.lang v.bytes v.tree shows one text [] mid new start noted))
+
+-- ---- by names that serve the rules
+
+module _ (knows : Knows) (rules : List Rule) (path : List ℕ) (v w : FileView) (same : IsSameFile v w) (serves : ServesRules knows v.lang v.tree w.known rules) where
+  pub shown_by : (comments : Comments) (rs : List Reported) → IsExactly reported_cmp (IsShownIn (named_leaf w.known) comments rules path w.lang w.bytes w.tree) rs → IsExactly reported_cmp (IsShownIn (own_leaf knows) comments rules path v.lang v.bytes v.tree) rs
+  shown_by comments rs h =
+      let L : Lang → Type 0 = λ l. IsExactly reported_cmp (IsShownIn (named_leaf w.known) comments rules path l w.bytes w.tree) rs in
+      let B : List ℕ → Type 0 = λ b. IsExactly reported_cmp (IsShownIn (named_leaf w.known) comments rules path v.lang b w.tree) rs in
+      let T : Node → Type 0 = λ t. IsExactly reported_cmp (IsShownIn (named_leaf w.known) comments rules path v.lang v.bytes t) rs in
+      shown_served knows v.lang v.tree w.known rules serves comments path v.bytes rs (subst T same.tree (subst B same.bytes (subst L same.lang h)))
+
+  pub noted_by : (old new : List Notice) → Adds old new (IsNotedIn (named_leaf w.known) rules path w.lang w.bytes w.tree) → Adds old new (IsNotedIn (own_leaf knows) rules path v.lang v.bytes v.tree)
+  noted_by old new h =
+      let L : Lang → Type 0 = λ l. Adds old new (IsNotedIn (named_leaf w.known) rules path l w.bytes w.tree) in
+      let B : List ℕ → Type 0 = λ b. Adds old new (IsNotedIn (named_leaf w.known) rules path v.lang b w.tree) in
+      let T : Node → Type 0 = λ t. Adds old new (IsNotedIn (named_leaf w.known) rules path v.lang v.bytes t) in
+      noted_served knows v.lang v.tree w.known rules serves path v.bytes old new (subst T same.tree (subst B same.bytes (subst L same.lang h)))
+
+-- ---- the same of answers
+
+module _ {E : Type 0} (grammars : Grammars) (rules : List Rule) (path bytes : List ℕ) (r : Result SeenFile E) (file_is : IfOk r (λ s. file_of s ≡ (path, bytes))) where
+  pub if_large : IfOk r (λ s. s.opened ≡ TooLarge) → IfOk r (λ s. s.results ≡ []) → IfOk r (λ s. (n : Notice) → Among s.notices n ↔ Among (notice path [] kinds.TooLarge [] ∷ []) n) → IsOpenedSo grammars.spells (path, bytes) TooLarge → IfOk r (IsSeen grammars rules)
+  if_large opened results notices so =
+      if_four (λ s. file_of s ≡ (path, bytes)) (λ s. s.opened ≡ TooLarge) (λ s. s.results ≡ []) (λ s. (n : Notice) → Among s.notices n ↔ Among (notice path [] kinds.TooLarge [] ∷ []) n) (IsSeen grammars rules) r
+      (λ s f o e n. large_seen grammars rules path bytes s f e o so n) file_is opened results notices
+
+  pub if_odd : IfOk r (λ s. s.opened ≡ NotUtf8) → IfOk r (λ s. s.results ≡ []) → IfOk r (λ s. (n : Notice) → Among s.notices n ↔ Among (notice path [] kinds.NotUtf8 [] ∷ []) n) → IsOpenedSo grammars.spells (path, bytes) NotUtf8 → IfOk r (IsSeen grammars rules)
+  if_odd opened results notices so =
+      if_four (λ s. file_of s ≡ (path, bytes)) (λ s. s.opened ≡ NotUtf8) (λ s. s.results ≡ []) (λ s. (n : Notice) → Among s.notices n ↔ Among (notice path [] kinds.NotUtf8 [] ∷ []) n) (IsSeen grammars rules) r
+      (λ s f o e n. odd_seen grammars rules path bytes s f e o so n) file_is opened results notices
+
+  module _ (v w : FileView) (same : IsSameFile v w) (rs : List Reported) (found : IsExactly reported_cmp (IsShownIn grammars.leaf_of grammars.comments rules path v.lang v.bytes v.tree) rs)
+      (mid new : List Notice) (noted : Adds mid new (IsNotedIn grammars.leaf_of rules path v.lang v.bytes v.tree)) (results : IfOk r (λ s. s.results ≡ rs)) (notices : IfOk r (λ s. (n : Notice) → Among s.notices n ↔ Among new n)) where
+    pub if_read : mid ≡ [] → IfOk r (λ s. s.opened ≡ Read w) → IsOpenedSo grammars.spells (path, bytes) (Read v) → IfOk r (IsSeen grammars rules)
+    if_read start opened so =
+        if_four (λ s. file_of s ≡ (path, bytes)) (λ s. s.opened ≡ Read w) (λ s. s.results ≡ rs) (λ s. (n : Notice) → Among s.notices n ↔ Among new n) (IsSeen grammars rules) r
+        (λ s f o e n. read_seen grammars rules path bytes v w same rs found mid new noted s f e n start so o) file_is opened results notices
+
+    pub if_plain : mid ≡ notice path [] kinds.NoTree [] ∷ [] → IfOk r (λ s. s.opened ≡ NoTree w) → IsOpenedSo grammars.spells (path, bytes) (NoTree v) → IfOk r (IsSeen grammars rules)
+    if_plain start opened so =
+        if_four (λ s. file_of s ≡ (path, bytes)) (λ s. s.opened ≡ NoTree w) (λ s. s.results ≡ rs) (λ s. (n : Notice) → Among s.notices n ↔ Among new n) (IsSeen grammars rules) r
+        (λ s f o e n. plain_seen grammars rules path bytes v w same rs found mid new noted s f e n start so o) file_is opened results notices

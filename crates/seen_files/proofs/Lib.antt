@@ -1,0 +1,5 @@
+pub mod Found
+pub mod Needing
+pub mod Stacks
+pub mod Counting
+pub mod Walking

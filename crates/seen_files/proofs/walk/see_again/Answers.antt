@@ -1,0 +1,51 @@
+use Rattle.std.proofs.Common.{◌≡◌, ℕ, List, sym, ap, ◌∙◌, subst}
+use Rattle.std.specs.Prelude.{IfOk}
+use Rattle.std.proofs.lemmas.Slice.Eq.{bytes_eq-Decides}
+use Rattle.rule_form.specs.declared.rule.Rule.{Rule}
+use Rattle.kept_leaves.specs.Kept.{map_of}
+use Rattle.scan_session.specs.Quieted.{grammars_of}
+use Rattle.scan_session.specs.Fresh.{File}
+use Rattle.seen_files.specs.Seen.{file_of, IsOpenedSo, IsSeen}
+use Rattle.seen_files.proofs.Walking.{opened_again, looked_again, stays_seen}
+use Rattle.seen_files.proofs.walk.see_again.Goals as goal
+
+pub returns-then-not-has_bytes-clause-seen : goal.returns-then-not-has_bytes-clause-seen
+returns-then-not-has_bytes-clause-seen g c before same apart seen = c.find_anew.ensures.seen apart
+
+pub returns-then-not-has_bytes-clause-kept : goal.returns-then-not-has_bytes-clause-kept
+returns-then-not-has_bytes-clause-kept g c before same needed =
+    opened_again c.args.running.now before c.args.was c.args.path.now c.args.bytes.now.value (map_of c.args.kept.now) c.args.steps.now c.find_anew.result (map_of c.find_anew.new.kept) c.find_anew.new.steps
+    (sym c.has_bytes.ensures ∙ c.if-not-has_bytes.true) c.find_anew.ensures.kept
+
+pub returns-then-same_rules-clause-file : goal.returns-then-same_rules-clause-file
+returns-then-same_rules-clause-file g c =
+    let same : c.args.was.bytes.value ≡ c.args.bytes.now.value = (bytes_eq-Decides c.args.was.bytes.value c.args.bytes.now.value).0 (sym c.has_bytes.ensures ∙ c.if-not-has_bytes.false) in
+    let F : List ℕ → File = λ p. (p, c.args.was.bytes.value) in
+    let G : List ℕ → File = λ b. (c.args.path.now, b) in
+    ap F c.requires ∙ ap G same
+
+pub returns-then-same_rules-clause-seen : goal.returns-then-same_rules-clause-seen
+returns-then-same_rules-clause-seen g c before same apart seen =
+    let P : List Rule → Type 0 = λ rs. IsSeen (grammars_of (g.R.TreeReader.spells c.args.reader.now) (g.R.TreeReader.knows c.args.reader.now) (g.R.CommentReader.comments c.args.reader.now)) rs c.args.was in
+    subst P (sym (same c.if-same_rules.true)) seen
+
+pub returns-then-same_rules-clause-kept : goal.returns-then-same_rules-clause-kept
+returns-then-same_rules-clause-kept g c before same needed =
+    stays_seen c.args.running.now before c.args.was c.args.path.now c.args.bytes.now.value (map_of c.args.kept.now) c.args.steps.now (map_of c.keep_path.new.self) (sym c.has_bytes.ensures ∙ c.if-not-has_bytes.false)
+    (same c.if-same_rules.true) needed c.keep_path.ensures
+
+pub returns-clause-file : goal.returns-clause-file
+returns-clause-file g c =
+    let same : c.args.was.bytes.value ≡ c.args.bytes.now.value = (bytes_eq-Decides c.args.was.bytes.value c.args.bytes.now.value).0 (sym c.has_bytes.ensures ∙ c.if-not-has_bytes.false) in
+    let P : List ℕ → Type 0 = λ b. IfOk c.find.result (λ s. file_of s ≡ (c.args.path.now, b)) in
+    subst P same c.find.ensures.file
+
+pub returns-clause-seen : goal.returns-clause-seen
+returns-clause-seen g c before same apart seen =
+    let P : List ℕ → Type 0 = λ p. IsOpenedSo (g.R.TreeReader.spells c.args.reader.now) (p, c.args.was.bytes.value) c.args.was.opened in
+    c.find.ensures.seen (subst P c.requires seen.opened) apart
+
+pub returns-clause-kept : goal.returns-clause-kept
+returns-clause-kept g c before same needed =
+    looked_again c.args.running.now before c.args.was c.args.path.now c.args.bytes.now.value (map_of c.args.kept.now) c.args.steps.now c.find.result (map_of c.find.new.kept) c.find.new.steps
+    (sym c.has_bytes.ensures ∙ c.if-not-has_bytes.false) c.find.ensures.kept

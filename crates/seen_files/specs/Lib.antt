@@ -1,0 +1,4 @@
+pub mod Seen
+pub mod Needs
+pub mod Spends
+pub mod Walk

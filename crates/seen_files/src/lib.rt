@@ -1,0 +1,14 @@
+//! What a session has seen of its files at its last scan: each file as it was opened, with what the rules found in it, and the
+//! leaves of the pairs of a piece and a pattern that the rules needed.
+//!
+//! When the files are seen again, a file that stays isn't opened again, and no pattern is matched again in a piece that stays
+//! (`specs/Spends.antt`).
+#![tactic(auto)]
+
+mod finding;
+mod looking;
+mod seeing;
+mod seen;
+mod walk;
+
+pub use seen::{SeenFile, SeenFiles};
