@@ -1,4 +1,6 @@
 pub mod Walks
-pub mod Scans
+pub mod Adding
+pub mod Telling
+pub mod Keeping
 pub mod Reports
 pub mod Fixes

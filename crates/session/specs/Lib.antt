@@ -1,1 +1,3 @@
+pub mod Reporting
+pub mod ScanState
 pub mod Sessions

@@ -11,7 +11,7 @@ use Rattle.session.specs.declared.session.Session.{Session}
 
 -- what a session holds
 abbrev pub state_of : {R : Type 0} → Session R → State
-state_of s = record { files = s.files; rules = s.rules.files; decided = s.decided; most = s.most }
+state_of s = record { files = s.files; rules = s.scans.rules.files; decided = s.scans.decided; most = s.most }
 
 -- the edits end within so many bytes
 abbrev pub EndWithin : ℕ → List Edit → Type 0

@@ -1,18 +1,17 @@
 //! Files and rule files that are edited, scanned and fixed.
 
 ghost use Rattle.std.specs.Prelude.{◌≡◌, []};
+ghost use Rattle.seen_files.specs.Seen.{HasSeenNone};
 ghost use Rattle.session.specs.Sessions.{state_of};
 
 use crate::fixing::{fixed_files, texts_of};
-use crate::scanning::scan_files;
+use crate::scan_state::ScanState;
 use code_reader::{PatternReader, TreeReader};
 use comment_reader::CommentReader;
-use decided_texts::DecidedTexts;
 use file_map::{FileMap, PutFault, SyncFault};
 use fix_apply::FixReport;
 use node_tree::Steps;
 use report_form::Report;
-use rule_map::RuleMap;
 use rx_text::Patterns;
 use scan_session::ScanFault;
 use scan_world::Tree;
@@ -20,13 +19,12 @@ use std::alloc::Global;
 use std::sync::ledger::Ledger;
 use workspace::{FixFault, Workspace};
 
-/// Files and rule files that are edited, scanned and fixed, one command after the other.
+/// Files and rule files that are edited, scanned and fixed, one command after the other. What a scan saw is kept to the next one.
 #[derive(Drop)]
-pub struct Session<'r, R: PatternReader> {
+pub struct Session<'r, R: TreeReader + CommentReader + PatternReader> {
     alloc: Global,
     files: FileMap,
-    rules: RuleMap<'r, R>,
-    decided: DecidedTexts,
+    scans: ScanState<'r, R>,
     most: u64,
 }
 
@@ -34,13 +32,13 @@ impl<'r, R: TreeReader + CommentReader + PatternReader> Session<'r, R> {
     /// Neither files nor rules, which are read by the reader. A report may have at most so many findings. It takes no memory.
     pub fn new(alloc: Global, reader: &'r R, most: u64) -> Session<'r, R>
         ensures new { state_of result ≡ record { files = []; rules = []; decided = record { refused = []; built = [] }; most = most } }
-        ensures reader { result.rules.reader ≡ reader.now }
+        ensures reader { result.scans.rules.reader ≡ reader.now }
+        ensures unseen { HasSeenNone result.scans.seen }
     {
         Session {
             alloc,
             files: FileMap::new(alloc),
-            rules: RuleMap::new(alloc, reader),
-            decided: DecidedTexts::new(alloc),
+            scans: ScanState::new(alloc, reader),
             most,
         }
     }
@@ -52,11 +50,13 @@ impl<'r, R: TreeReader + CommentReader + PatternReader> Workspace for Session<'r
     ghost use Rattle.session.specs.Sessions.{state_of};
     ghost use Rattle.workspace.specs.Reports.{readings_of};
 
-    ghost reader = { λ s. s.rules.reader };
+    ghost reader = { λ s. s.scans.rules.reader };
 
     ghost readings = { λ r. readings_of (R.spells r) (R.knows r) (R.comments r) (R.writes r) };
 
     ghost state = { state_of };
+
+    ghost seen = { λ s. s.scans.seen };
 
     fn put(&mut self, path: &str, bytes: &[u8]) -> Result<(), PutFault> {
         self.files.put(path, bytes)
@@ -67,11 +67,11 @@ impl<'r, R: TreeReader + CommentReader + PatternReader> Workspace for Session<'r
     }
 
     fn put_rules(&mut self, name: &str, bytes: &[u8]) -> Result<(), PutFault> {
-        self.rules.put(name, bytes)
+        self.scans.put_rules(name, bytes)
     }
 
     fn del_rules(&mut self, name: &str) -> bool {
-        self.rules.del(name)
+        self.scans.del_rules(name)
     }
 
     fn file(&self, path: &str) -> Option<&[u8]> {
@@ -87,18 +87,8 @@ impl<'r, R: TreeReader + CommentReader + PatternReader> Workspace for Session<'r
         patterns: &mut P,
         steps: &mut Steps<L>,
     ) -> Result<Report, ScanFault> {
-        let reader = self.rules.reader();
-        let rules = self.rules.contents();
-        scan_files(
-            self.alloc,
-            reader,
-            &self.files,
-            rules,
-            self.most,
-            &mut self.decided,
-            patterns,
-            steps,
-        )
+        self.scans
+            .scan(self.alloc, &self.files, self.most, patterns, steps)
     }
 
     fn fix<P: Patterns, L: Ledger>(

@@ -1,3 +1,4 @@
 pub mod State
 pub mod Reports
 pub mod Fixes
+pub mod Work

@@ -1,6 +1,6 @@
 //! Files and rule files that are put, taken away, scanned and fixed.
 
-ghost use Rattle.std.specs.Prelude.{◌≡◌, ◌≤◌, ◌++◌, ℕ, length, None, Some, Err, IfOk, IfErr, OnOk, OnErr};
+ghost use Rattle.std.specs.Prelude.{◌≡◌, ◌⊎◌, ◌≤◌, ◌++◌, ℕ, length, None, Some, Err, IfOk, IfErr, OnOk, OnErr};
 ghost use Rattle.std.specs.Option.{option_map, is_some};
 ghost use Rattle.scan_world.specs.Trees.{KeepsFiles};
 ghost use Rattle.file_map.specs.FileMap.{bytes_at, with_file, without_file, over_limit, TellsOver, TellsPut};
@@ -15,7 +15,10 @@ ghost use Rattle.scan_session.specs.declared.fault.ScanFault.TheVariants as scan
 ghost use Rattle.workspace.specs.declared.fault.FixFault.TheVariants as fix_faults;
 ghost use Rattle.workspace.specs.State.{State, with_files, with_rules, with_decided, files_put};
 ghost use Rattle.workspace.specs.Reports.{Readings, IsReport, HasMoreResults, AreAsked, AreAllDecided, StayDecided, GainsSome};
+ghost use Rattle.seen_files.specs.declared.seen.SeenFiles.{SeenFiles as a_seen};
+ghost use Rattle.seen_files.specs.Seen.{HasSeenNone};
 ghost use Rattle.workspace.specs.Fixes.{IsFixReport, FixesPass, files_fixed};
+ghost use Rattle.workspace.specs.Work.{Works};
 
 use crate::fault::FixFault;
 use file_map::{PutFault, SyncFault};
@@ -39,6 +42,9 @@ pub trait Workspace {
     // What is there.
     ghost state: { Self → State };
 
+    // What the last scan saw.
+    ghost seen: { Self → a_seen };
+
     /// Puts a file at a path, of which at most the first 1,000,001 bytes are kept. It is refused where there would be more than
     /// 10,000 files or more than 33,554,432 bytes.
     fn put(&mut self, path: &str, bytes: &[u8]) -> Result<(), PutFault>
@@ -46,13 +52,15 @@ pub trait Workspace {
         ensures within { OnOk result (over_limit (files_put (state self.old).files path.now bytes.now) ≡ None) }
         ensures over { IfErr result (TellsOver (over_limit (files_put (state self.old).files path.now bytes.now))) }
         ensures refused { OnErr result (state self.new ≡ state self.old) }
-        ensures same_reader { reader self.new ≡ reader self.old };
+        ensures same_reader { reader self.new ≡ reader self.old }
+        ensures unseen { seen self.new ≡ seen self.old };
 
     /// Takes the file at a path away, and says whether there was one.
     fn del(&mut self, path: &str) -> bool
         ensures removed { state self.new ≡ with_files (state self.old) (without_file path.now (state self.old).files) }
         ensures was_there { result ≡ is_some (bytes_at path.now (state self.old).files) }
-        ensures same_reader { reader self.new ≡ reader self.old };
+        ensures same_reader { reader self.new ≡ reader self.old }
+        ensures unseen { seen self.new ≡ seen self.old };
 
     /// Puts a rule file of a name. It is refused where there would be more than 100 rule files or 1,000 entries in all, or where
     /// it has more than 262,144 bytes.
@@ -61,13 +69,15 @@ pub trait Workspace {
         ensures within { OnOk result (PutRuleEnds (readings (reader self.old)).writes (state self.old).rules (name.now, bytes.now) None) }
         ensures over { IfErr result (TellsPut (PutRuleEnds (readings (reader self.old)).writes (state self.old).rules (name.now, bytes.now))) }
         ensures refused { OnErr result (state self.new ≡ state self.old) }
-        ensures same_reader { reader self.new ≡ reader self.old };
+        ensures same_reader { reader self.new ≡ reader self.old }
+        ensures unseen { seen self.new ≡ seen self.old };
 
     /// Takes the rule file of a name away, and says whether there was one.
     fn del_rules(&mut self, name: &str) -> bool
         ensures removed { state self.new ≡ with_rules (state self.old) (without_file name.now (state self.old).rules) }
         ensures was_there { result ≡ is_some (bytes_at name.now (state self.old).rules) }
-        ensures same_reader { reader self.new ≡ reader self.old };
+        ensures same_reader { reader self.new ≡ reader self.old }
+        ensures unseen { seen self.new ≡ seen self.old };
 
     /// The bytes that are kept of the file at a path, None exactly where there is no file.
     fn file(&self, path: &str) -> Option<&[u8]>
@@ -83,11 +93,13 @@ pub trait Workspace {
         ensures over { IfErr result (TellsLimit (SyncPasses (T.files tree.old) prefix.now (state self.old).files)) }
         ensures refused { OnErr result (state self.new ≡ state self.old) }
         ensures same_reader { reader self.new ≡ reader self.old }
+        ensures unseen { seen self.new ≡ seen self.old }
         ensures kept { KeepsFiles (T.files tree.old) (T.files tree.new) }
         ensures unfailed { OnOk result (T.faults tree.new ≡ T.faults tree.old) }
         ensures cause { IfErr result (HasSyncCause (T.faults tree.old) (T.faults tree.new)) };
 
-    /// What a fresh scan of the files by the rules reports. A text of a regular expression is given to `build` once in the life of
+    /// What a fresh scan of the files by the rules reports. It takes a step for each file that changed since the last scan, and one
+    /// for each piece and pattern that weren't needed then (`specs/Work.antt`). A text of a regular expression is given to `build` once in the life of
     /// a workspace, at the first scan by a good rule that has it; the refused ones are those that the builder's list gained.
     fn scan<P: Patterns, L: Ledger>(
         &mut self,
@@ -98,6 +110,9 @@ pub trait Workspace {
         ensures few { IfOk result (λ report. length report.results ≤ (state self.old).most) }
         ensures too_many { (n : ℕ) → result ≡ Err (scan_faults.TooMany n) → (n ≡ (state self.old).most) × HasMoreResults (readings (reader self.old)) (state self.new).decided.refused (state self.old).files (state self.old).rules n }
         ensures only { IfOk result (λ report. (r : a_report) → IsReport (readings (reader self.old)) (state self.new).decided.refused (state self.old).files (state self.old).rules r → r ≡ report) }
+        // After want of memory nothing was seen, or what was seen is as before.
+        ensures work { (result ≡ Err scan_faults.Memory → ⊥) → Works (readings (reader self.old)) (state self.new).decided.refused (state self.old).files (state self.old).rules (seen self.old) (seen self.new) steps.old steps.new }
+        ensures forgotten { result ≡ Err scan_faults.Memory → HasSeenNone (seen self.new) ⊎ (seen self.new ≡ seen self.old) }
         ensures same { state self.new ≡ with_decided (state self.old) (state self.new).decided }
         ensures same_reader { reader self.new ≡ reader self.old }
         ensures refused { (result ≡ Err scan_faults.Memory → ⊥) → (state self.new).decided.refused ≡ (state self.old).decided.refused ++ gained (P.refusals patterns.old) (P.refusals patterns.new) }
@@ -123,6 +138,8 @@ pub trait Workspace {
         ensures too_many { (n : ℕ) → result ≡ Err (fix_faults.TooMany n) → (n ≡ (state self.old).most) × HasMoreResults (readings (reader self.old)) (state self.new).decided.refused (state self.old).files (state self.old).rules n }
         ensures over { (kind : limit_kind) (n : ℕ) → result ≡ Err (fix_faults.OverLimit kind n) → FixesPass (readings (reader self.old)) (state self.new).decided.refused (state self.old).files (state self.old).rules (state self.old).most kind n }
         ensures only { IfOk result (λ fixed. (f : a_fix_report) → IsFixReport (readings (reader self.old)) (state self.new).decided.refused (state self.old).files (state self.old).rules f → f ≡ fixed) }
+        // The files were seen before they were fixed.
+        ensures work { (result ≡ Err fix_faults.Memory → ⊥) → Works (readings (reader self.old)) (state self.new).decided.refused (state self.old).files (state self.old).rules (seen self.old) (seen self.new) steps.old steps.new }
         ensures refused_fix { OnErr result ((state self.new).files ≡ (state self.old).files) }
         ensures same { state self.new ≡ with_decided (with_files (state self.old) (state self.new).files) (state self.new).decided }
         ensures same_reader { reader self.new ≡ reader self.old }

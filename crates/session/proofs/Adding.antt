@@ -1,0 +1,92 @@
+-- What was found in files that were seen is added to a scan.
+use Rattle.std.proofs.Common.{◌≡◌, inl, inr, ◌↔◌, ℕ, zero, suc, ◌+◌, ◌<◌, ◌≤◌, List, [], ◌∷◌, ◌++◌, length, take, drop, map, get_or, refl, sym, ap, ◌∙◌, subst, arith}
+use Rattle.std.proofs.lemmas.List.{take_all, map-append, take-append-drop}
+use Rattle.report_form.specs.declared.notice.Notice.{Notice}
+use Rattle.report_form.specs.declared.report.Reported.{Reported}
+use Rattle.rule_form.specs.declared.rule.Rule.{Rule}
+use Rattle.rule_files.specs.declared.rule_file.RuleFile.{RuleFile}
+use Rattle.node_match.specs.Sets.{Among}
+use Rattle.tree_match.specs.Ascending.{IsAscending}
+use Rattle.running_rules.specs.Running.{running}
+use Rattle.scan_session.specs.declared.scanner.Scanner.{Scanner}
+use Rattle.scan_session.specs.Sets.{IsExactly}
+use Rattle.scan_session.specs.Reports.{reported_cmp}
+use Rattle.scan_session.specs.Quieted.{Grammars}
+use Rattle.scan_session.specs.Fresh.{File, file_cmp, IsResultIn, IsNoticeIn}
+use Rattle.scan_session.specs.Scans.{HasScanned, Scans, AfterScan}
+use Rattle.scan_session.proofs.Orders.{ascends_front}
+use Rattle.seen_files.specs.declared.seen.SeenFile.{SeenFile}
+use Rattle.seen_files.specs.declared.seen.SeenFiles.{SeenFiles}
+use Rattle.seen_files.specs.Seen.{file_of, IsSeen, HasSeen}
+use Rattle.session.proofs.Walks.{one_taken}
+
+among_items : {X : Type 0} (xs : List X) (i : ℕ) (d : X) → i < length xs → Among xs (get_or xs i d)
+among_items [] i d lt = absurd (omega (arith, lt))
+among_items (x ∷ xs) zero d lt = inl refl
+among_items (x ∷ xs) (suc i) d lt = inr (among_items xs i d (omega (arith, lt)))
+
+-- Whichever rules the scan is by and whatever files were seen by them, the scan has looked at these.
+abbrev pub HasAdded : {R : Type 0} → Grammars → SeenFiles → Scanner R → List File → Scanner R → Type 0
+HasAdded grammars seen begun done now =
+    (refused : List (List ℕ)) (rules : List RuleFile) (most : ℕ) (files : List File) → HasScanned grammars refused rules most [] begun → HasSeen grammars (running refused rules) files seen → HasScanned grammars refused rules most done now
+
+pub added_none : {R : Type 0} (grammars : Grammars) (seen : SeenFiles) (begun : Scanner R) → HasAdded grammars seen begun [] begun
+added_none grammars seen begun refused rules most files has sees = has
+
+-- one more file
+module _ {R : Type 0} (grammars : R → Grammars) (seen : SeenFiles) (begun now next : Scanner R) (still : now.reader.now ≡ begun.reader.now)
+    (items : List SeenFile) (are : items ≡ seen.files) (i : ℕ) (x d : SeenFile) (lt : i < length items) (is : x ≡ get_or items i d)
+    (results : List Reported) (notices : List Notice) (results_are : results ≡ x.results) (notices_are : notices ≡ x.notices)
+    (adds : (file : File) → IsExactly reported_cmp (IsResultIn (grammars now.reader.now) now.running.items file) results → ((n : Notice) → Among notices n ↔ IsNoticeIn (grammars now.reader.now) now.running.items file n) → Scans (grammars now.reader.now) (file ∷ []) now next) where
+  -- by the reader and the rules with which the scan began
+  module _ (rules : List Rule) (rules_are : now.running.items ≡ rules) (s : IsSeen (grammars begun.reader.now) rules x) where
+    own_results : IsExactly reported_cmp (IsResultIn (grammars now.reader.now) now.running.items (file_of x)) results
+    own_results =
+        let P : R → List Rule → List Reported → Type 0 = λ r rs l. IsExactly reported_cmp (IsResultIn (grammars r) rs (file_of x)) l in
+        let A : List Reported → Type 0 = λ l. P begun.reader.now rules l in
+        let B : List Rule → Type 0 = λ rs. P begun.reader.now rs results in
+        let C : R → Type 0 = λ r. P r now.running.items results in
+        subst C (sym still) (subst B (sym rules_are) (subst A (sym results_are) s.results))
+
+    own_notices : (n : Notice) → Among notices n ↔ IsNoticeIn (grammars now.reader.now) now.running.items (file_of x) n
+    own_notices =
+        let P : R → List Rule → List Notice → Type 0 = λ r rs l. (n : Notice) → Among l n ↔ IsNoticeIn (grammars r) rs (file_of x) n in
+        let A : List Notice → Type 0 = λ l. P begun.reader.now rules l in
+        let B : List Rule → Type 0 = λ rs. P begun.reader.now rs notices in
+        let C : R → Type 0 = λ r. P r now.running.items notices in
+        subst C (sym still) (subst B (sym rules_are) (subst A (sym notices_are) s.notices))
+
+    own_scan : Scans (grammars begun.reader.now) (file_of x ∷ []) now next
+    own_scan = let P : R → Type 0 = λ r. Scans (grammars r) (file_of x ∷ []) now next in subst P still (adds (file_of x) own_results own_notices)
+
+  there : Among seen.files x
+  there = let P : List SeenFile → Type 0 = λ l. Among l x in subst P are (let Q : SeenFile → Type 0 = λ y. Among items y in subst Q (sym is) (among_items items i d lt))
+
+  joined : map file_of (take i items) ++ file_of x ∷ [] ≡ map file_of (take (i + 1) items)
+  joined = sym (map-append file_of (take i items) (x ∷ [])) ∙ ap (map file_of) (sym (one_taken items i x d lt is))
+
+  in_order : (files : List File) → map file_of seen.files ≡ files → IsAscending file_cmp files → IsAscending file_cmp (map file_of (take i items) ++ file_of x ∷ [])
+  in_order files files_are up =
+      let P : List File → Type 0 = λ fs. IsAscending file_cmp fs in
+      let whole : files ≡ map file_of (take (i + 1) items) ++ map file_of (drop (i + 1) items) =
+      sym files_are ∙ ap (map file_of) (sym are) ∙ ap (map file_of) (sym (take-append-drop (i + 1) items)) ∙ map-append file_of (take (i + 1) items) (drop (i + 1) items) in
+      subst P (sym joined) (ascends_front file_cmp (map file_of (take (i + 1) items)) (map file_of (drop (i + 1) items)) (subst P whole up))
+
+  pub added_more : HasAdded (grammars begun.reader.now) seen begun (map file_of (take i items)) now → HasAdded (grammars begun.reader.now) seen begun (map file_of (take (i + 1) items)) next
+  added_more far refused rules most files has sees =
+      let done = map file_of (take i items) in
+      let so_far = far refused rules most files has sees in
+      let P : List File → Type 0 = λ fs. HasScanned (grammars begun.reader.now) refused rules most fs next in
+      subst P joined (own_scan (running refused rules) so_far.rules (sees.all x there) refused rules most done (in_order files sees.files_are sees.ordered) so_far)
+
+-- all files
+pub added_all : {R : Type 0} (grammars : Grammars) (seen : SeenFiles) (begun now : Scanner R) (items : List SeenFile) → items ≡ seen.files → (i : ℕ) → length items ≤ i → HasAdded grammars seen begun (map file_of (take i items)) now
+    → (refused : List (List ℕ)) (rules : List RuleFile) (most : ℕ) (files : List File) → HasScanned grammars refused rules most [] begun → HasSeen grammars (running refused rules) files seen → HasScanned grammars refused rules most files now
+added_all grammars seen begun now items are i end far refused rules most files has sees =
+    let P : List File → Type 0 = λ fs. HasScanned grammars refused rules most fs now in
+    subst P (ap (map file_of) (take_all i items end ∙ are) ∙ sees.files_are) (far refused rules most files has sees)
+
+-- what is said after a scan by its own reader is said by that with which it began
+pub after_all : {R : Type 0} (grammars : R → Grammars) (begun scanned : Scanner R) → scanned.reader.now ≡ begun.reader.now → (refused : List (List ℕ)) (rules : List RuleFile) (most : ℕ) (files : List File) → HasScanned (grammars begun.reader.now) refused rules most files scanned
+    → (P : Grammars → List (List ℕ) → List RuleFile → ℕ → List File → Type 0) → AfterScan (grammars scanned.reader.now) scanned P → P (grammars begun.reader.now) refused rules most files
+after_all {R} grammars begun scanned still refused rules most files has P h = let Q : R → Type 0 = λ r. AfterScan (grammars r) scanned P in subst Q still h refused rules most files has
