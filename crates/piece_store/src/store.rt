@@ -6,6 +6,7 @@ ghost use Rattle.std.specs.Str.{bytes_eq};
 ghost use Rattle.std.specs.BTreeMap.{get};
 ghost use Rattle.piece_store.specs.Slots.{marked, turned};
 ghost use Rattle.piece_store.specs.Kept.{kept, put_pair, put_piece, IsSound, IsRowOf, row_answer};
+ghost use Rattle.piece_store.specs.declared.row.Row.{Row as a_row};
 
 use crate::answer::Answer;
 use crate::row::Row;
@@ -70,6 +71,10 @@ impl<P: Ord + Drop, Q: Ord + Drop, V: Answer> Store<P, Q, V> {
         ensures number { IfOk result (λ i. get Q.cmp self.new.numbers pattern ≡ Some i) }
         ensures same { (o : list ℕ) → (p : P) → (q : Q) →
             kept P.cmp Q.cmp self.new o p q ≡ kept P.cmp Q.cmp self.old o p q }
+        // So do rows that were taken out.
+        ensures fit { (row : a_row V) → IsRowOf self.old row → IsRowOf self.new row }
+        ensures rows { (row : a_row V) → IsRowOf self.old row → (q : Q) →
+            row_answer Q.cmp self.new row q ≡ row_answer Q.cmp self.old row q }
     {
         if let Some(number) = self.numbers.get(&pattern) {
             return Ok(*number);
@@ -148,6 +153,8 @@ impl<P: Ord + Drop, Q: Ord + Drop, V: Answer> Store<P, Q, V> {
         requires sound { IsSound P.cmp Q.cmp V.empty self.old }
         requires fits { IsRowOf self.old row }
         ensures sound { IsSound P.cmp Q.cmp V.empty self.new }
+        ensures numbers { self.new.numbers ≡ self.old.numbers }
+        ensures next { self.new.next ≡ self.old.next }
         ensures ok { OnOk result ((o : list ℕ) → (p : P) → (q : Q) →
             kept P.cmp Q.cmp self.new o p q ≡
             put_piece P.cmp path.now piece (row_answer Q.cmp self.old row)
