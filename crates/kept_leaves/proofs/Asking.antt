@@ -4,12 +4,11 @@ use Rattle.node_tree.specs.declared.view.Pattern.{Pattern}
 use Rattle.node_match.specs.Sets.{Among}
 use Rattle.file_parts.specs.Parts.{SeenPart, needed_of}
 use Rattle.file_search.specs.Asked.{Asked, AsksFor}
-use Rattle.kept_leaves.specs.declared.search.KeptSearch.{KeptSearch}
-use Rattle.kept_leaves.specs.Asking.{AsksKept, IsNeededBy}
+use Rattle.kept_leaves.specs.Asking.{Search, path_of, kept_by, needed_pairs, StaysIn, AsksKept, IsNeededBy}
 use Rattle.kept_leaves.specs.Growth.{Grows, Meets, Turns}
-use Rattle.kept_leaves.specs.Kept.{Map, IsKept, IsMet, IsEmpty, IsNoneMet, map_of}
+use Rattle.kept_leaves.specs.Kept.{Map, IsKept, IsMet, IsEmpty, IsNoneMet}
 use Rattle.kept_leaves.specs.Pairs.{Pair, IsOneOf}
-use Rattle.kept_leaves.specs.Ready.{SeenFile, pair_of, needed_pairs}
+use Rattle.kept_leaves.specs.Ready.{pair_of, pairs_of}
 use Rattle.kept_leaves.proofs.Growing.{meets_none, meets_as, meets_then}
 
 -- ---- questions one after the other
@@ -20,57 +19,60 @@ at_path path pattern [] y a = absurd a
 at_path path pattern (p ∷ ps) y (inl e) = ap (λ (z : Pair). z.path) e
 at_path path pattern (p ∷ ps) y (inr a) = at_path path pattern ps y a
 
-pub needed_path : (file : SeenFile) (Set : Pattern → Type 0) (x : Pair) → IsNeededBy file Set x → file.path ≡ x.path
-needed_path file Set x (p, s, (y, a, same)) = at_path file.path p (needed_of p file.parts) y a ∙ same.path
+pub needed_path : (search : Search) (Set : Pattern → Type 0) (x : Pair) → IsNeededBy search Set x → (path_of search) ≡ x.path
+needed_path search Set x (p, s, (y, a, same)) = at_path (path_of search) p (needed_of p search.parts) y a ∙ same.path
 
-needs_none : (file : SeenFile) (x : Pair) → ⊥ ↔ IsNeededBy file (Among []) x
-needs_none file x = (λ h. absurd h, λ (p, a, o). absurd a)
+needs_none : (search : Search) (x : Pair) → ⊥ ↔ IsNeededBy search (Among []) x
+needs_none search x = (λ h. absurd h, λ (p, a, o). absurd a)
 
-needs_first : (file : SeenFile) (p : Pattern) (ps : List Pattern) (x : Pair) → (IsOneOf (needed_pairs file p) x ⊎ IsNeededBy file (Among ps) x) → IsNeededBy file (Among (p ∷ ps)) x
-needs_first file p ps x (inl o) = (p, inl refl, o)
-needs_first file p ps x (inr (q, a, o)) = (q, inr a, o)
+needs_first : (search : Search) (p : Pattern) (ps : List Pattern) (x : Pair) → (IsOneOf (needed_pairs search p) x ⊎ IsNeededBy search (Among ps) x) → IsNeededBy search (Among (p ∷ ps)) x
+needs_first search p ps x (inl o) = (p, inl refl, o)
+needs_first search p ps x (inr (q, a, o)) = (q, inr a, o)
 
-needs_which : (file : SeenFile) (p : Pattern) (ps : List Pattern) (x : Pair) → IsNeededBy file (Among (p ∷ ps)) x → IsOneOf (needed_pairs file p) x ⊎ IsNeededBy file (Among ps) x
-needs_which file p ps x (q, inl e, o) = let P : Pattern → Type 0 = λ r. IsOneOf (needed_pairs file r) x in inl (subst P (sym e) o)
-needs_which file p ps x (q, inr a, o) = inr (q, a, o)
+needs_which : (search : Search) (p : Pattern) (ps : List Pattern) (x : Pair) → IsNeededBy search (Among (p ∷ ps)) x → IsOneOf (needed_pairs search p) x ⊎ IsNeededBy search (Among ps) x
+needs_which search p ps x (q, inl e, o) = let P : Pattern → Type 0 = λ r. IsOneOf (needed_pairs search r) x in inl (subst P (sym e) o)
+needs_which search p ps x (q, inr a, o) = inr (q, a, o)
 
--- one question, for an equal pattern
-pub asks_as : (p q : Pattern) (old : KeptSearch) (before : ℕ) (new : KeptSearch) (after : ℕ) → q ≡ p → new.file ≡ old.file
-    → Meets (IsOneOf (needed_pairs old.file q)) (map_of old.kept) before (map_of new.kept) after → AsksKept p old before new after
-asks_as p q old before new after e same met =
-    let P : Pattern → Type 0 = λ r. Meets (IsOneOf (needed_pairs old.file r)) (map_of old.kept) before (map_of new.kept) after in
-    (same, subst P e met)
+-- what a later search of the same file needs is what this one needs
+needs_same : (old new : Search) (Set : Pattern → Type 0) → StaysIn old new → (x : Pair) → IsNeededBy new Set x ↔ IsNeededBy old Set x
+needs_same old new Set stays x =
+    let pairs : (p : Pattern) → needed_pairs new p ≡ needed_pairs old p =
+    λ p. ap (λ (path : List ℕ). pairs_of path p new.parts) stays.path ∙ ap (λ (parts : List SeenPart). pairs_of (path_of old) p parts) stays.parts in (
+      λ (p, s, o). let P : List Pair → Type 0 = λ ys. IsOneOf ys x in (p, s, subst P (pairs p) o),
+      λ (p, s, o). let P : List Pair → Type 0 = λ ys. IsOneOf ys x in (p, s, subst P (sym (pairs p)) o),
+    )
 
 -- the file stays
-pub asked_file : (ps : List Pattern) (old : KeptSearch) (before : ℕ) (new : KeptSearch) (after : ℕ) → Asked AsksKept ps old before new after → new.file ≡ old.file
-asked_file [] old before new after (e, f) = ap (λ (s : KeptSearch). s.file) e
-asked_file (p ∷ ps) old before new after (next, steps, (same, m), rest) = asked_file ps next steps new after rest ∙ same
+pub asked_file : (ps : List Pattern) (old : Search) (before : ℕ) (new : Search) (after : ℕ) → Asked AsksKept ps old before new after → StaysIn old new
+asked_file [] old before new after (e, f) = record { path = ap path_of e; view = ap (λ (s : Search). s.view) e; parts = ap (λ (s : Search). s.parts) e }
+asked_file (p ∷ ps) old before new after (next, steps, (same, m), rest) =
+    let later = asked_file ps next steps new after rest in
+    record { path = later.path ∙ same.path; view = later.view ∙ same.view; parts = later.parts ∙ same.parts }
 
 -- the pairs that the patterns need are met
-pub asked_meets : (ps : List Pattern) (old : KeptSearch) (before : ℕ) (new : KeptSearch) (after : ℕ) → Asked AsksKept ps old before new after
-    → Meets (IsNeededBy old.file (Among ps)) (map_of old.kept) before (map_of new.kept) after
+pub asked_meets : (ps : List Pattern) (old : Search) (before : ℕ) (new : Search) (after : ℕ) → Asked AsksKept ps old before new after
+    → Meets (IsNeededBy old (Among ps)) (kept_by old) before (kept_by new) after
 asked_meets [] old before new after (e, f) =
-    let P : Map → Type 0 = λ map. Meets (IsNeededBy old.file (Among [])) (map_of old.kept) before map after in
-    let Q : ℕ → Type 0 = λ n. Meets (IsNeededBy old.file (Among [])) (map_of old.kept) before (map_of old.kept) n in
-    let none = meets_as (λ x. ⊥) (IsNeededBy old.file (Among [])) (map_of old.kept) before (map_of old.kept) before (needs_none old.file) (meets_none (map_of old.kept) before) in
-    subst P (ap (λ (s : KeptSearch). map_of s.kept) (sym e)) (subst Q (sym f) none)
+    let P : Search → Type 0 = λ s. Meets (IsNeededBy old (Among [])) (kept_by old) before (kept_by s) after in
+    let Q : ℕ → Type 0 = λ n. Meets (IsNeededBy old (Among [])) (kept_by old) before (kept_by old) n in
+    let none = meets_as (λ x. ⊥) (IsNeededBy old (Among [])) (kept_by old) before (kept_by old) before (needs_none old) (meets_none (kept_by old) before) in
+    subst P (sym e) (subst Q (sym f) none)
 asked_meets (p ∷ ps) old before new after (next, steps, (same, m), rest) =
-    let P : SeenFile → Type 0 = λ file. Meets (IsNeededBy file (Among ps)) (map_of next.kept) steps (map_of new.kept) after in
-    let later = subst P same (asked_meets ps next steps new after rest) in
-    let First : Pair → Type 0 = IsOneOf (needed_pairs old.file p) in
-    let Later : Pair → Type 0 = IsNeededBy old.file (Among ps) in
-    let both = meets_then First Later (map_of old.kept) before (map_of next.kept) steps (map_of new.kept) after m later in
-    meets_as (λ x. First x ⊎ Later x) (IsNeededBy old.file (Among (p ∷ ps))) (map_of old.kept) before (map_of new.kept) after
-    (λ x. (needs_first old.file p ps x, needs_which old.file p ps x)) both
+    let later = meets_as (IsNeededBy next (Among ps)) (IsNeededBy old (Among ps)) (kept_by next) steps (kept_by new) after (needs_same old next (Among ps) same) (asked_meets ps next steps new after rest) in
+    let First : Pair → Type 0 = IsOneOf (needed_pairs old p) in
+    let Later : Pair → Type 0 = IsNeededBy old (Among ps) in
+    let both = meets_then First Later (kept_by old) before (kept_by next) steps (kept_by new) after m later in
+    meets_as (λ x. First x ⊎ Later x) (IsNeededBy old (Among (p ∷ ps))) (kept_by old) before (kept_by new) after
+    (λ x. (needs_first old p ps x, needs_which old p ps x)) both
 
-module _ (Set : Pattern → Type 0) (old : KeptSearch) (before : ℕ) (new : KeptSearch) (after : ℕ) (a : AsksFor AsksKept Set old before new after) where
-  pub asks_for_file : new.file ≡ old.file
+module _ (Set : Pattern → Type 0) (old : Search) (before : ℕ) (new : Search) (after : ℕ) (a : AsksFor AsksKept Set old before new after) where
+  pub asks_for_file : StaysIn old new
   asks_for_file = asked_file a.patterns old before new after a.asked
 
   -- the pairs that the set needs are met
-  pub asks_for_meets : Meets (IsNeededBy old.file Set) (map_of old.kept) before (map_of new.kept) after
+  pub asks_for_meets : Meets (IsNeededBy old Set) (kept_by old) before (kept_by new) after
   asks_for_meets =
-      meets_as (IsNeededBy old.file (Among a.patterns)) (IsNeededBy old.file Set) (map_of old.kept) before (map_of new.kept) after
+      meets_as (IsNeededBy old (Among a.patterns)) (IsNeededBy old Set) (kept_by old) before (kept_by new) after
       (λ x. (λ (p, b, o). (p, (a.all p).0 b, o), λ (p, s, o). (p, (a.all p).1 s, o))) (asked_meets a.patterns old before new after a.asked)
 
 -- ---- what a turn leaves

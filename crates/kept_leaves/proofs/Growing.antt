@@ -1,7 +1,7 @@
 -- What is kept grows by the needed pairs, and each new one takes one step: by no call, by a call, by two one after the other.
-use Rattle.std.proofs.Common.{◌≡◌, ℕ, ◌+◌, List, [], ◌∷◌, ◌++◌, ◌⊎◌, ◌↔◌, length, refl, arith}
+use Rattle.std.proofs.Common.{◌≡◌, ℕ, ◌+◌, List, [], ◌∷◌, ◌++◌, ◌⊎◌, inl, inr, ◌↔◌, length, refl, arith}
 use Rattle.kept_leaves.specs.Growth.{Meets}
-use Rattle.kept_leaves.specs.Kept.{Map}
+use Rattle.kept_leaves.specs.Kept.{PieceRef, PatternRef, Map}
 use Rattle.kept_leaves.specs.Pairs.{Pair}
 use Rattle.kept_leaves.proofs.Laws.{grows_none, grows_as, grows_then}
 
@@ -21,3 +21,13 @@ meets_then N M old before mid between new after (ns, g, e) (ms, h, f) =
     let both = length_both ns ms in
     let steps : after ≡ before + length (ns ++ ms) = omega (arith, e, f, both) in
     (ns ++ ms, grows_then old mid new N M ns ms g h, steps)
+
+-- maps that are the same for all keys
+pub meets_between : (N : Pair → Type 0) (first old new last : Map) (before after : ℕ)
+    → ((path : List ℕ) (a : PieceRef) (b : PatternRef) → old path a b ≡ first path a b) → ((path : List ℕ) (a : PieceRef) (b : PatternRef) → last path a b ≡ new path a b)
+    → Meets N old before new after → Meets N first before last after
+meets_between N first old new last before after into out met =
+    let begun = meets_then (λ x. ⊥) N first before old before new after ([], grows_none first old into, omega arith) met in
+    let ended = meets_then (λ x. ⊥ ⊎ N x) (λ x. ⊥) first before new after last after begun ([], grows_none new last out, omega arith) in
+    meets_as (λ x. (⊥ ⊎ N x) ⊎ ⊥) N first before last after
+    (λ x. (λ h. elim h [ inl b ↦ (elim b [ inl n ↦ absurd n | inr y ↦ y ]) | inr n ↦ absurd n ], λ y. inl (inr y))) ended

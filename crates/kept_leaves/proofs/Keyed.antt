@@ -1,13 +1,14 @@
 -- What keys tell of pairs.
-use Rattle.std.proofs.Common.{◌≡◌, ◌∙◌, ℕ, List, [], ◌++◌, refl, sym, ap, subst, Bool, true, false, arith}
-use Rattle.std.specs.Prelude.{Option, None, Some}
+use Rattle.std.proofs.Common.{◌≡◌, ◌∙◌, ℕ, List, [], ◌++◌, refl, sym, ap, subst, Bool, true, false, cond, ◌∷◌, arith}
+use Rattle.std.specs.Prelude.{Option, None, Some, ◌&&◌}
+use Rattle.std.specs.Str.{bytes_eq}
 use Rattle.std.specs.declared.cmp.Ordering.{Ordering}
 use Rattle.std.specs.declared.cmp.Ordering.TheVariants.{Less, Equal, Greater}
 use Rattle.std.specs.Ordering.{nat_cmp, ordering_then, is_eq}
 use Rattle.std.specs.Cmp.{IsTotalOrder}
 use Rattle.std.specs.Cmp.Lexicographic.{slice_cmp, bytes_decides}
 use Rattle.std.specs.BTreeMap.{get}
-use Rattle.std.proofs.lemmas.Cmp.{tied_itself, on_total, then_total, nat_list_cmp_total}
+use Rattle.std.proofs.lemmas.Cmp.{tied_itself, alike_right, on_total, then_total, nat_list_cmp_total}
 use Rattle.std.proofs.lemmas.Map.Text.{is_eq-slice_cmp}
 use denote.Enum.Bare.{tag_one}
 use denote.Enum.Declared.{tag_of}
@@ -21,12 +22,16 @@ use Rattle.piece_form.specs.Code.{code_of, lang_place, bool_place, pattern_code,
 use Rattle.piece_form.specs.Identity.{Identity}
 use Rattle.piece_form.proofs.Telling.{tree_tells, keys_tell}
 use Rattle.piece_store.specs.declared.table.Table.{Table}
-use Rattle.piece_store.specs.Kept.{answer_of, by_number}
-use Rattle.piece_store.specs.Slots.{row_slot}
+use Rattle.piece_store.specs.Kept.{answer_of, by_number, row_answer}
+use Rattle.piece_store.specs.Slots.{slot, row_slot}
 use Rattle.piece_store.specs.Views.{at, met_by, table_slot}
 use Rattle.piece_store.proofs.ByNumber.{same_found, by_numbers}
 use Rattle.kept_leaves.specs.declared.leaf.KeptLeaf.{KeptLeaf}
 use Rattle.kept_leaves.specs.Kept.{PieceRef, PatternRef, Map, Leaves, kept_in, piece_cmp, pattern_cmp, AreKeys}
+use Rattle.kept_leaves.specs.declared.leaf.OpenLeaves.{OpenLeaves}
+use Rattle.kept_leaves.specs.Opened.{open_map}
+use Rattle.open_store.specs.declared.held.HeldRow.{HeldRow}
+use Rattle.open_store.specs.InHand.{with_rows}
 use Rattle.kept_leaves.specs.Pairs.{Pair, IsSamePair}
 
 -- ---- orders
@@ -37,12 +42,12 @@ piece_total = then_total (on_total (λ (a : PieceRef). a.value.bytes.items) nat_
 pub pattern_total : IsTotalOrder pattern_cmp
 pattern_total = on_total (λ (b : PatternRef). b.value.numbers.items) nat_list_cmp_total
 
-both_equal : (r s : Ordering) → ordering_then r s ≡ Equal → (r ≡ Equal) × (s ≡ Equal)
+pub both_equal : (r s : Ordering) → ordering_then r s ≡ Equal → (r ≡ Equal) × (s ≡ Equal)
 both_equal Less s e = absurd cc
 both_equal Equal s e = (refl, e)
 both_equal Greater s e = absurd cc
 
-text_one : (xs ys : List ℕ) → slice_cmp nat_cmp xs ys ≡ Equal → xs ≡ ys
+pub text_one : (xs ys : List ℕ) → slice_cmp nat_cmp xs ys ≡ Equal → xs ≡ ys
 text_one xs ys e = (bytes_decides xs ys).0 (sym (is_eq-slice_cmp xs ys) ∙ ap is_eq e)
 
 text_tied : (xs ys : List ℕ) → xs ≡ ys → slice_cmp nat_cmp xs ys ≡ Equal
@@ -115,3 +120,20 @@ pub store_alike : (store : Leaves) → IsAlike (kept_in store)
 store_alike store path a c b d e f =
     ap (by_number (λ i. answer_of store.empty (at piece_cmp store.shelf path a i))) (same_found pattern_cmp pattern_total b d f store.numbers.entries)
     ∙ by_numbers (λ i. answer_of store.empty (at piece_cmp store.shelf path a i)) (λ i. answer_of store.empty (at piece_cmp store.shelf path c i)) (λ i. ap (answer_of store.empty) (slot_alike _ a c i e)) (get pattern_cmp store.numbers d)
+
+-- the same of rows in hand
+module _ (leaves : OpenLeaves) where
+  abbrev seen : List (HeldRow PieceRef KeptLeaf) → Map
+  seen rows = with_rows piece_cmp pattern_cmp leaves.store.store leaves.store.path rows
+
+  rows_alike : (path : List ℕ) (a c : PieceRef) (b d : PatternRef) → piece_cmp a c ≡ Equal → pattern_cmp b d ≡ Equal → (rows : List (HeldRow PieceRef KeptLeaf)) → seen rows path a b ≡ seen rows path c d
+  rows_alike path a c b d e f [] = store_alike leaves.store.store path a c b d e f
+  rows_alike path a c b d e f (r ∷ rs) =
+      let store = leaves.store.store in
+      let own = bytes_eq leaves.store.path path in
+      ap (λ (o : Ordering). cond (own && is_eq o) (row_answer pattern_cmp store r.row b) (seen rs path a b)) (alike_right piece_total a c r.piece e)
+      ∙ ap (λ (n : Option ℕ). cond (own && is_eq (piece_cmp r.piece c)) (by_number (λ i. answer_of store.empty (slot r.row i)) n) (seen rs path a b)) (same_found pattern_cmp pattern_total b d f store.numbers.entries)
+      ∙ ap (λ (x : Option (KeptLeaf × Bool)). cond (own && is_eq (piece_cmp r.piece c)) (row_answer pattern_cmp store r.row d) x) (rows_alike path a c b d e f rs)
+
+  pub open_alike : IsAlike (open_map leaves)
+  open_alike path a c b d e f = rows_alike path a c b d e f leaves.store.rows.items

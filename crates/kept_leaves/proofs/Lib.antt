@@ -6,3 +6,4 @@ pub mod Needs
 pub mod Growing
 pub mod Meeting
 pub mod Asking
+pub mod Places

@@ -4,22 +4,18 @@ use Rattle.std.specs.Prelude.{Option, None, Some, is_some, Result, Ok, Err, OnOk
 use Rattle.node_tree.specs.declared.view.Pattern.{Pattern}
 use Rattle.piece_form.specs.declared.piece.Piece.{Piece}
 use Rattle.file_parts.specs.Parts.{SeenPart, is_needed}
-use Rattle.piece_form.specs.declared.key.PatternKey.{PatternKey}
-use Rattle.piece_form.specs.declared.key.PieceKey.{PieceKey}
-use Rattle.piece_form.specs.Code.{pattern_code}
 use Rattle.piece_form.specs.Identity.{IsSamePiece}
-use Rattle.piece_form.specs.Keys.{IsKeyOf}
 use Rattle.piece_store.specs.Kept.{put_pair}
 use Rattle.piece_store.specs.Slots.{marked}
 use Rattle.tree_match.specs.declared.leaf.Leaf.{Leaf}
 use Rattle.tree_match.specs.Leaf.{IsLeaf}
 use Rattle.piece_match.specs.Pieces.{IsPieceMember, known_piece}
 use Rattle.kept_leaves.specs.declared.leaf.KeptLeaf.{KeptLeaf}
-use Rattle.kept_leaves.specs.Kept.{PieceRef, PatternRef, Map, Leaves, kept_in, piece_cmp, pattern_cmp, AreKeys, AreRight}
+use Rattle.kept_leaves.specs.Kept.{PieceRef, PatternRef, Map, piece_cmp, pattern_cmp, AreKeys, AreRight}
 use Rattle.kept_leaves.specs.Growth.{Stays, Grows, Meets}
 use Rattle.kept_leaves.specs.Pairs.{Pair, IsSamePair, IsOneOf}
-use Rattle.kept_leaves.specs.Ready.{IsReadyPart, pair_of, pairs_of}
-use Rattle.kept_leaves.proofs.Keyed.{IsAlike, store_alike, tied}
+use Rattle.kept_leaves.specs.Ready.{pair_of, pairs_of}
+use Rattle.kept_leaves.proofs.Keyed.{IsAlike, tied}
 use Rattle.kept_leaves.proofs.Laws.{some_pair, grows_none, grows_then, grows_as, stays_as, right_as}
 use Rattle.kept_leaves.proofs.Growing.{meets_none, meets_as}
 use Rattle.kept_leaves.proofs.Needs.{pair_here, pair_out}
@@ -101,21 +97,6 @@ pub on_err_of : {X E : Type 0} (P : Type 0) (r : Result X E) → P → OnErr r P
 on_err_of P (Ok x) p = tt
 on_err_of P (Err e) p = p
 
--- the keys of a part that is ready and of a pattern that is
-pub keys_of : (path : List ℕ) (part : SeenPart) (pattern : Pattern) (key : PieceRef) (code : PatternRef) (seen : SeenPart) (written : Pattern) (ready : Option Piece)
-    → IsReadyPart seen key ready → seen ≡ part → code.value.numbers.items ≡ pattern_code written → written ≡ pattern → AreKeys (pair_of path pattern part) key code
-keys_of path part pattern key code seen written ready is e numbers f = record {
-  of_piece = (let P : SeenPart → Type 0 = λ s. IsKeyOf s.placed.piece key.value in subst P e is.of_piece);
-  of_pattern = numbers ∙ ap pattern_code f;
-}
-
--- copies of keys are keys
-pub keys_copied : (x : Pair) (a c : PieceRef) (b d : PatternRef) → AreKeys x a b → c.value ≡ a.value → d.value ≡ b.value → AreKeys x c d
-keys_copied x a c b d keys e f = record {
-  of_piece = (let P : PieceKey → Type 0 = λ k. IsKeyOf x.piece k in subst P (sym e) keys.of_piece);
-  of_pattern = ap (λ (k : PatternKey). k.numbers.items) f ∙ keys.of_pattern;
-}
-
 -- one part and one pattern
 module _ (path : List ℕ) (part : SeenPart) (pattern : Pattern) where
   abbrev pub Wanted : Pair → Type 0
@@ -125,27 +106,24 @@ module _ (path : List ℕ) (part : SeenPart) (pattern : Pattern) where
   pub not_wanted : is_needed pattern part ≡ false → (map : Map) (n : ℕ) → Meets Wanted map n map n
   not_wanted e map n = meets_as (λ x. ⊥) Wanted map n map n (pair_out pattern part path e) (meets_none map n)
 
-  module _ (needs : is_needed pattern part ≡ true) (s0 s1 : Leaves) (a : PieceRef) (b : PatternRef) (keys : AreKeys (pair_of path pattern part) a b)
-      (mark : (o : List ℕ) (p : PieceRef) (q : PatternRef) → kept_in s1 o p q ≡ put_pair piece_cmp pattern_cmp path a b (marked (kept_in s0 path a b)) (kept_in s0) o p q) where
+  module _ (needs : is_needed pattern part ≡ true) (old mid : Map) (alike : IsAlike old) (a : PieceRef) (b : PatternRef) (keys : AreKeys (pair_of path pattern part) a b)
+      (mark : (o : List ℕ) (p : PieceRef) (q : PatternRef) → mid o p q ≡ put_pair piece_cmp pattern_cmp path a b (marked (old path a b)) old o p q) where
     abbrev here : Pair
     here = pair_of path pattern part
 
     -- its pair was kept
-    pub meets_marked : is_some (kept_in s0 path a b) ≡ true → (n : ℕ) → Meets Wanted (kept_in s0) n (kept_in s1) n
+    pub meets_marked : is_some (old path a b) ≡ true → (n : ℕ) → Meets Wanted old n mid n
     meets_marked told n =
-        meets_as (IsSamePair here) Wanted (kept_in s0) n (kept_in s1) n (pair_here pattern part path needs)
-        ([], marked_grows (kept_in s0) (kept_in s1) (store_alike s0) here a b keys mark told, omega arith)
+        meets_as (IsSamePair here) Wanted old n mid n (pair_here pattern part path needs)
+        ([], marked_grows old mid alike here a b keys mark told, omega arith)
 
     -- it is matched and kept
-    module _ (told : is_some (kept_in s0 path a b) ≡ false) (s2 : Leaves) (c : PieceRef) (d : PatternRef) (e : c.value ≡ a.value) (f : d.value ≡ b.value) (leaf : Leaf)
-        (keep : (o : List ℕ) (p : PieceRef) (q : PatternRef) → kept_in s2 o p q ≡ put_pair piece_cmp pattern_cmp path c d (some_pair leaf true) (kept_in s1) o p q) where
-      its : AreKeys here c d
-      its = keys_copied here a c b d keys e f
-
-      pub meets_kept : (n m : ℕ) → m ≡ n + 1 → Meets Wanted (kept_in s0) n (kept_in s2) m
+    module _ (told : is_some (old path a b) ≡ false) (new : Map) (leaf : Leaf)
+        (keep : (o : List ℕ) (p : PieceRef) (q : PatternRef) → new o p q ≡ put_pair piece_cmp pattern_cmp path a b (some_pair leaf true) mid o p q) where
+      pub meets_kept : (n m : ℕ) → m ≡ n + 1 → Meets Wanted old n new m
       meets_kept n m g =
-          meets_as (IsSamePair here) Wanted (kept_in s0) n (kept_in s2) m (pair_here pattern part path needs)
-          (here ∷ [], kept_grows (kept_in s0) (kept_in s1) (store_alike s0) here a b keys mark told (kept_in s2) c d its leaf keep, g)
+          meets_as (IsSamePair here) Wanted old n new m (pair_here pattern part path needs)
+          (here ∷ [], kept_grows old mid alike here a b keys mark told new a b keys leaf keep, g)
 
-      pub rights_kept : ((p : Piece) → IsSamePiece part.placed.piece p → IsLeaf (IsPieceMember pattern (known_piece p)) leaf) → AreRight (kept_in s0) → AreRight (kept_in s2)
-      rights_kept exact right = kept_right (kept_in s0) (kept_in s1) (store_alike s0) here a b keys mark told (kept_in s2) c d its leaf keep exact right
+      pub rights_kept : ((p : Piece) → IsSamePiece part.placed.piece p → IsLeaf (IsPieceMember pattern (known_piece p)) leaf) → AreRight old → AreRight new
+      rights_kept exact right = kept_right old mid alike here a b keys mark told new a b keys leaf keep exact right

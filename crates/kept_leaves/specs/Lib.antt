@@ -2,4 +2,5 @@ pub mod Pairs
 pub mod Kept
 pub mod Growth
 pub mod Ready
+pub mod Opened
 pub mod Asking

@@ -1,6 +1,5 @@
 -- What is ready to be looked up.
 use Rattle.std.specs.Prelude.{◌≡◌, ℕ, List, map, Option, IfSome}
-use Rattle.node_tree.specs.declared.view.FileView.{FileView}
 use Rattle.node_tree.specs.declared.view.Pattern.{Pattern}
 use Rattle.piece_form.specs.declared.piece.Piece.{Piece}
 use Rattle.piece_form.specs.Keys.{IsKeyOf}
@@ -13,12 +12,6 @@ pub record IsReadyPart (part : SeenPart) (key : PieceRef) (ready : Option Piece)
   pub of_piece : IsKeyOf part.placed.piece key.value
   pub same : IfSome ready (λ p. p ≡ part.placed.piece)
 
--- a file with its path and its parts
-pub record SeenFile : Type 0 where
-  pub path : List ℕ
-  pub view : FileView
-  pub parts : List SeenPart
-
 -- the pair of a part and a pattern
 abbrev pub pair_of : List ℕ → Pattern → SeenPart → Pair
 pair_of path pattern part = record { path = path; piece = part.placed.piece; pattern = pattern }
@@ -26,7 +19,3 @@ pair_of path pattern part = record { path = path; piece = part.placed.piece; pat
 -- the pairs of those of these parts that a pattern needs
 abbrev pub pairs_of : List ℕ → Pattern → List SeenPart → List Pair
 pairs_of path pattern parts = map (pair_of path pattern) (needed_of pattern parts)
-
--- the pairs of a file that a pattern needs
-abbrev pub needed_pairs : SeenFile → Pattern → List Pair
-needed_pairs file pattern = pairs_of file.path pattern file.parts

@@ -2,6 +2,7 @@
 
 ghost use Rattle.kept_leaves.specs.Kept.{nothing};
 
+use open_store::OpenStore;
 use piece_form::{PatternKey, PieceKey};
 use piece_store::{Answer, Store};
 use std::rc::Rc;
@@ -28,4 +29,10 @@ impl Answer for KeptLeaf {
 #[derive(Drop)]
 pub struct KeptPairs {
     pub store: Store<Rc<PieceKey>, Rc<PatternKey>, KeptLeaf>,
+}
+
+/// The same while a file is searched: the rows of the file's pieces are in hand.
+#[derive(Drop)]
+pub struct OpenLeaves {
+    pub store: OpenStore<Rc<PieceKey>, Rc<PatternKey>, KeptLeaf>,
 }

@@ -6,14 +6,12 @@
 
 mod kept;
 mod leaf;
+mod matching;
+mod opening;
 mod part;
-mod parts;
-mod pattern;
 mod search;
 
 pub use kept::KeptLeaves;
-pub use leaf::{KeptLeaf, KeptPairs};
+pub use leaf::{KeptLeaf, KeptPairs, OpenLeaves};
 pub use part::ReadyPart;
-pub use parts::ReadyParts;
-pub use pattern::ReadyPattern;
 pub use search::KeptSearch;

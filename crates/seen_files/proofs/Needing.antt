@@ -17,14 +17,14 @@ use Rattle.file_parts.specs.Parts.{SeenPart, ArePartsOf, AreFurther, ResolvesToI
 use Rattle.file_parts.proofs.Resolving.{python_resolved, tree_is, all_alike, whole_alike}
 use Rattle.file_search.specs.Asked.{AsksFor}
 use Rattle.kept_leaves.specs.declared.leaf.KeptPairs.{KeptPairs}
-use Rattle.kept_leaves.specs.declared.search.KeptSearch.{KeptSearch}
-use Rattle.kept_leaves.specs.Asking.{AsksKept, IsNeededBy}
+use Rattle.kept_leaves.specs.Asking.{Search, path_of, kept_by, AsksKept, IsNeededBy}
 use Rattle.kept_leaves.specs.Growth.{Meets}
 use Rattle.kept_leaves.specs.Kept.{Map, map_of}
+use Rattle.kept_leaves.specs.Opened.{SeesSame}
 use Rattle.kept_leaves.specs.Pairs.{Pair, IsOneOf}
-use Rattle.kept_leaves.specs.Ready.{pair_of, pairs_of, SeenFile as ReadyFile}
+use Rattle.kept_leaves.specs.Ready.{pair_of, pairs_of}
 use Rattle.kept_leaves.proofs.Asking.{asks_for_meets}
-use Rattle.kept_leaves.proofs.Growing.{meets_as, meets_none}
+use Rattle.kept_leaves.proofs.Growing.{meets_as, meets_between, meets_none}
 use Rattle.kept_leaves.proofs.Pairs.{one_first, one_second, one_either}
 use Rattle.scan_session.specs.Asking.{IsAskedFor}
 use Rattle.scan_session.specs.Fresh.{File}
@@ -103,20 +103,18 @@ module _ (path : List ℕ) (pattern : Pattern) where
 
 module _ (rules : List Rule) (path : List ℕ) (view : FileView) where
   -- the pairs by parts of the file
-  needed_by : (file : ReadyFile) → file.path ≡ path → ArePartsOf view file.parts → (x : Pair) → IsNeededBy file (IsAskedFor path view.lang rules) x ↔ IsNeededIn rules path view x
-  needed_by file e are x = (
-    λ (p, asked, o). let P : List ℕ → Type 0 = λ a. IsOneOf (pairs_of a p file.parts) x in record { parts = file.parts; are = are; pattern = p; asked = asked; one = subst P e o },
-    λ n. let P : List ℕ → Type 0 = λ a. IsOneOf (pairs_of a n.pattern file.parts) x in (n.pattern, n.asked, subst P (sym e) (parts_alike path n.pattern view n.parts file.parts n.are are x n.one)),
+  needed_by : (search : Search) → path_of search ≡ path → ArePartsOf view search.parts → (x : Pair) → IsNeededBy search (IsAskedFor path view.lang rules) x ↔ IsNeededIn rules path view x
+  needed_by search e are x = (
+    λ (p, asked, o). let P : List ℕ → Type 0 = λ a. IsOneOf (pairs_of a p search.parts) x in record { parts = search.parts; are = are; pattern = p; asked = asked; one = subst P e o },
+    λ n. let P : List ℕ → Type 0 = λ a. IsOneOf (pairs_of a n.pattern search.parts) x in (n.pattern, n.asked, subst P (sym e) (parts_alike path n.pattern view n.parts search.parts n.are are x n.one)),
   )
 
-  pub looked : (had now : KeptPairs) (file : ReadyFile) (old new : KeptSearch) (before after : ℕ) → old.kept ≡ had → old.file ≡ file → file.path ≡ path → ArePartsOf view file.parts → now ≡ new.kept
+  pub looked : (had now : KeptPairs) (old new : Search) (before after : ℕ) → SeesSame (map_of had) (kept_by old) → path_of old ≡ path → ArePartsOf view old.parts → SeesSame (kept_by new) (map_of now)
       → AsksFor AsksKept (IsAskedFor path view.lang rules) old before new after → Meets (IsNeededIn rules path view) (map_of had) before (map_of now) after
-  looked had now file old new before after kept_is file_is e are now_is asked =
-      let F : ReadyFile → Type 0 = λ f. Meets (IsNeededBy f (IsAskedFor path view.lang rules)) (map_of old.kept) before (map_of new.kept) after in
-      let Had : KeptPairs → Type 0 = λ k. Meets (IsNeededIn rules path view) (map_of k) before (map_of new.kept) after in
-      let Now : KeptPairs → Type 0 = λ k. Meets (IsNeededIn rules path view) (map_of had) before (map_of k) after in
-      let m = subst F file_is (asks_for_meets (IsAskedFor path view.lang rules) old before new after asked) in
-      subst Now (sym now_is) (subst Had kept_is (meets_as (IsNeededBy file (IsAskedFor path view.lang rules)) (IsNeededIn rules path view) (map_of old.kept) before (map_of new.kept) after (needed_by file e are) m))
+  looked had now old new before after into e are out asked =
+      meets_between (IsNeededIn rules path view) (map_of had) (kept_by old) (kept_by new) (map_of now) before after into out
+      (meets_as (IsNeededBy old (IsAskedFor path view.lang rules)) (IsNeededIn rules path view) (kept_by old) before (kept_by new) after (needed_by old e are)
+      (asks_for_meets (IsAskedFor path view.lang rules) old before new after asked))
 
 -- ---- the pairs of a file that was seen
 

@@ -15,7 +15,7 @@ ghost use Rattle.seen_files.specs.Seen.{IsSameFile};
 use code_reader::TreeReader;
 use comment_reader::CommentReader;
 use file_parts::parts_of;
-use kept_leaves::{KeptLeaves, KeptSearch, ReadyParts};
+use kept_leaves::{KeptLeaves, KeptSearch};
 use node_tree::{FileView, List, Memory, Steps};
 use report_form::Reported;
 use running_rules::{Noted, Runner};
@@ -40,9 +40,8 @@ fn look<R: CommentReader, L: Ledger>(
     ensures kept { OnOk result (Meets (IsNeededIn running.now path.now view.now) (map_of kept.old) steps.old (map_of kept.new) steps.new) }
 {
     let parts = parts_of(view)?;
-    let file = ReadyParts::of(alloc, path, &parts)?;
     let leaves = mem::replace(kept, KeptLeaves::new(alloc));
-    let mut search = KeptSearch::of(leaves, file);
+    let mut search = KeptSearch::of(alloc, leaves, path, &parts)?;
     let results = scan_view(
         alloc,
         reader,
@@ -53,7 +52,8 @@ fn look<R: CommentReader, L: Ledger>(
         steps,
         notices,
     )?;
-    *kept = search.into_kept();
+    let now = search.into_kept()?;
+    *kept = now;
     Ok(results)
 }
 

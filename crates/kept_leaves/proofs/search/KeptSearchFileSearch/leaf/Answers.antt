@@ -1,7 +1,21 @@
-use Rattle.kept_leaves.proofs.Asking.{asks_as}
+use Rattle.std.proofs.Common.{◌∙◌, List, length, refl, ap, subst}
+use Rattle.std.proofs.lemmas.List.{with_items_is}
+use Rattle.file_parts.specs.Parts.{SeenPart}
+use Rattle.kept_leaves.specs.Asking.{Search, AsksKept}
+use Rattle.kept_leaves.specs.Growth.{Meets}
+use Rattle.kept_leaves.specs.Opened.{open_map}
+use Rattle.kept_leaves.specs.Pairs.{IsOneOf}
+use Rattle.kept_leaves.specs.Ready.{pairs_of}
 use Rattle.kept_leaves.proofs.Meeting.{on_ok_to}
 use Rattle.kept_leaves.proofs.search.KeptSearchFileSearch.leaf.Goals as goal
 
 pub returns-clause-asks : goal.returns-clause-asks
 returns-clause-asks g c =
-    on_ok_to _ _ c.leaf.result (asks_as c.args.pattern.now c.in_ok-pattern.pattern c.args.self.now c.args.steps.now (record { kept = c.leaf.new.self; file = c.leaf.new.file }) c.leaf.new.steps c.in_ok-pattern.ensures c.leaf.ensures.same) c.leaf.ensures.kept
+    let inside = c.self.inside in
+    let pattern = c.args.pattern.now in
+    let items = with_items_is inside.parts c.ask.new.parts (ap length c.ask.ensures.same ∙ c.deref_mut.ensures.len) in
+    let parts = items ∙ c.ask.ensures.same ∙ c.deref_mut.ensures.value in
+    let new : Search = record { leaves = c.ask.new.leaves; view = inside.file.now; parts = _ } in
+    let M : List SeenPart → Type 0 = λ ps. Meets (IsOneOf (pairs_of inside.leaves.store.path pattern ps)) (open_map inside.leaves) c.args.steps.now (open_map c.ask.new.leaves) c.ask.new.steps in
+    let A : Search → Type 0 = λ s. AsksKept pattern s c.args.steps.now new c.ask.new.steps in
+    on_ok_to _ _ c.ask.result (λ kept. subst A c.self.view_is (record { path = c.ask.ensures.keeps.path; view = refl; parts = parts }, subst M c.deref_mut.ensures.value kept)) c.ask.ensures.kept

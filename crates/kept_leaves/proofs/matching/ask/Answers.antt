@@ -1,0 +1,66 @@
+use Rattle.std.proofs.Common.{◌∙◌, ℕ, List, refl, sym, ap, subst}
+use Rattle.piece_form.specs.declared.key.PatternKey.{PatternKey}
+use Rattle.file_parts.specs.declared.joining.PartLeaf.{PartLeaf}
+use Rattle.file_parts.specs.Leaves.{AreLeavesOf}
+use Rattle.file_parts.specs.Parts.{SeenPart, needed_of}
+use Rattle.kept_leaves.specs.declared.leaf.OpenLeaves.{OpenLeaves}
+use Rattle.kept_leaves.specs.Growth.{Meets}
+use Rattle.kept_leaves.specs.Opened.{open_map, IsNumberOf}
+use Rattle.kept_leaves.specs.Pairs.{IsOneOf}
+use Rattle.kept_leaves.specs.Ready.{pairs_of}
+use Rattle.kept_leaves.proofs.Growing.{meets_between}
+use Rattle.kept_leaves.proofs.Laws.{right_as}
+use Rattle.kept_leaves.proofs.Meeting.{on_ok_of}
+use Rattle.kept_leaves.proofs.Places.{number_stays}
+use Rattle.kept_leaves.proofs.matching.ask.Goals as goal
+
+pub returns-in_err-number-clause-leaves : goal.returns-in_err-number-clause-leaves
+returns-in_err-number-clause-leaves g c =
+    let mid : OpenLeaves = record { store = c.number.new.self } in
+    record { is_open = c.number.ensures.open; right = right_as (open_map c.args.leaves.now) (open_map mid) c.number.ensures.same c.requires.leaves.right }
+
+pub meet_needed-requires-clause-leaves : goal.meet_needed-requires-clause-leaves
+meet_needed-requires-clause-leaves g c =
+    let mid : OpenLeaves = record { store = c.number.new.self } in
+    record { is_open = c.number.ensures.open; right = right_as (open_map c.args.leaves.now) (open_map mid) c.number.ensures.same c.requires.leaves.right }
+
+pub meet_needed-requires-clause-number : goal.meet_needed-requires-clause-number
+meet_needed-requires-clause-number g c =
+    record {
+      key = c.in_ok-key.key;
+      of_pattern = ap (λ (k : PatternKey). k.numbers.items) c.in_ok-key.ensures.ok ∙ c.in_ok-of.ensures;
+      found = c.in_ok-number.ensures.number;
+    }
+
+pub leaves_of-requires-clause-number : goal.leaves_of-requires-clause-number
+leaves_of-requires-clause-number g c =
+    let mid : OpenLeaves = record { store = c.number.new.self } in
+    let numbered : IsNumberOf mid c.in_ok-number.number c.args.pattern.now = record {
+      key = c.in_ok-key.key;
+      of_pattern = ap (λ (k : PatternKey). k.numbers.items) c.in_ok-key.ensures.ok ∙ c.in_ok-of.ensures;
+      found = c.in_ok-number.ensures.number;
+    } in
+    number_stays mid c.meet_needed.new.leaves c.in_ok-meet_needed.ensures.stays c.in_ok-number.number c.args.pattern.now numbered
+
+pub returns-clause-exact : goal.returns-clause-exact
+returns-clause-exact g c view are =
+    let pattern = c.args.pattern.now in
+    let P : List SeenPart → Type 0 = λ ps. AreLeavesOf pattern (needed_of pattern ps) c.in_ok-all.all in
+    let Q : List PartLeaf → Type 0 = λ ls. AreLeavesOf pattern (needed_of pattern c.args.parts.now) ls in
+    c.join.ensures.exact pattern view c.args.parts.now are (subst Q (sym c.as_slice.ensures) (subst P c.in_ok-meet_needed.ensures.same c.in_ok-all.ensures))
+
+pub returns-clause-placed : goal.returns-clause-placed
+returns-clause-placed g c view are =
+    let pattern = c.args.pattern.now in
+    let P : List SeenPart → Type 0 = λ ps. AreLeavesOf pattern (needed_of pattern ps) c.in_ok-all.all in
+    let Q : List PartLeaf → Type 0 = λ ls. AreLeavesOf pattern (needed_of pattern c.args.parts.now) ls in
+    c.join.ensures.placed pattern view c.args.parts.now are (subst Q (sym c.as_slice.ensures) (subst P c.in_ok-meet_needed.ensures.same c.in_ok-all.ensures))
+
+pub returns-clause-kept : goal.returns-clause-kept
+returns-clause-kept g c =
+    let mid : OpenLeaves = record { store = c.number.new.self } in
+    let old = c.args.leaves.now in
+    let new = c.meet_needed.new.leaves in
+    let N : List ℕ → Type 0 = λ path. Meets (IsOneOf (pairs_of path c.args.pattern.now c.args.parts.now)) (open_map mid) c.args.steps.now (open_map new) c.meet_needed.new.steps in
+    on_ok_of _ c.join.result (meets_between (IsOneOf (pairs_of old.store.path c.args.pattern.now c.args.parts.now)) (open_map old) (open_map mid) (open_map new) (open_map new) c.args.steps.now c.meet_needed.new.steps
+    c.number.ensures.same (λ path a b. refl) (subst N c.number.ensures.path c.in_ok-meet_needed.ensures.kept))
