@@ -58,10 +58,9 @@ fn prints_where_a_text_stops_being_json(rt: HostRuntime) -> Result<(), Fail> {
 #[test]
 fn refuses_what_is_not_built(rt: HostRuntime) -> Result<(), Fail> {
     let alloc = rt.alloc();
-    let rows: [&[&str]; 6] = [
+    let rows: [&[&str]; 5] = [
         &["check", "python"],
         &["session", "--trace"],
-        &["drill", "3"],
         &["fix", "--trace", "--config", "r.yaml", "."],
         &["scan", "--trace", "--config", "r.yaml", "."],
         &["scan", "--store", "s", "--config", "r.yaml", "."],

@@ -4,6 +4,8 @@
 #[cfg(test)]
 mod checks;
 #[cfg(test)]
+mod drills;
+#[cfg(test)]
 mod fixes;
 #[cfg(test)]
 mod matches;

@@ -7,7 +7,7 @@ use Rattle.std.proofs.Math.Seq.{take-length}
 use Rattle.scan_world.specs.Streams.{AppendsFront}
 use Rattle.node_tree.specs.declared.view.Lang.{Lang}
 use Rattle.scan_world.specs.Files.{Files}
-use Rattle.wire_words.specs.Commands.{Task, Request, Matching, Checking, Scanning, Fixing, Serving}
+use Rattle.wire_words.specs.Commands.{Task, Request, Matching, Checking, Scanning, Fixing, Serving, Drilling}
 use Rattle.run_status.specs.declared.status.Status.{Status}
 use Rattle.run_status.specs.declared.status.Status.TheVariants.{Usage}
 use Rattle.run_status.specs.Ways.{Ways, Printed, PrintedFront, PrintedSome, IsOnlyEnd}
@@ -15,8 +15,8 @@ use Rattle.scan_run.specs.Matching.{Matches}
 use Rattle.scan_run.specs.Checking.{Checks}
 use Rattle.scan_run.specs.Scan.{Scans}
 use Rattle.stream_run.specs.Playing.{PrintsFirst, PrintsFront}
-use Rattle.scan_run.specs.Serving.{setting, Serves, ServesFirst, Fixes}
-use Rattle.scan_run.specs.Run.{Asks, AreOtherWords, Ends, usage, matched, checked, scanned, fixed, served, StartsWith, whole, commands, WritesFront, WritesSome, WritesCommands, IsTold, AreTold, AskToMatch, AskToRead, AskToWrite, AskToServe, AskForNoScan, ScansNothing}
+use Rattle.scan_run.specs.Serving.{setting, Serves, ServesFirst, Fixes, Drills}
+use Rattle.scan_run.specs.Run.{Asks, AreOtherWords, Ends, usage, matched, checked, scanned, fixed, served, drilled, StartsWith, whole, commands, WritesFront, WritesSome, WritesCommands, IsTold, AreTold, AskToMatch, AskToRead, AskToWrite, AskToServe, AskForNoScan, ScansNothing}
 use Rattle.scan_run.proofs.Streaming.{nothing_written}
 
 module _ (words : List (List ℕ)) (left : Option (List ℕ)) (told : Option Files) (refused : List (List ℕ)) where
@@ -33,6 +33,7 @@ module _ (words : List (List ℕ)) (left : Option (List ℕ)) (told : Option Fil
     only_usage _ _ (scanned task _ _ is _) = absurd (other (Scanning task) is)
     only_usage _ _ (fixed task _ _ is _) = absurd (other (Fixing task) is)
     only_usage _ _ (served most trace _ _ is _) = absurd (other (Serving most trace) is)
+    only_usage _ _ (drilled count _ _ is _) = absurd (other (Drilling count) is)
 
   -- ---- words that ask for something
 
@@ -76,6 +77,7 @@ module _ (words : List (List ℕ)) (left : Option (List ℕ)) (told : Option Fil
         only_match s are one t ls (scanned task _ _ is' _) = let e : Matching lang text ≡ Scanning task = only (Scanning task) is' in absurd cc
         only_match s are one t ls (fixed task' _ _ is' _) = let e : Matching lang text ≡ Fixing task' = only (Fixing task') is' in absurd cc
         only_match s are one t ls (served most trace _ _ is' _) = let e : Matching lang text ≡ Serving most trace = only (Serving most trace) is' in absurd cc
+        only_match s are one t ls (drilled count _ _ is' _) = let e : Matching lang text ≡ Drilling count = only (Drilling count) is' in absurd cc
 
     module _ (is : Asks words Checking) where
       run_check : (s : Status) (lines : List (List ℕ)) → Checks left s lines → Ends words left told refused s lines
@@ -95,6 +97,7 @@ module _ (words : List (List ℕ)) (left : Option (List ℕ)) (told : Option Fil
         only_check s are one t ls (scanned task _ _ is' _) = let e : Checking ≡ Scanning task = only (Scanning task) is' in absurd cc
         only_check s are one t ls (fixed task' _ _ is' _) = let e : Checking ≡ Fixing task' = only (Fixing task') is' in absurd cc
         only_check s are one t ls (served most trace _ _ is' _) = let e : Checking ≡ Serving most trace = only (Serving most trace) is' in absurd cc
+        only_check s are one t ls (drilled count _ _ is' _) = let e : Checking ≡ Drilling count = only (Drilling count) is' in absurd cc
 
     module _ (task : Task) (is : Asks words (Scanning task)) where
       run_scan : (s : Status) (lines : List (List ℕ)) → Scans task told refused s lines → Ends words left told refused s lines
@@ -118,6 +121,7 @@ module _ (words : List (List ℕ)) (left : Option (List ℕ)) (told : Option Fil
             one (are (Scanning task) is) t ls (subst P same m)
         only_scan s are one t ls (fixed task' _ _ is' _) = let e : Scanning task ≡ Fixing task' = only (Fixing task') is' in absurd cc
         only_scan s are one t ls (served most trace _ _ is' _) = let e : Scanning task ≡ Serving most trace = only (Serving most trace) is' in absurd cc
+        only_scan s are one t ls (drilled count _ _ is' _) = let e : Scanning task ≡ Drilling count = only (Drilling count) is' in absurd cc
 
     -- of fixes, sessions and drills it is not said that there is no other end
     module _ (r : Request) (is : Asks words r) (other : IsTold left told r → ⊥) where
@@ -133,6 +137,16 @@ module _ (words : List (List ℕ)) (left : Option (List ℕ)) (told : Option Fil
 
       pub front_fix : PrintedFront (Fixes task told refused) w v → WritesFront words left told refused w v
       front_fix = front_by (Fixes task told refused) run_fix w v
+
+    module _ (count : ℕ) (is : Asks words (Drilling count)) where
+      run_drill : (s : Status) (lines : List (List ℕ)) → Drills count refused s lines → Ends words left told refused s lines
+      run_drill s lines d = drilled count s lines is d
+
+      pub ends_drill : (s : Status) → Printed (Drills count refused) w v s → Printed (Ends words left told refused) w v s
+      ends_drill = ends_by (Drills count refused) run_drill w v
+
+      pub front_drill : PrintedFront (Drills count refused) w v → WritesFront words left told refused w v
+      front_drill = front_by (Drills count refused) run_drill w v
 
     module _ (most : ℕ) (trace : Bool) (is : Asks words (Serving most trace)) where
       run_session : (s : Status) (lines : List (List ℕ)) → Serves most told refused left s lines → Ends words left told refused s lines
@@ -206,6 +220,20 @@ module _ (words : List (List ℕ)) where
 
     pub no_fix_in_session : (task : Task) → Asks words (Fixing task) → ⊥
     no_fix_in_session task is = let e : Serving most trace ≡ Fixing task = only (Fixing task) is in absurd cc
+
+  module _ (count : ℕ) (only : Only (Drilling count)) where
+    pub no_match_in_drill : AskToMatch words → ⊥
+    no_match_in_drill (lang, text, is) = let e : Drilling count ≡ Matching lang text = only (Matching lang text) is in absurd cc
+
+    pub no_read_in_drill : AskToRead words → ⊥
+    no_read_in_drill (inl match) = no_match_in_drill match
+    no_read_in_drill (inr is) = let e : Drilling count ≡ Checking = only Checking is in absurd cc
+
+    pub no_fix_in_drill : (task : Task) → Asks words (Fixing task) → ⊥
+    no_fix_in_drill task is = let e : Drilling count ≡ Fixing task = only (Fixing task) is in absurd cc
+
+    pub no_session_in_drill : AskToServe words → ⊥
+    no_session_in_drill (most, trace, is) = let e : Drilling count ≡ Serving most trace = only (Serving most trace) is in absurd cc
 
   -- nor do words for a match, a check or a scan ask for fixes or a session
   pub no_fix_in_match : (lang : Lang) (text : List ℕ) → Only (Matching lang text) → (task : Task) → Asks words (Fixing task) → ⊥

@@ -12,18 +12,18 @@ use Rattle.scan_run.specs.Matching.{Matches}
 use Rattle.scan_run.specs.Checking.{Checks}
 use Rattle.scan_run.specs.Scan.{Scans}
 use Rattle.folder_run.specs.Written.{Wrote, Leaves}
-use Rattle.scan_run.specs.Serving.{setting, Serves, ServesFirst, Fixes}
+use Rattle.scan_run.specs.Serving.{setting, Serves, ServesFirst, Fixes, Drills}
 use Rattle.scan_world.specs.Streams.{AppendsFront}
 use Rattle.run_status.specs.Ways.{AppendsSome}
 
--- a run does what is requested; drills, traces and stores are not built yet
+-- a run does what is requested; traces and stores are not built yet
 abbrev pub IsBuilt : Request → Type 0
 IsBuilt (Matching lang text) = Unit {0}
 IsBuilt Checking = Unit {0}
 IsBuilt (Scanning task) = (task.trace ≡ false) × (task.store ≡ None)
 IsBuilt (Fixing task) = task.trace ≡ false
 IsBuilt (Serving most trace) = trace ≡ false
-IsBuilt (Drilling count) = ⊥
+IsBuilt (Drilling count) = Unit {0}
 
 -- the words ask for this, and a run does it
 pub record Asks (words : List (List ℕ)) (request : Request) : Type 0 where
@@ -43,6 +43,7 @@ pub data Ends (words : List (List ℕ)) (left : Option (List ℕ)) (told : Optio
   scanned : (task : Task) (status : Status) (lines : List (List ℕ)) → Asks words (Scanning task) → Scans task told refused status lines → Ends words left told refused status lines
   fixed : (task : Task) (status : Status) (lines : List (List ℕ)) → Asks words (Fixing task) → Fixes task told refused status lines → Ends words left told refused status lines
   served : (most : ℕ) (trace : Bool) (status : Status) (lines : List (List ℕ)) → Asks words (Serving most trace) → Serves most told refused left status lines → Ends words left told refused status lines
+  drilled : (count : ℕ) (status : Status) (lines : List (List ℕ)) → Asks words (Drilling count) → Drills count refused status lines → Ends words left told refused status lines
 
 -- The first lines of a run: all of them where it does all that it is asked for, or those of the first commands of a session.
 pub data StartsWith (words : List (List ℕ)) (left : Option (List ℕ)) (told : Option Files) (refused : List (List ℕ)) : List (List ℕ) → Type 0 where

@@ -1,5 +1,5 @@
--- What `session` and `fix` do, over the files that a tree tells and the texts of regular expressions that are refused.
-use Rattle.std.specs.Prelude.{ℕ, List, Option}
+-- What `session`, `fix` and `drill` do, over the files that a tree tells and the texts of regular expressions that are refused.
+use Rattle.std.specs.Prelude.{ℕ, List, Option, None}
 use Rattle.scan_world.specs.Files.{Files}
 use Rattle.fix_apply.specs.declared.fixed.FixedFile.{FixedFile}
 use Rattle.languages.specs.Trees.{IsTree, AreKnown}
@@ -10,6 +10,7 @@ use Rattle.workspace.specs.Reports.{Readings, readings_of}
 use Rattle.stream_run.specs.Doing.{Setting}
 use Rattle.stream_run.specs.Playing.{SessionEnds, AreFirstLines}
 use Rattle.folder_run.specs.Ends.{FixEnds}
+use Rattle.drill_run.specs.Drilling.{DrillEnds}
 use Rattle.wire_words.specs.Commands.{Task}
 
 -- what texts and rules say in JSON, Python and C
@@ -33,3 +34,7 @@ FixesWith task told refused status lines fixed = FixEnds (setting task.most told
 
 abbrev pub Fixes : Task → Option Files → List (List ℕ) → Status → List (List ℕ) → Type 0
 Fixes task told refused status lines = (fixed : List FixedFile) × FixesWith task told refused status lines fixed
+
+-- how the drill with so many files ends: whatever a tree tells, and each report has at most 50,000 findings
+abbrev pub Drills : ℕ → List (List ℕ) → Status → List (List ℕ) → Type 0
+Drills count refused status lines = DrillEnds (setting 50000 None refused) count status lines

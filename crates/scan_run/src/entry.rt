@@ -14,7 +14,7 @@ ghost use Rattle.scan_run.specs.Steps.{TakesSteps};
 use crate::checking::run_check;
 use crate::matching::run_match;
 use crate::scan::run_scan;
-use crate::serving::{run_fix, run_session};
+use crate::serving::{run_drill, run_fix, run_session};
 use node_tree::Steps;
 use run_status::Status;
 use rx_text::Patterns;
@@ -23,8 +23,8 @@ use std::alloc::Global;
 use std::sync::ledger::Ledger;
 use wire_words::{Command, read_words};
 
-// Whether a run does what a command asks for. Drills, traces and stores are not built yet: their words are as
-// those outside the table.
+// Whether a run does what a command asks for. Traces and stores are not built yet: their words are as those outside
+// the table.
 fn is_built(command: &Command<'_>) -> bool
     ensures { IsTrue result ↔ IsBuilt (requested command.now) }
 {
@@ -34,7 +34,7 @@ fn is_built(command: &Command<'_>) -> bool
         Command::Scan(job) => !job.trace && job.store.is_none(),
         Command::Fix(job) => !job.trace,
         Command::Session(_, trace) => !*trace,
-        Command::Drill(_) => false,
+        Command::Drill(_) => true,
     }
 }
 
@@ -103,6 +103,6 @@ pub fn run<T: Tree, S: Source, K: Sink, P: Patterns, L: Ledger>(
         Some(Command::Session(most, _trace)) => {
             run_session(alloc, most, tree, input, out, patterns, steps)
         }
-        Some(Command::Drill(_)) => unreachable!(),
+        Some(Command::Drill(count)) => run_drill(alloc, count, tree, out, patterns, steps),
     }
 }

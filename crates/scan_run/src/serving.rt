@@ -1,4 +1,4 @@
-//! The commands that work over a session of their own: `fix` and `session`.
+//! The commands that work over a session of their own: `fix`, `session` and `drill`.
 
 ghost use Rattle.std.specs.Prelude.{◌≡◌};
 ghost use Rattle.scan_world.specs.Faults.{Rose};
@@ -9,8 +9,9 @@ ghost use Rattle.run_status.specs.Status.{IsAnswer, IsCutShort};
 ghost use Rattle.run_status.specs.Ways.{Printed, PrintedFront};
 ghost use Rattle.folder_run.specs.Written.{Wrote, Leaves};
 ghost use Rattle.stream_run.specs.Playing.{PrintsFirst, PrintsFront};
-ghost use Rattle.scan_run.specs.Serving.{setting, Serves, Fixes};
+ghost use Rattle.scan_run.specs.Serving.{setting, Serves, Fixes, Drills};
 
+use drill_run::drill;
 use folder_run::fix_folder;
 use languages::Languages;
 use node_tree::Steps;
@@ -22,6 +23,9 @@ use std::alloc::Global;
 use std::sync::ledger::Ledger;
 use stream_run::serve;
 use wire_words::Job;
+
+// The most findings of a drill's reports.
+const MOST_FINDINGS: u64 = 50_000;
 
 /// Fixes the files under the job's prefix by the rules of its config, as `specs/Serving.antt` says.
 pub fn run_fix<T: Tree, K: Sink, P: Patterns, L: Ledger>(
@@ -77,4 +81,31 @@ pub fn run_session<T: Tree, S: Source, K: Sink, P: Patterns, L: Ledger>(
     let languages = Languages;
     let mut session = Session::new(alloc, &languages, most);
     serve(alloc, &mut session, tree, input, out, patterns, steps)
+}
+
+/// Does the session that is made from the number, and prints its line, as `specs/Serving.antt` says.
+pub fn run_drill<T: Tree, K: Sink, P: Patterns, L: Ledger>(
+    alloc: Global,
+    count: u32,
+    tree: &mut T,
+    out: &mut K,
+    patterns: &mut P,
+    steps: &mut Steps<L>,
+) -> Status
+    ensures ends { IsAnswer result → Printed (Drills count (gained (P.refusals patterns.old) (P.refusals patterns.new))) (K.written out.old) (K.written out.new) result }
+    ensures files_kept { KeepsFiles (T.files tree.old) (T.files tree.new) }
+    ensures tree_kept { IsAnswer result → T.faults tree.new ≡ T.faults tree.old }
+    ensures output_kept { IsAnswer result → K.faults out.new ≡ K.faults out.old }
+    ensures no_input { result ≡ Status.InputFault → ⊥ }
+    ensures there { result ≡ Status.NoSuchPath → ⊥ }
+    ensures tree_fault { result ≡ Status.TreeFault → Rose (T.faults tree.old) (T.faults tree.new) }
+    ensures nothing_written { result ≡ Status.TreeFault → K.written out.new ≡ K.written out.old }
+    ensures unwritten { result ≡ Status.Memory → K.written out.new ≡ K.written out.old }
+    ensures output_fault { result ≡ Status.OutputFault → Rose (K.faults out.old) (K.faults out.new) }
+    ensures front_written { result ≡ Status.OutputFault → PrintedFront (Drills count (gained (P.refusals patterns.old) (P.refusals patterns.new))) (K.written out.old) (K.written out.new) }
+    ensures patterns_grow { Gains (P.refusals patterns.old) (P.refusals patterns.new) }
+{
+    let languages = Languages;
+    let mut session = Session::new(alloc, &languages, MOST_FINDINGS);
+    drill(alloc, count, &mut session, tree, out, patterns, steps)
 }

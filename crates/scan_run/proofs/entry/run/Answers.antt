@@ -1,12 +1,12 @@
 use Rattle.std.proofs.Common.{◌≡◌, ℕ, List, map, string_bytes, subst, inl, inr, refl}
 use Rattle.wire_words.specs.declared.command.Command.{Command}
-use Rattle.wire_words.specs.Commands.{Task, Request, Scanning, Fixing, Serving, request, task_of}
+use Rattle.wire_words.specs.Commands.{Task, Request, Scanning, Fixing, Serving, Drilling, request, task_of}
 use Rattle.run_status.specs.declared.status.Status.{Status}
 use Rattle.run_status.specs.declared.status.Status.TheVariants as statuses
 use Rattle.scan_run.specs.Status.{IsOfInput}
 use Rattle.scan_run.proofs.Files.{keeps_self}
 use Rattle.scan_run.specs.Run.{Asks}
-use Rattle.scan_run.proofs.Requests.{ends_usage, only_usage, ends_match, only_match, front_match, some_match, ends_check, only_check, front_check, ends_scan, only_scan, front_scan, only_other, ends_fix, front_fix, ends_session, front_session, some_session, commands_session, fix_asked, scans_something, no_match_in_check, no_match_in_scan, no_read_in_scan, no_match_in_fix, no_read_in_fix, no_session_in_fix, no_match_in_session, no_read_in_session, no_fix_in_session, no_fix_in_match, no_session_in_match, no_fix_in_check, no_session_in_check, no_fix_in_scan, no_session_in_scan}
+use Rattle.scan_run.proofs.Requests.{ends_usage, only_usage, ends_match, only_match, front_match, some_match, ends_check, only_check, front_check, ends_scan, only_scan, front_scan, only_other, ends_fix, front_fix, ends_session, front_session, some_session, commands_session, ends_drill, front_drill, fix_asked, scans_something, no_match_in_check, no_match_in_scan, no_read_in_scan, no_match_in_fix, no_read_in_fix, no_session_in_fix, no_match_in_session, no_read_in_session, no_fix_in_session, no_fix_in_match, no_session_in_match, no_fix_in_check, no_session_in_check, no_fix_in_scan, no_session_in_scan, no_match_in_drill, no_read_in_drill, no_fix_in_drill, no_session_in_drill}
 use Rattle.scan_run.proofs.Leaving.{kept_unless_written, cut_by_memory}
 use Rattle.folder_run.specs.Written.{Wrote, Leaves}
 use Rattle.scan_run.specs.Serving.{setting}
@@ -327,3 +327,64 @@ pub returns-in-Some-Session-clause-patterns_kept : goal.returns-in-Some-Session-
 returns-in-Some-Session-clause-patterns_kept g c nay =
     let is = asks (map string_bytes c.args.words.now.items) _ _ c.in-Some-Session.field-0-is c.in-Some-Session.ensures.read in
     absurd (scans_something (map string_bytes c.args.words.now.items) (Serving c.in-Some-Session.most c.in-Some-Session._trace) (only_asks (map string_bytes c.args.words.now.items) _ _ c.in-Some-Session.field-0-is c.in-Some-Session.ensures.only) is (λ x. x) nay)
+
+pub returns-in-Some-Drill-clause-ends : goal.returns-in-Some-Drill-clause-ends
+returns-in-Some-Drill-clause-ends g c a =
+    let is = asks (map string_bytes c.args.words.now.items) _ _ c.in-Some-Drill.field-0-is c.in-Some-Drill.ensures.read in
+    ends_drill (map string_bytes c.args.words.now.items) (g.S.Source.left c.args.input.now) (g.T.Tree.files c.args.tree.now) _ (g.K.Sink.written c.args.out.now) (g.K.Sink.written c.run_drill.new.out) c.in-Some-Drill.count is c.run_drill.result (c.run_drill.ensures.ends a)
+
+pub returns-in-Some-Drill-clause-only : goal.returns-in-Some-Drill-clause-only
+returns-in-Some-Drill-clause-only g c a told =
+    let is = asks (map string_bytes c.args.words.now.items) _ _ c.in-Some-Drill.field-0-is c.in-Some-Drill.ensures.read in
+    only_other (map string_bytes c.args.words.now.items) (g.S.Source.left c.args.input.now) (g.T.Tree.files c.args.tree.now) _ (g.K.Sink.written c.args.out.now) (g.K.Sink.written c.run_drill.new.out) (Drilling c.in-Some-Drill.count) is (λ x. x) c.run_drill.result told
+
+pub returns-in-Some-Drill-clause-read_to_its_end : goal.returns-in-Some-Drill-clause-read_to_its_end
+returns-in-Some-Drill-clause-read_to_its_end g c ask =
+    absurd (no_read_in_drill (map string_bytes c.args.words.now.items) c.in-Some-Drill.count (only_asks (map string_bytes c.args.words.now.items) _ _ c.in-Some-Drill.field-0-is c.in-Some-Drill.ensures.only) ask)
+
+pub returns-in-Some-Drill-clause-files_fixed : goal.returns-in-Some-Drill-clause-files_fixed
+returns-in-Some-Drill-clause-files_fixed g c a task is =
+    absurd (no_fix_in_drill (map string_bytes c.args.words.now.items) c.in-Some-Drill.count (only_asks (map string_bytes c.args.words.now.items) _ _ c.in-Some-Drill.field-0-is c.in-Some-Drill.ensures.only) task is)
+
+pub returns-in-Some-Drill-clause-files_left : goal.returns-in-Some-Drill-clause-files_left
+returns-in-Some-Drill-clause-files_left g c task is =
+    absurd (no_fix_in_drill (map string_bytes c.args.words.now.items) c.in-Some-Drill.count (only_asks (map string_bytes c.args.words.now.items) _ _ c.in-Some-Drill.field-0-is c.in-Some-Drill.ensures.only) task is)
+
+pub returns-in-Some-Drill-clause-input_fault : goal.returns-in-Some-Drill-clause-input_fault
+returns-in-Some-Drill-clause-input_fault g c e =
+    absurd (c.run_drill.ensures.no_input e)
+
+pub returns-in-Some-Drill-clause-nothing_written : goal.returns-in-Some-Drill-clause-nothing_written
+returns-in-Some-Drill-clause-nothing_written g c nay h =
+    elim h [ inl e ↦ absurd (c.run_drill.ensures.no_input e) | inr e ↦ c.run_drill.ensures.nothing_written e ]
+
+pub returns-in-Some-Drill-clause-commands_written : goal.returns-in-Some-Drill-clause-commands_written
+returns-in-Some-Drill-clause-commands_written g c ask cut =
+    absurd (no_session_in_drill (map string_bytes c.args.words.now.items) c.in-Some-Drill.count (only_asks (map string_bytes c.args.words.now.items) _ _ c.in-Some-Drill.field-0-is c.in-Some-Drill.ensures.only) ask)
+
+pub returns-in-Some-Drill-clause-front_written : goal.returns-in-Some-Drill-clause-front_written
+returns-in-Some-Drill-clause-front_written g c e =
+    let is = asks (map string_bytes c.args.words.now.items) _ _ c.in-Some-Drill.field-0-is c.in-Some-Drill.ensures.read in
+    front_drill (map string_bytes c.args.words.now.items) (g.S.Source.left c.args.input.now) (g.T.Tree.files c.args.tree.now) _ (g.K.Sink.written c.args.out.now) (g.K.Sink.written c.run_drill.new.out) c.in-Some-Drill.count is (c.run_drill.ensures.front_written e)
+
+pub returns-in-Some-Drill-clause-whole_lines : goal.returns-in-Some-Drill-clause-whole_lines
+returns-in-Some-Drill-clause-whole_lines g c e =
+    inl (c.run_drill.ensures.unwritten e)
+
+pub returns-in-Some-Drill-clause-absent : goal.returns-in-Some-Drill-clause-absent
+returns-in-Some-Drill-clause-absent g c e =
+    absurd (c.run_drill.ensures.there e)
+
+pub returns-in-Some-Drill-clause-work : goal.returns-in-Some-Drill-clause-work
+returns-in-Some-Drill-clause-work g c asked =
+    absurd (no_match_in_drill (map string_bytes c.args.words.now.items) c.in-Some-Drill.count (only_asks (map string_bytes c.args.words.now.items) _ _ c.in-Some-Drill.field-0-is c.in-Some-Drill.ensures.only) asked)
+
+pub returns-in-Some-Drill-clause-no_work : goal.returns-in-Some-Drill-clause-no_work
+returns-in-Some-Drill-clause-no_work g c nay =
+    let is = asks (map string_bytes c.args.words.now.items) _ _ c.in-Some-Drill.field-0-is c.in-Some-Drill.ensures.read in
+    absurd (scans_something (map string_bytes c.args.words.now.items) (Drilling c.in-Some-Drill.count) (only_asks (map string_bytes c.args.words.now.items) _ _ c.in-Some-Drill.field-0-is c.in-Some-Drill.ensures.only) is (λ x. x) nay.0)
+
+pub returns-in-Some-Drill-clause-patterns_kept : goal.returns-in-Some-Drill-clause-patterns_kept
+returns-in-Some-Drill-clause-patterns_kept g c nay =
+    let is = asks (map string_bytes c.args.words.now.items) _ _ c.in-Some-Drill.field-0-is c.in-Some-Drill.ensures.read in
+    absurd (scans_something (map string_bytes c.args.words.now.items) (Drilling c.in-Some-Drill.count) (only_asks (map string_bytes c.args.words.now.items) _ _ c.in-Some-Drill.field-0-is c.in-Some-Drill.ensures.only) is (λ x. x) nay)

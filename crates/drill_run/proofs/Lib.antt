@@ -1,0 +1,4 @@
+pub mod Anyhow
+pub mod Counts
+pub mod Far
+pub mod Ends

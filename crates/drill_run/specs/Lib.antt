@@ -1,0 +1,2 @@
+pub mod Drilling
+pub mod Commands
