@@ -1,0 +1,5 @@
+pub mod KindLaws
+pub mod Items
+pub mod NodeLaws
+pub mod NameOrder
+pub mod Adding
