@@ -1,0 +1,6 @@
+//! Tests of the file in which leaves are kept between runs.
+#![tactic(auto)]
+
+pub mod again;
+#[cfg(test)]
+mod texts;
