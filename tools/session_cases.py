@@ -250,7 +250,8 @@ class Maker:
 
     def unread_rule(self):
         name = self.one_of(self.state.rules, NAMES[0])
-        body = self.state.rules.get(name, b'rules:\n')
+        # (with one byte more it is within the limit: a longer rule file ends a session)
+        body = self.state.rules.get(name, b'rules:\n')[:LARGE_RULES - 1]
         return 'rule', name, self.choose.choice([body + b'\xff', b'', b'rules: {}\n', b'rules:\n- &x 1\n', b'\t' + body, (body + b'\n').ljust(LARGE_RULES, b'#')])
 
     def unrule(self):
