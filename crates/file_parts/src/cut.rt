@@ -6,7 +6,7 @@ ghost use Rattle.piece_form.specs.Cut.{root_piece_of};
 ghost use Rattle.tree_match.specs.Members.{known_tree};
 ghost use Rattle.file_parts.specs.Held.{IsCut, IsFurther};
 
-use import_names::resolve;
+use import_names::resolved_beside;
 use node_tree::{FileView, Known, Lang, List, Memory};
 use piece_form::{KnownNames, Piece, Placed};
 use piece_match::{falls_apart, pieces, root_piece};
@@ -87,11 +87,14 @@ pub fn same_tree(a: &FileView, b: &FileView) -> bool
 }
 
 // The file with its names resolved, unless it is the same.
+#[tactic(auto, using(crate::proofs::Resolving::tree_is))]
 fn cut_resolved(view: &FileView) -> Result<Option<Cut>, Memory>
     requires { view.now.lang ≡ Python }
     ensures { IfOk result (IsFurther view.now) }
 {
-    let resolved = resolve(view.tree.kids.alloc(), view)?;
+    let Some(resolved) = resolved_beside(view.tree.kids.alloc(), view)? else {
+        return Ok(None);
+    };
     if same_tree(&resolved, view) {
         return Ok(None);
     }

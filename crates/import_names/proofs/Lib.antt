@@ -6,3 +6,4 @@ pub mod Ordering
 pub mod Replacing
 pub mod Renumbering
 pub mod Placing
+pub mod Itself

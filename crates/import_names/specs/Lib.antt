@@ -2,3 +2,4 @@ pub mod Claims
 pub mod Resolved
 pub mod Pieces
 pub mod Ordered
+pub mod Itself

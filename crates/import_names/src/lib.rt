@@ -15,4 +15,4 @@ mod replace;
 mod say;
 mod view;
 
-pub use view::resolve;
+pub use view::{resolve, resolved_beside};

@@ -3,6 +3,7 @@
 ghost use Rattle.std.specs.Prelude.{◌≡◌, ◌++◌, false, map, IfOk, OnOk};
 ghost use Rattle.std.specs.List.{flat_map};
 ghost use Rattle.node_tree.specs.Numbers.{root_of};
+ghost use Rattle.node_tree.specs.Tree.{pre_of};
 ghost use Rattle.assignments.specs.Assignments.{assigned_in};
 ghost use Rattle.assignments.specs.Seen.{seen_assignment, seen_target, all_assignments, all_targets};
 ghost use Rattle.assignments.specs.Targets.{is_name as is_name_spec};
@@ -163,6 +164,17 @@ fn add_variables<'t>(alloc: Global, node: &'t Node, into: &mut Vec<Claim<'t>>) -
         Some(target) => add_names(alloc, target, into),
         None => Ok(()),
     }
+}
+
+/// What the nodes of a file say of names that assign nothing themselves. Only these say that a name stands for another.
+pub fn own_claims<'t>(alloc: Global, tree: &'t Node) -> Result<Vec<Claim<'t>>, Memory>
+    ensures { IfOk result (λ claims. claims.items ≡ flat_map spec.own_claims (pre_of tree.now)) }
+{
+    let mut claims = Vec::new(alloc);
+    for node in tree.walk()? {
+        add_own(alloc, node, &mut claims)?;
+    }
+    Ok(claims)
 }
 
 /// All that is said of names in a file.

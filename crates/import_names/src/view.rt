@@ -1,16 +1,17 @@
 //! Resolved views of files.
 
-ghost use Rattle.std.specs.Prelude.{◌≡◌, ◌≤◌, length, IfOk};
+ghost use Rattle.std.specs.Prelude.{◌≡◌, ◌≤◌, length, IfOk, MatchOption, true};
 ghost use Rattle.std.specs.Str.{IsUtf8};
 ghost use Rattle.node_tree.specs.KnownNames.{AreNames, AreInOrder as AreKnownInOrder};
 ghost use Rattle.node_tree.specs.Spans.{SpansLieIn};
 ghost use Rattle.node_tree.specs.declared.view.Lang.TheVariants.{Python};
 ghost use Rattle.import_names.specs.Resolved.{IsResolved};
 
+use crate::claim::are_themselves;
 use crate::known::kept;
 use crate::meanings::in_order;
 use crate::replace::replaced;
-use crate::say::claims_of;
+use crate::say::{claims_of, own_claims};
 use node_tree::{Bytes, FileView, Known, Lang, List, MOST_BYTES, Memory, Node, Twin, copy_all};
 use std::alloc::Global;
 
@@ -69,5 +70,36 @@ pub fn resolve(alloc: Global, view: &FileView) -> Result<FileView, Memory>
     match view.lang {
         Lang::Python => resolve_python(alloc, view),
         _ => copied(alloc, view),
+    }
+}
+
+// Whether the file in Python surely resolves to itself. That costs a look at its nodes, and no copy of them.
+fn stays(alloc: Global, view: &FileView) -> Result<bool, Memory>
+    requires { view.now.lang ≡ Python }
+    ensures { IfOk result (λ same. same ≡ true → IsResolved view.now view.now) }
+{
+    let own = own_claims(alloc, &view.tree)?;
+    Ok(are_themselves(own.as_slice()))
+}
+
+// The same as `resolved_beside` of a file in Python.
+fn python_beside(alloc: Global, view: &FileView) -> Result<Option<FileView>, Memory>
+    requires { view.now.lang ≡ Python }
+    ensures { IfOk result (λ beside. MatchOption beside (IsResolved view.now view.now) (IsResolved view.now)) }
+{
+    if stays(alloc, view)? {
+        return Ok(None);
+    }
+    Ok(Some(resolve_python(alloc, view)?))
+}
+
+/// The view of a file with names replaced, as `resolve` gives it. None where no name may stand for another, so that the file
+/// resolves to itself: in another language than Python, and where no import binds a name to another one.
+pub fn resolved_beside(alloc: Global, view: &FileView) -> Result<Option<FileView>, Memory>
+    ensures { IfOk result (λ beside. MatchOption beside (IsResolved view.now view.now) (IsResolved view.now)) }
+{
+    match view.lang {
+        Lang::Python => python_beside(alloc, view),
+        _ => Ok(None),
     }
 }
