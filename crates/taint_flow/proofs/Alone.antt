@@ -45,7 +45,7 @@ module _ (root : Node) (unit : ℕ) (sets : TaintSets) (source : Span) (graph : 
       let one : length sources.keys.items ≡ 1 = ap length keys in
       omega (arith, planned.facts, n, one)
 
-  pub goals_alone : AreGoals (record { graph = graph; moves = plan.moves; goals = plan.goals })
+  pub goals_alone : AreGoals graph (record { moves = plan.moves; goals = plan.goals })
   goals_alone g among = let (p, at, rest) = (planned.goals g).0 among in (slice_get_within graph.points g.point p at, planned.goal_facts g among)
 
   at : slice_get sources.keys.items 0 ≡ Some source
@@ -78,6 +78,6 @@ module _ (root : Node) (unit : ℕ) (sets : TaintSets) (source : Span) (graph : 
     );
   }
 
-  pub hits_alone : TracesAreHits root unit sets source (record { graph = graph; moves = plan.moves; goals = plan.goals })
-  hits_alone = traces_are_hits root unit sets (numbers_of (with_sources census sources)) source 0 (record { graph = graph; moves = plan.moves; goals = plan.goals }) moves (apart_by (with_sources census sources) numbered 0 source at)
+  pub hits_alone : TracesAreHits root unit sets source graph (record { moves = plan.moves; goals = plan.goals })
+  hits_alone = traces_are_hits root unit sets (numbers_of (with_sources census sources)) source 0 graph (record { moves = plan.moves; goals = plan.goals }) moves (apart_by (with_sources census sources) numbered 0 source at)
       (known_at root unit graph is (with_sources census sources) names sets source 0 (apart_by (with_sources census sources) numbered 0 source at)) (known_first root unit graph is (with_sources census sources) names source) planned.goals

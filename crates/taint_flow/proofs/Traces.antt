@@ -7,6 +7,7 @@ use Rattle.node_tree.specs.declared.node.Node.{Node}
 use Rattle.node_tree.specs.declared.span.Span.{Span}
 use Rattle.node_tree.specs.Tree.{pre_of}
 use Rattle.point_nodes.specs.Tops.{tops_of}
+use Rattle.graph_form.specs.declared.graph.Graph.{Graph}
 use Rattle.graph_form.specs.declared.graph.Point.{Point}
 use Rattle.graph_form.specs.Sets.{Among}
 use Rattle.flow_graph.specs.Units.{points_of}
@@ -54,36 +55,36 @@ goal_there sink (g ∷ gs) point fact = by (goal_there sink gs point fact) (g.si
       ],
     )
 
-module _ (root : Node) (unit : ℕ) (sets : TaintSets) (numbers : Numbering) (source : Span) (number : ℕ) (m : UnitMoves) (are : AreMoves root unit sets numbers source number m.graph m.moves (FromStart m.moves))
+module _ (root : Node) (unit : ℕ) (sets : TaintSets) (numbers : Numbering) (source : Span) (number : ℕ) (graph : Graph) (m : UnitMoves) (are : AreMoves root unit sets numbers source number graph m.moves (FromStart m.moves))
     (apart : AreApart numbers source number) (known : (p : Point) → Among (points_of root unit) p → IsKnownAt sets numbers source number apart (pre_of root) p) (first : (n : List ℕ) → AtEntry root unit source n → IsKnown numbers n)
-    (goals : (g : Goal) → Among m.goals g ↔ IsGoal (pre_of root) m.graph.points sets.sanitizers sets.sinks numbers g) where
-  trace_hits : (sink : ℕ) (range : Span) (places : List ℕ) → slice_get sets.sinks sink ≡ Some range → IsTrace m.graph m.moves (goals_of sink m.goals) places
-      → (path : List Point) × (map (slice_get m.graph.points) places ≡ map Some path) × IsHitPath root unit sets source range path
+    (goals : (g : Goal) → Among m.goals g ↔ IsGoal (pre_of root) graph.points sets.sanitizers sets.sinks numbers g) where
+  trace_hits : (sink : ℕ) (range : Span) (places : List ℕ) → slice_get sets.sinks sink ≡ Some range → IsTrace graph m.moves (goals_of sink m.goals) places
+      → (path : List Point) × (map (slice_get graph.points) places ≡ map Some path) × IsHitPath root unit sets source range path
   trace_hits sink range places at trace =
       let (p, p_at, (other, other_at, taints)) = (goals (record { sink = sink; point = trace.point; fact = trace.fact })).0 ((goal_there sink m.goals trace.point trace.fact).0 trace.goal) in
       let ranges : other ≡ range = (let q : Some other ≡ Some range = sym other_at ∙ at in cc) in
       let T : Span → Type 0 = λ r. TaintsAny sets.sanitizers numbers (outermost_among r (tops_of (pre_of root) p)) trace.fact in
-      let (earlier, hits, same) = path_hit root unit sets numbers source number m.graph m.moves (FromStart m.moves) are apart known first trace.stops trace.point trace.fact p range p_at trace.leads (subst T ranges taints) in
-      let all : map (slice_get m.graph.points) (trace.point ∷ places_of trace.stops) ≡ map Some (p ∷ earlier) =
-      ap (λ o. o ∷ map (slice_get m.graph.points) (places_of trace.stops)) p_at ∙ ap (λ os. Some p ∷ os) same in (
+      let (earlier, hits, same) = path_hit root unit sets numbers source number graph m.moves (FromStart m.moves) are apart known first trace.stops trace.point trace.fact p range p_at trace.leads (subst T ranges taints) in
+      let all : map (slice_get graph.points) (trace.point ∷ places_of trace.stops) ≡ map Some (p ∷ earlier) =
+      ap (λ o. o ∷ map (slice_get graph.points) (places_of trace.stops)) p_at ∙ ap (λ os. Some p ∷ os) same in (
         reverse (p ∷ earlier),
-        ap (map (slice_get m.graph.points)) trace.same ∙ map_reverse (slice_get m.graph.points) (trace.point ∷ places_of trace.stops) ∙ ap reverse all ∙ sym (map_reverse Some (p ∷ earlier)),
+        ap (map (slice_get graph.points)) trace.same ∙ map_reverse (slice_get graph.points) (trace.point ∷ places_of trace.stops) ∙ ap reverse all ∙ sym (map_reverse Some (p ∷ earlier)),
         record { earlier = earlier; last = p; whole = refl; hits = hits },
       )
 
-  hit_traces : (sink : ℕ) (range : Span) (places : List ℕ) → slice_get sets.sinks sink ≡ Some range → (path : List Point) → map (slice_get m.graph.points) places ≡ map Some path → IsHitPath root unit sets source range path
-      → IsTrace m.graph m.moves (goals_of sink m.goals) places
+  hit_traces : (sink : ℕ) (range : Span) (places : List ℕ) → slice_get sets.sinks sink ≡ Some range → (path : List Point) → map (slice_get graph.points) places ≡ map Some path → IsHitPath root unit sets source range path
+      → IsTrace graph m.moves (goals_of sink m.goals) places
   hit_traces sink range places at path same is = by (reverse places) refl back
     where
-      back : map (slice_get m.graph.points) (reverse places) ≡ map Some (is.last ∷ is.earlier)
-      back = map_reverse (slice_get m.graph.points) places ∙ ap reverse (same ∙ ap (map Some) is.whole) ∙ sym (map_reverse Some (reverse (is.last ∷ is.earlier))) ∙ ap (map Some) (reverse-reverse (is.last ∷ is.earlier))
+      back : map (slice_get graph.points) (reverse places) ≡ map Some (is.last ∷ is.earlier)
+      back = map_reverse (slice_get graph.points) places ∙ ap reverse (same ∙ ap (map Some) is.whole) ∙ sym (map_reverse Some (reverse (is.last ∷ is.earlier))) ∙ ap (map Some) (reverse-reverse (is.last ∷ is.earlier))
 
-      by : (others : List ℕ) → reverse places ≡ others → map (slice_get m.graph.points) others ≡ map Some (is.last ∷ is.earlier) → IsTrace m.graph m.moves (goals_of sink m.goals) places
+      by : (others : List ℕ) → reverse places ≡ others → map (slice_get graph.points) others ≡ map Some (is.last ∷ is.earlier) → IsTrace graph m.moves (goals_of sink m.goals) places
       by [] e f = absurd cc
       by (i ∷ js) e f =
-          let i_at : slice_get m.graph.points i ≡ Some is.last = cc in
-          let js_are : map (slice_get m.graph.points) js ≡ map Some is.earlier = cc in
-          let (fact, taints, (stops, leads, there)) = hit_path root unit sets numbers source number m.graph m.moves (FromStart m.moves) are apart known first is.earlier is.last js i range js_are i_at is.hits in
+          let i_at : slice_get graph.points i ≡ Some is.last = cc in
+          let js_are : map (slice_get graph.points) js ≡ map Some is.earlier = cc in
+          let (fact, taints, (stops, leads, there)) = hit_path root unit sets numbers source number graph m.moves (FromStart m.moves) are apart known first is.earlier is.last js i range js_are i_at is.hits in
           record {
             stops = stops;
             point = i;
@@ -93,5 +94,5 @@ module _ (root : Node) (unit : ℕ) (sets : TaintSets) (numbers : Numbering) (so
             same = sym (reverse-reverse places) ∙ ap reverse (e ∙ ap (λ xs. i ∷ xs) (sym there));
           }
 
-  pub traces_are_hits : TracesAreHits root unit sets source m
+  pub traces_are_hits : TracesAreHits root unit sets source graph m
   traces_are_hits sink range places at = (trace_hits sink range places at, λ (path, same, is). hit_traces sink range places at path same is)

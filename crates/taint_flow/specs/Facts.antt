@@ -1,9 +1,9 @@
 -- Facts: the sources of a unit by number, and then its names.
-use Rattle.std.specs.Prelude.{◌≡◌, ◌⊎◌, ◌+◌, ℕ, IsTrue, List, [], ◌∷◌, Option, Some, None}
+use Rattle.std.specs.Prelude.{◌≡◌, ◌⊎◌, ℕ, IsTrue, List, [], ◌∷◌, Option, Some, None}
 use Rattle.node_tree.specs.declared.node.Node.{Node}
 use Rattle.node_tree.specs.declared.span.Span.{Span}
 use Rattle.node_tree.specs.Numbers.{Numbered}
-use Rattle.node_tree.specs.Tree.{pre_of, kind_of, text_of, span_of}
+use Rattle.node_tree.specs.Tree.{pre_of, text_of, span_of}
 use Rattle.graph_form.specs.declared.graph.Point.{Point}
 use Rattle.graph_form.specs.Sets.{Among}
 use Rattle.point_nodes.specs.Tops.{nodes_of}
@@ -11,9 +11,9 @@ use Rattle.assignments.specs.Assignments.{assigned_of}
 use Rattle.assignments.specs.Declarators.{parameters_of}
 use Rattle.assignments.specs.declared.assignment.Reach.TheVariants as reaches
 use Rattle.assignments.specs.Seen.{Named, Assigned}
-use Rattle.assignments.specs.Targets.{is_name, targets}
+use Rattle.assignments.specs.Targets.{targets}
 use Rattle.taint_tables.specs.Numbers.{Numbering}
-use Rattle.taint_tables.specs.Taints.{IsFactOf, DenotesAny, DenotesName, Denotes, Taints}
+use Rattle.taint_tables.specs.Taints.{IsFactOf, Taints}
 use Rattle.taint_tables.specs.declared.sets.Carry.{Carry}
 use Rattle.taint_tables.specs.declared.sets.TaintSets.{TaintSets}
 use Rattle.taint_flow.specs.Spreading.{renews, is_plain, IsExpressionAt}

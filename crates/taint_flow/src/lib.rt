@@ -13,11 +13,13 @@ mod rows;
 mod rule;
 mod search;
 mod still;
+mod tables;
 mod unit;
 
 pub use fault::TaintFault;
 pub use find::{taint, taint_in};
 pub use hit::TaintHit;
 pub use moves::{Goal, UnitMoves};
+pub use tables::SetTables;
 pub use taint_tables::{Carry, TaintSets};
 pub use unit::unit_moves;

@@ -1,7 +1,6 @@
 //! The moves of a unit for one source.
 
 use flow_reach::Moves;
-use graph_form::Graph;
 use node_tree::List;
 
 /// The sink with that place is hit where a path carries the fact to the point.
@@ -12,11 +11,10 @@ pub struct Goal {
     pub fact: u32,
 }
 
-/// The graph of a unit, what its points do to the facts, and the goals of the sinks. Fact 0 is carried on every path, and the
-/// others are the names of the unit.
+/// What the points of a unit do to the facts, and the goals of the sinks. Fact 0 is carried on every path, and the others are the
+/// names of the unit.
 #[derive(Drop)]
 pub struct UnitMoves {
-    pub graph: Graph,
     pub moves: Moves,
     pub goals: List<Goal>,
 }

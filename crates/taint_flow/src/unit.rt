@@ -3,22 +3,25 @@
 ghost use Rattle.std.specs.Prelude.{◌≡◌, ◌+◌, ◌∷◌, [], IfOk};
 ghost use Rattle.std.specs.Set.{distinct_count};
 ghost use Rattle.std.specs.Str.{bytes_eq};
+ghost use Rattle.node_tree.specs.declared.node.Node.{Node as a_node};
 ghost use Rattle.node_tree.specs.Span.{span_cmp};
-ghost use Rattle.flow_graph.specs.Units.{points_of, Goes, IsGraphOf};
 ghost use Rattle.flow_reach.specs.Carried.{Fits};
 ghost use Rattle.taint_form.specs.Tables.{AreNumbers};
+ghost use Rattle.taint_tables.specs.declared.sets.TaintSets.{TaintSets as taint_sets};
+ghost use Rattle.taint_flow.specs.Scoped.{IsScope};
 ghost use Rattle.taint_flow.specs.Sizes.{names_of};
-ghost use Rattle.taint_flow.specs.Traces.{TracesAreHits, AreGoals};
+ghost use Rattle.taint_flow.specs.Traces.{TracesAreHits, AreGoals, AreTablesOf};
 
 use crate::moves::UnitMoves;
 use crate::plan::plan_of;
-use flow_graph::graph_of;
+use crate::tables::SetTables;
 use flow_reach::fits;
-use node_tree::{Memory, Node, Span};
+use node_tree::{Memory, Span};
 use point_nodes::IndexedTree;
 use std::alloc::Global;
 use taint_form::{SpanSet, Table};
-use taint_tables::{Census, Look, Places, TaintSets, census_of};
+use taint_tables::{Census, Look, census_of};
+use unit_names::Scope;
 
 // The source alone, with its number.
 fn alone(alloc: Global, source: Span) -> Result<Table<Span>, Memory>
@@ -31,42 +34,39 @@ fn alone(alloc: Global, source: Span) -> Result<Table<Span>, Memory>
     Ok(sources)
 }
 
-/// The graph of a unit, with moves and goals: a source hits a sink at the end of a path exactly where the path carries the fact of a
-/// goal of the sink to the goal's point.
+/// The moves and the goals of a unit for one source: it hits a sink at the end of a path exactly where the path carries the fact of a
+/// goal of the sink to the goal's point. The nodes of the tree are found by their numbers, and the unit stands there with its graph.
 pub fn unit_moves(
     alloc: Global,
-    root: &Node,
-    unit: u32,
-    sets: &TaintSets,
+    tree: &IndexedTree<'_>,
+    scope: &Scope,
+    tables: &SetTables,
     source: Span,
 ) -> Result<UnitMoves, Memory>
-    ensures graph { IfOk result
-        (λ m. IsGraphOf (points_of root.now unit) (Goes root.now unit) m.graph) }
-    ensures fits { IfOk result (λ m. Fits m.graph m.moves) }
-    ensures facts { IfOk result
-        (λ m. m.moves.facts ≡ distinct_count bytes_eq (names_of root.now unit) + 1) }
-    ensures goals { IfOk result AreGoals }
-    ensures hits { IfOk result (TracesAreHits root.now unit sets.now source) }
+    ensures fits { IfOk result (λ m. Fits scope.now.graph m.moves) }
+    ensures facts { (root : a_node) (sets : taint_sets) → IsScope root tree.now scope.now →
+        AreTablesOf sets tables.now → IfOk result
+        (λ m. m.moves.facts ≡ distinct_count bytes_eq (names_of root scope.now.unit) + 1) }
+    ensures goals { (root : a_node) (sets : taint_sets) → IsScope root tree.now scope.now →
+        AreTablesOf sets tables.now → IfOk result (AreGoals scope.now.graph) }
+    ensures hits { (root : a_node) (sets : taint_sets) → IsScope root tree.now scope.now →
+        AreTablesOf sets tables.now → IfOk result
+        (TracesAreHits root scope.now.unit sets source scope.now.graph) }
 {
-    let tree = IndexedTree::of(alloc, root)?;
-    let graph = graph_of(root, unit)?;
-    let points = graph.points.as_slice();
+    let points = scope.graph.points.as_slice();
     let none = SpanSet::of(alloc, &[])?;
-    let names = census_of(alloc, &tree, unit, points, &none)?.names;
+    let names = census_of(alloc, tree, scope.unit, points, &none)?.names;
     let sources = alone(alloc, source)?;
     let census = Census { names, sources };
-    let sanitizers = SpanSet::of(alloc, sets.sanitizers.as_slice())?;
     let look = Look {
         census: &census,
-        sanitizers: &sanitizers,
+        sanitizers: &tables.sanitizers,
     };
-    let places = Places::of(alloc, sets)?;
-    let plan = plan_of(alloc, &tree, unit, points, &places, look)?;
-    if !fits(&graph, &plan.moves) {
+    let plan = plan_of(alloc, tree, scope.unit, points, &tables.places, look)?;
+    if !fits(&scope.graph, &plan.moves) {
         return Err(Memory);
     }
     Ok(UnitMoves {
-        graph,
         moves: plan.moves,
         goals: plan.goals,
     })

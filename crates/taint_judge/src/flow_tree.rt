@@ -1,6 +1,8 @@
 //! Trees in which data is followed.
 
 ghost use Rattle.std.specs.Prelude.{◌≡◌, ℕ, IfOk, Err};
+ghost use Rattle.node_tree.specs.Tree.{pre_of};
+ghost use Rattle.unit_names.specs.Scopes.{AreScopes};
 ghost use Rattle.taint_flow.specs.declared.fault.TaintFault.TheVariants.{TooLarge};
 ghost use Rattle.taint_flow.specs.Taint.{AreHits};
 ghost use Rattle.taint_flow.specs.Sizes.{NoneLarge, FirstLarge};
@@ -46,6 +48,20 @@ impl<'t> FlowTree<'t> {
             nodes: IndexedTree::of(alloc, root)?,
             units: scopes_of(root)?,
         })
+    }
+
+    /// Its nodes, which are found by their numbers.
+    pub fn nodes(&self) -> &IndexedTree<'t>
+        ensures { result.now ≡ pre_of self.now }
+    {
+        &self.nodes
+    }
+
+    /// Its units with their graphs.
+    pub fn units(&self) -> &[Scope]
+        ensures { AreScopes self.now result.now }
+    {
+        self.units.as_slice()
     }
 
     // The sinks that are hit, each with the least source that hits it.

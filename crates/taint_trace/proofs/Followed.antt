@@ -20,7 +20,7 @@ use Rattle.taint_flow.specs.Sizes.{NoneLarge}
 use Rattle.taint_flow.proofs.Below.{among_flat}
 use Rattle.taint_judge.specs.Follows.{finding_at, finding_of, IsRead}
 use Rattle.taint_judge.proofs.Once.{sets_one}
-use Rattle.taint_trace.specs.Findings.{IsFollowed}
+use Rattle.taint_trace.specs.Findings.{IsFollowed, IsFoundBy}
 
 among_listed : {X : Type 0} (xs : List X) (x : X) → listed.Among xs x → Among xs x
 among_listed [] x none = absurd none
@@ -66,3 +66,7 @@ module _ (leaves : List Leaf) (texts : List (List ℕ)) (bytes : List ℕ) (root
   found sinks sets read =
       let So : TaintSets → Type 0 = λ s. IsFound root s finding in
       subst So (sets_one leaves texts bytes rule is.1.sinks sinks is.1.sets sets is.1.read.sets_are read.sets_are) found_then
+
+-- by the sets of its rule
+pub found_by : (root : Node) (sinks : List Member) (sets : TaintSets) (finding : Finding) → IsFoundBy root sinks sets finding → IsFound root sets finding
+found_by root sinks sets finding is = found is.leaves is.texts is.bytes root is.rule finding is.followed sinks sets is.read

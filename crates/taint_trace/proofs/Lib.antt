@@ -1,5 +1,8 @@
-pub mod Giving
 pub mod Paths
 pub mod Fitting
 pub mod Followed
 pub mod Sought
+pub mod Once
+pub mod SpanOrder
+pub mod Standings
+pub mod Firsts

@@ -6,6 +6,7 @@ use Rattle.std.proofs.lemmas.List.Sorted.{IsPermutation-reverse}
 use Rattle.std.proofs.lemmas.Option.{slice_get_within, slice_get-get_or}
 use Rattle.node_tree.specs.declared.node.Node.{Node}
 use Rattle.node_tree.specs.declared.span.Span.{Span}
+use Rattle.graph_form.specs.declared.graph.Graph.{Graph}
 use Rattle.graph_form.specs.declared.graph.Point.{Point}
 use Rattle.graph_form.specs.Sets.{Among}
 use Rattle.graph_form.proofs.Amongs.{same_items}
@@ -91,25 +92,25 @@ on_path root unit sets source range path is q among =
     let Has : List Point → Type 0 = λ ps. Among ps q in
     along root unit is.earlier is.last is.hits.path q ((same_items all (reverse all) (IsPermutation-reverse all) q).0 (subst Has is.whole among))
 
-module _ (root : Node) (unit : ℕ) (sets : TaintSets) (source : Span) (m : UnitMoves) (is : IsGraphOf (points_of root unit) (Goes root unit) m.graph) (hits : TracesAreHits root unit sets source m)
+module _ (root : Node) (unit : ℕ) (sets : TaintSets) (source : Span) (graph : Graph) (m : UnitMoves) (is : IsGraphOf (points_of root unit) (Goes root unit) graph) (hits : TracesAreHits root unit sets source graph m)
     (sink : ℕ) (range : Span) (at : slice_get sets.sinks sink ≡ Some range) where
-  places_of : (path : List Point) → IsHitPath root unit sets source range path → (places : List ℕ) × Are m.graph.points places path
-  places_of path hit = places_for m.graph.points path (λ p h. (is.points p).1 (on_path root unit sets source range path hit p h))
+  places_of : (path : List Point) → IsHitPath root unit sets source range path → (places : List ℕ) × Are graph.points places path
+  places_of path hit = places_for graph.points path (λ p h. (is.points p).1 (on_path root unit sets source range path hit p h))
 
   -- without a trace the source hits the range on no path
-  pub none_hits : ((places : List ℕ) → IsTrace m.graph m.moves (goals_of sink m.goals) places → ⊥) → HasNoPath root sets source range unit
+  pub none_hits : ((places : List ℕ) → IsTrace graph m.moves (goals_of sink m.goals) places → ⊥) → HasNoPath root sets source range unit
   none_hits none path hit = let (places, same) = places_of path hit in none places ((hits sink range places at).1 (path, same, hit))
 
   -- the places of a trace are there
-  pub places_there : (places : List ℕ) → IsTrace m.graph m.moves (goals_of sink m.goals) places → (place : ℕ) → Among places place → place < length m.graph.points
-  places_there places trace = let (path, same, hit) = (hits sink range places at).0 trace in there m.graph.points places path same
+  pub places_there : (places : List ℕ) → IsTrace graph m.moves (goals_of sink m.goals) places → (place : ℕ) → Among places place → place < length graph.points
+  places_there places trace = let (path, same, hit) = (hits sink range places at).0 trace in there graph.points places path same
 
   -- the points of the least trace are the least path
-  pub least_hits : (places : List ℕ) (path : List Point) → IsLeast m.graph m.moves (goals_of sink m.goals) places → Are m.graph.points places path → IsLeastPath root sets source range unit path
+  pub least_hits : (places : List ℕ) (path : List Point) → IsLeast graph m.moves (goals_of sink m.goals) places → Are graph.points places path → IsLeastPath root sets source range unit path
   least_hits places path least same = record {
     hits =
         let (found, got, hit) = (hits sink range places at).0 least.trace in
         let Hits : List Point → Type 0 = IsHitPath root unit sets source range in
         subst Hits (same_paths found path (sym got ∙ same)) hit;
-    least = λ other hit. (let (others, got) = places_of other hit in up_to m.graph.points is.points_order places others path other same got (least.least others ((hits sink range others at).1 (other, got, hit))));
+    least = λ other hit. (let (others, got) = places_of other hit in up_to graph.points is.points_order places others path other same got (least.least others ((hits sink range others at).1 (other, got, hit))));
   }

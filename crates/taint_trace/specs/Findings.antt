@@ -25,3 +25,12 @@ module _ (leaves : List Leaf) (texts : List (List ℕ)) (bytes : List ℕ) (root
     pub source : Span
     pub source_is : finding.source ≡ Some source
     pub trace : IsTraceBy root sets source finding.span path
+
+-- the finding is one of a rule that has these sets
+pub record IsFoundBy (root : Node) (sinks : List Member) (sets : TaintSets) (finding : Finding) : Type 0 where
+  pub leaves : List Leaf
+  pub texts : List (List ℕ)
+  pub bytes : List ℕ
+  pub rule : TaintRule
+  pub read : IsRead leaves texts bytes root rule sinks sets
+  pub followed : IsFollowed leaves texts bytes root rule finding

@@ -4,11 +4,9 @@ use Rattle.std.specs.Set.{distinct_count}
 use Rattle.std.specs.Str.{bytes_eq}
 use Rattle.node_tree.specs.declared.node.Node.{Node}
 use Rattle.node_tree.specs.declared.span.Span.{Span}
-use Rattle.node_tree.specs.Tree.{pre_of}
 use Rattle.graph_form.specs.declared.graph.Point.{Point}
 use Rattle.graph_form.specs.Sets.{Among}
-use Rattle.flow_graph.specs.Units.{units_of, points_of, Goes, IsGraphOf, IsPointBefore}
-use Rattle.unit_names.specs.declared.scope.Scope.{Scope}
+use Rattle.flow_graph.specs.Units.{units_of, points_of, IsPointBefore}
 use Rattle.taint_tables.specs.declared.sets.TaintSets.{TaintSets}
 use Rattle.taint_flow.specs.Sizes.{same_point, names_of}
 use Rattle.taint_flow.specs.Traces.{IsHitPath}
@@ -49,9 +47,3 @@ HasNoTrace root sets source range = (unit : ℕ) → Among (units_of root) unit 
 -- the points of the unit and the facts of one source are few enough
 abbrev pub IsSmall : Node → ℕ → Type 0
 IsSmall root unit = distinct_count same_point (points_of root unit) * (distinct_count bytes_eq (names_of root unit) + 1) ≤ 50000000
-
--- a unit of the tree with these nodes, with its graph
-pub record IsUnit (root : Node) (nodes : List Node) (scope : Scope) : Type 0 where
-  pub nodes_are : nodes ≡ pre_of root
-  pub listed : Among (units_of root) scope.unit
-  pub graph : IsGraphOf (points_of root scope.unit) (Goes root scope.unit) scope.graph

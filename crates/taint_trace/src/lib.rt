@@ -2,9 +2,13 @@
 #![tactic(auto)]
 
 mod least;
+mod lookup;
 mod places;
-mod spans;
+mod sets;
 mod standing;
+mod tracer;
 mod tracing;
 
+pub use sets::TraceSets;
+pub use tracer::Tracer;
 pub use tracing::trace_of;

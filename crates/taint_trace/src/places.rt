@@ -1,26 +1,26 @@
 //! Places in lists, and what stands there.
 
 ghost use Rattle.std.specs.Prelude.{◌≡◌, ◌<◌, ◌∷◌, [], ◌++◌, ℕ, Some, IfOk, OnOk, MatchOption, length, map, slice_get};
+ghost use Rattle.std.specs.List.Sorted.{IsSorted};
+ghost use Rattle.node_tree.specs.Span.{span_cmp};
 ghost use Rattle.graph_form.specs.Sets.{Among};
 ghost use Rattle.taint_flow.specs.Traces.{goals_of};
 
-use crate::spans::is_same;
 use graph_form::Point;
 use node_tree::{List, Memory, Span};
 use std::alloc::Global;
 use taint_flow::Goal;
 
-/// The place of a range.
-pub fn place_of(ranges: &[Span], range: Span) -> Option<usize>
+/// The place of a range, where they stand in order.
+pub fn place_of(ranges: &[Span], range: Span) -> Option<u64>
+    requires { IsSorted span_cmp ranges.now }
     ensures { MatchOption result (Among ranges.now range → ⊥)
         (λ at. slice_get ranges.now at ≡ Some range) }
 {
-    for at in 0..ranges.len() {
-        if is_same(ranges[at], range) {
-            return Some(at);
-        }
+    match ranges.binary_search(&range) {
+        Ok(at) => Some(at as u64),
+        Err(_) => None,
     }
-    None
 }
 
 // Adds the point and the fact of a goal, if it is one of the sink.

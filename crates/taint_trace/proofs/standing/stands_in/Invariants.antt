@@ -1,8 +1,0 @@
-use Rattle.std.proofs.Common.{take}
-use Rattle.std.specs.List.{flat_map}
-use Rattle.graph_form.specs.Sets.{Among}
-use Rattle.taint_tables.specs.Names.{spans_at}
-use Rattle.taint_trace.proofs.standing.stands_in.Given as goal
-
-abbrev pub invariant-loop-point : goal.invariant-loop-point
-invariant-loop-point l = Among (flat_map (spans_at l.tree) (take l.point-index l.scope.graph.points)) l.source → ⊥
