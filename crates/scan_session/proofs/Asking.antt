@@ -4,6 +4,7 @@ use Rattle.node_tree.specs.declared.view.Pattern.{Pattern}
 use Rattle.node_match.specs.Sets.{Among}
 use Rattle.file_search.specs.Asked.{Asks, Asked, AsksFor}
 use Rattle.running_rules.proofs.Members.{among_left, among_right, among_either}
+use Rattle.scan_session.specs.Asking.{AsksAmong}
 
 -- one of the items asks for the pattern
 abbrev pub SomeAsks : {X : Type 0} → (X → Pattern → Type 0) → List X → Pattern → Type 0
@@ -53,6 +54,33 @@ module _ {S : Type 0} (asks : Asks S) where
     all = λ p. (
       λ h. (same p).0 (elim (among_either one.patterns two.patterns p h) [ inl x ↦ inl ((one.all p).0 x) | inr y ↦ inr ((two.all p).0 y) ]),
       λ r. elim ((same p).1 r) [ inl x ↦ among_left one.patterns two.patterns p ((one.all p).1 x) | inr y ↦ among_right one.patterns two.patterns p ((two.all p).1 y) ],
+    );
+    asked = asked_both one.patterns two.patterns s t u a b c one.asked two.asked;
+  }
+
+  -- ---- questions for some patterns of a set
+
+  pub some_none : (P : Pattern → Type 0) (s : S) (n : ℕ) → AsksAmong asks P s n s n
+  some_none P s n = record { patterns = []; all = λ p h. absurd h; asked = (refl, refl) }
+
+  pub some_these : (ps : List Pattern) (P : Pattern → Type 0) (s t : S) (a b : ℕ) → Asked asks ps s a t b → ((p : Pattern) → Among ps p → P p) → AsksAmong asks P s a t b
+  some_these ps P s t a b asked all = record { patterns = ps; all = all; asked = asked }
+
+  -- after these come more for another set
+  pub some_more : (P Q : Pattern → Type 0) (s t u : S) (a b c : ℕ) → AsksAmong asks Q s a t b → AsksAmong asks P t b u c → ((p : Pattern) → P p → Q p) → AsksAmong asks Q s a u c
+  some_more P Q s t u a b c one two within = record {
+    patterns = one.patterns ++ two.patterns;
+    all = λ p h. elim (among_either one.patterns two.patterns p h) [ inl x ↦ one.all p x | inr y ↦ within p (two.all p y) ];
+    asked = asked_both one.patterns two.patterns s t u a b c one.asked two.asked;
+  }
+
+  -- asking again for some patterns of a set
+  pub asks_again : (P Q : Pattern → Type 0) (s t u : S) (a b c : ℕ) → AsksFor asks P s a t b → AsksAmong asks Q t b u c → ((p : Pattern) → Q p → P p) → AsksFor asks P s a u c
+  asks_again P Q s t u a b c one two within = record {
+    patterns = one.patterns ++ two.patterns;
+    all = λ p. (
+      λ h. elim (among_either one.patterns two.patterns p h) [ inl x ↦ (one.all p).0 x | inr y ↦ within p (two.all p y) ],
+      λ k. among_left one.patterns two.patterns p ((one.all p).1 k),
     );
     asked = asked_both one.patterns two.patterns s t u a b c one.asked two.asked;
   }

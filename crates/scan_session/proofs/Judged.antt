@@ -24,7 +24,7 @@ use Rattle.running_rules.proofs.Members.{one_there}
 -- ---- the members of the patterns
 
 module _ (lang : Lang) (tree : KnownTree) where
-  leaves_one : (ps : List Pattern) (ls ms : List Leaf) → AreLeaves (named_leaf tree.known lang) tree.tree ps ls → AreLeaves (named_leaf tree.known lang) tree.tree ps ms → ls ≡ ms
+  pub leaves_one : (ps : List Pattern) (ls ms : List Leaf) → AreLeaves (named_leaf tree.known lang) tree.tree ps ls → AreLeaves (named_leaf tree.known lang) tree.tree ps ms → ls ≡ ms
   leaves_one [] ls ms h k = h ∙ sym k
   leaves_one (p ∷ ps) ls ms (l, l-is, (ls', h, e)) (m, m-is, (ms', k, f)) =
       e ∙ ap (λ (x : Leaf). x ∷ ls') (seen_once lang (known_in tree.tree tree.known) p l m l-is m-is) ∙ ap (λ (xs : List Leaf). m ∷ xs) (leaves_one ps ls' ms' h k) ∙ sym f

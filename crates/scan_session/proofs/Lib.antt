@@ -4,6 +4,8 @@ pub mod Somes
 pub mod Views
 pub mod Asking
 pub mod Judged
+pub mod Traces
+pub mod Followed
 pub mod Hits
 pub mod Named
 pub mod Scans

@@ -1,5 +1,5 @@
 -- What rules find by the names of a file.
-use Rattle.std.proofs.Common.{◌≡◌, inl, inr, ◌↔◌, ℕ, List, [], ◌∷◌, refl, sym, subst}
+use Rattle.std.proofs.Common.{◌≡◌, inl, inr, ◌↔◌, ℕ, Bool, true, false, List, [], ◌∷◌, ◌++◌, refl, sym, subst}
 use Rattle.std.specs.Prelude.{Result, Ok, Err, IfOk}
 use Rattle.node_tree.specs.declared.known.Known.{Known}
 use Rattle.node_tree.specs.declared.node.Node.{Node}
@@ -20,15 +20,19 @@ use Rattle.file_parts.proofs.Once.{seen_once}
 use Rattle.file_search.specs.Whole.{HasNone}
 use Rattle.import_names.specs.Resolved.{IsResolved, tree_in, known_in as names_in}
 use Rattle.file_open.specs.Naming.{Knows, IsNamed}
+use Rattle.graph_form.specs.declared.graph.Point.{Point}
+use Rattle.meta_bind.specs.declared.finding.Finding.{Finding}
 use Rattle.part_judge.specs.declared.outcome.Outcome.{Outcome}
 use Rattle.report_form.specs.declared.notice.Notice.{Notice}
 use Rattle.report_form.specs.declared.report.Reported.{Reported}
 use Rattle.scan_session.specs.Sets.{IsExactly}
 use Rattle.scan_session.specs.Reports.{reported_cmp}
+use Rattle.running_rules.proofs.Members.{among_left, among_right}
 use Rattle.scan_session.specs.Looking.{AreLeaves, LooksAt, RuleFinds, named_leaf, own_leaf}
 use Rattle.scan_session.specs.Needing.{NeedsNoNames, Serves, ServesRules}
 use Rattle.scan_session.specs.Quieted.{Comments}
 use Rattle.scan_session.specs.Fresh.{IsFoundIn, IsShownIn, IsNotedIn}
+use Rattle.scan_session.specs.Tracing.{PartHas, IsPartTrace, IsRuleTrace, IsTraced, HasTrace}
 
 -- ---- items of a list, one after the other
 
@@ -102,11 +106,69 @@ module _ (knows : Knows) (lang : Lang) (tree : Node) (known : List Known) where
       λ f. record { rule = f.rule; runs = f.runs; outcome = f.outcome; finds = (finds_served path text f.rule f.outcome f.runs).1 f.finds; finding = f.finding; found = f.found; is = f.is },
     )
 
-    pub shown_served : (comments : Comments) (path text : List ℕ) (rs : List Reported) → IsExactly reported_cmp (IsShownIn (named_leaf known) comments rules path lang text tree) rs → IsExactly reported_cmp (IsShownIn (own_leaf knows) comments rules path lang text tree) rs
-    shown_served comments path text rs h = record {
+    -- ---- traces
+
+    module _ (text : List ℕ) (rule : Rule) (runs : Among rules rule) (finding : Finding) where
+      has_served : (part : Part) → Among rule.parts part → LooksAt part lang → PartHas (named_leaf known lang) rule.texts text tree part finding ↔ PartHas (own_leaf knows lang) rule.texts text tree part finding
+      has_served part has looks = (
+        λ h. (h.0, (h.1.0, (part_served rule runs part has looks h.1.0).0 h.1.1, h.1.2), h.2),
+        λ h. (h.0, (h.1.0, (part_served rule runs part has looks h.1.0).1 h.1.1, h.1.2), h.2),
+      )
+
+      path_served : (part : Part) (path : List Point) → Among rule.parts part → LooksAt part lang → IsPartTrace (named_leaf known lang) rule.texts text tree part finding path ↔ IsPartTrace (own_leaf knows lang) rule.texts text tree part finding path
+      path_served part path has looks = (
+        λ t. record { leaves = t.leaves; are = (part_served rule runs part has looks t.leaves).0 t.are; rule = t.rule; follows = t.follows; trace = t.trace },
+        λ t. record { leaves = t.leaves; are = (part_served rule runs part has looks t.leaves).1 t.are; rule = t.rule; follows = t.follows; trace = t.trace },
+      )
+
+      here : (before after : List Part) (part : Part) → rule.parts ≡ before ++ part ∷ after → Among rule.parts part
+      here before after part e = let P : List Part → Type 0 = λ ps. Among ps part in subst P (sym e) (among_right before (part ∷ after) part (inl refl))
+
+      earlier : (before after : List Part) (part other : Part) → rule.parts ≡ before ++ part ∷ after → Among before other → Among rule.parts other
+      earlier before after part other e a = let P : List Part → Type 0 = λ ps. Among ps other in subst P (sym e) (among_left before (part ∷ after) other a)
+
+      rule_served : (path : List Point) → IsRuleTrace (named_leaf known) lang text tree rule finding path ↔ IsRuleTrace (own_leaf knows) lang text tree rule finding path
+      rule_served path = (
+        λ t. record {
+          before = t.before;
+          part = t.part;
+          after = t.after;
+          parts_are = t.parts_are;
+          looks = t.looks;
+          has = (has_served t.part (here t.before t.after t.part t.parts_are) t.looks).0 t.has;
+          first = λ other a looks h. t.first other a looks ((has_served other (earlier t.before t.after t.part other t.parts_are a) looks).1 h);
+          trace = (path_served t.part path (here t.before t.after t.part t.parts_are) t.looks).0 t.trace;
+        },
+        λ t. record {
+          before = t.before;
+          part = t.part;
+          after = t.after;
+          parts_are = t.parts_are;
+          looks = t.looks;
+          has = (has_served t.part (here t.before t.after t.part t.parts_are) t.looks).1 t.has;
+          first = λ other a looks h. t.first other a looks ((has_served other (earlier t.before t.after t.part other t.parts_are a) looks).0 h);
+          trace = (path_served t.part path (here t.before t.after t.part t.parts_are) t.looks).1 t.trace;
+        },
+      )
+
+    trace_served : (traced : Bool) (text : List ℕ) (bare r : Reported) → HasTrace traced (named_leaf known) rules lang text tree bare r ↔ HasTrace traced (own_leaf knows) rules lang text tree bare r
+    trace_served false text bare r = (λ h. h, λ h. h)
+    trace_served true text bare r = (
+      λ h. elim h [
+        | inl none ↦ inl none
+        | inr t ↦ inr (record { comes = t.comes; rule = t.rule; runs = t.runs; id_is = t.id_is; path = t.path; by_rule = (rule_served text t.rule t.runs bare.finding t.path).0 t.by_rule; is = t.is })
+      ],
+      λ h. elim h [
+        | inl none ↦ inl none
+        | inr t ↦ inr (record { comes = t.comes; rule = t.rule; runs = t.runs; id_is = t.id_is; path = t.path; by_rule = (rule_served text t.rule t.runs bare.finding t.path).1 t.by_rule; is = t.is })
+      ],
+    )
+
+    pub shown_served : (comments : Comments) (traced : Bool) (path text : List ℕ) (rs : List Reported) → IsExactly reported_cmp (IsShownIn (named_leaf known) comments traced rules path lang text tree) rs → IsExactly reported_cmp (IsShownIn (own_leaf knows) comments traced rules path lang text tree) rs
+    shown_served comments traced path text rs h = record {
       exact = λ r. (
-        λ a. let s = (h.exact r).0 a in record { is_found = (found_served path text r).0 s.is_found; not_quieted = s.not_quieted },
-        λ s. (h.exact r).1 (record { is_found = (found_served path text r).1 s.is_found; not_quieted = s.not_quieted }),
+        λ a. let s = (h.exact r).0 a in record { bare = s.bare; is_found = (found_served path text s.bare).0 s.is_found; not_quieted = s.not_quieted; trace = (trace_served traced text s.bare r).0 s.trace },
+        λ s. (h.exact r).1 (record { bare = s.bare; is_found = (found_served path text s.bare).1 s.is_found; not_quieted = s.not_quieted; trace = (trace_served traced text s.bare r).1 s.trace }),
       );
       ordered = h.ordered;
     }
@@ -120,12 +182,12 @@ module _ (knows : Knows) (lang : Lang) (tree : Node) (known : List Known) where
 -- ---- a file with the names that are known in it
 
 module _ (knows : Knows) (bare view : FileView) (named : IsNamed knows bare view) (rules : List Rule) (path : List ℕ) where
-  pub shown_named : (comments : Comments) (rs : List Reported) → IsExactly reported_cmp (IsShownIn (named_leaf view.known) comments rules path view.lang view.bytes view.tree) rs → IsExactly reported_cmp (IsShownIn (own_leaf knows) comments rules path bare.lang bare.bytes bare.tree) rs
-  shown_named comments rs h =
-      let L : Lang → Type 0 = λ l. IsExactly reported_cmp (IsShownIn (named_leaf view.known) comments rules path l view.bytes view.tree) rs in
-      let B : List ℕ → Type 0 = λ b. IsExactly reported_cmp (IsShownIn (named_leaf view.known) comments rules path bare.lang b view.tree) rs in
-      let T : Node → Type 0 = λ t. IsExactly reported_cmp (IsShownIn (named_leaf view.known) comments rules path bare.lang bare.bytes t) rs in
-      shown_served knows bare.lang bare.tree view.known rules (inl named.known) comments path bare.bytes rs (subst T named.tree_is (subst B named.bytes_are (subst L named.lang_is h)))
+  pub shown_named : (comments : Comments) (traced : Bool) (rs : List Reported) → IsExactly reported_cmp (IsShownIn (named_leaf view.known) comments traced rules path view.lang view.bytes view.tree) rs → IsExactly reported_cmp (IsShownIn (own_leaf knows) comments traced rules path bare.lang bare.bytes bare.tree) rs
+  shown_named comments traced rs h =
+      let L : Lang → Type 0 = λ l. IsExactly reported_cmp (IsShownIn (named_leaf view.known) comments traced rules path l view.bytes view.tree) rs in
+      let B : List ℕ → Type 0 = λ b. IsExactly reported_cmp (IsShownIn (named_leaf view.known) comments traced rules path bare.lang b view.tree) rs in
+      let T : Node → Type 0 = λ t. IsExactly reported_cmp (IsShownIn (named_leaf view.known) comments traced rules path bare.lang bare.bytes t) rs in
+      shown_served knows bare.lang bare.tree view.known rules (inl named.known) comments traced path bare.bytes rs (subst T named.tree_is (subst B named.bytes_are (subst L named.lang_is h)))
 
   pub noted_named : (old new : List Notice) → Adds old new (IsNotedIn (named_leaf view.known) rules path view.lang view.bytes view.tree) → Adds old new (IsNotedIn (own_leaf knows) rules path bare.lang bare.bytes bare.tree)
   noted_named old new h =
@@ -133,20 +195,6 @@ module _ (knows : Knows) (bare view : FileView) (named : IsNamed knows bare view
       let B : List ℕ → Type 0 = λ b. Adds old new (IsNotedIn (named_leaf view.known) rules path bare.lang b view.tree) in
       let T : Node → Type 0 = λ t. Adds old new (IsNotedIn (named_leaf view.known) rules path bare.lang bare.bytes t) in
       noted_served knows bare.lang bare.tree view.known rules (inl named.known) path bare.bytes old new (subst T named.tree_is (subst B named.bytes_are (subst L named.lang_is h)))
-
--- ---- files that resolve to themselves
-
--- in another language than Python no name stands for another
-pub resolved_itself : (view : FileView) → (view.lang ≡ langs.Python → ⊥) → IsResolved view view
-resolved_itself view other = record { lang = refl; bytes = refl; tree = tree_stays view.lang view.tree other; known = known_stays view.lang view.tree view.known other }
-  where
-    tree_stays : (lang : Lang) (tree : Node) → (lang ≡ langs.Python → ⊥) → tree ≡ tree_in lang tree
-    tree_stays langs.Python tree other = absurd (other refl)
-    tree_stays _ tree other = refl
-
-    known_stays : (lang : Lang) (tree : Node) (known : List Known) → (lang ≡ langs.Python → ⊥) → known ≡ names_in lang tree known
-    known_stays langs.Python tree known other = absurd (other refl)
-    known_stays _ tree known other = refl
 
 -- ---- answers
 

@@ -21,11 +21,9 @@ use Rattle.scan_session.specs.Fresh.{File, IsResultIn, IsResult, IsFresh}
 use Rattle.scan_session.specs.HitOrder.{reported_total}
 use Rattle.scan_session.specs.Others.{file_of, KeepsOtherFiles, KeepsOtherRules}
 use Rattle.scan_session.proofs.Orders.{exactly_once}
+use Rattle.scan_session.proofs.Scans.{path_of}
 
 -- ---- one file more
-
-path_is : (grammars : Grammars) (rules : List Rule) (file : File) (r : Reported) → IsResultIn grammars rules file r → r.path ≡ file.0
-path_is grammars rules file r (o, is, (lang, tree, shows, shown)) = ap (λ (x : Reported). x.path) shown.is_found.is
 
 one_of : (before after : List File) (file other : File) → Among (before ++ file ∷ after) other → (file ≡ other) ⊎ Among (before ++ after) other
 one_of [] after file other h = h
@@ -42,7 +40,7 @@ pub other_files : (grammars : Grammars) (refused : List (List ℕ)) (files : Lis
 other_files grammars refused files rule_files more a before after file less e b r apart = (
   λ h. let f = (whole.exact r).0 h in
       elim (one_of before after file f.0 f.1) [
-        | inl e ↦ absurd (apart (path_is grammars (running refused rule_files) f.0 r f.2 ∙ ap (λ (x : File). x.0) (sym e)))
+        | inl e ↦ absurd (apart (path_of grammars (running refused rule_files) f.0 r f.2 ∙ ap (λ (x : File). x.0) (sym e)))
         | inr k ↦ (b.results.exact r).1 (f.0, k, f.2)
       ],
   λ h. let f = (b.results.exact r).0 h in (whole.exact r).1 (f.0, still_there before after file f.0 f.1, f.2),

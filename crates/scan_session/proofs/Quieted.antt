@@ -21,7 +21,10 @@ use Rattle.scan_session.specs.Reports.{reported_cmp}
 use Rattle.scan_session.specs.HitOrder.{reported_total}
 use Rattle.scan_session.specs.Looking.{LeafOf}
 use Rattle.scan_session.specs.Quieted.{Comments, IsQuietedIn, is_quieted_by, AreQuiets, AreUnquieted, unmarked}
-use Rattle.scan_session.specs.Fresh.{IsFoundIn, IsShownIn}
+use Rattle.scan_session.specs.Fresh.{IsShownIn}
+use Rattle.scan_session.specs.Tracing.{HasTrace}
+use Rattle.scan_session.specs.Followed.{IsTracedIn}
+use Rattle.scan_session.proofs.Traces.{same_but_stops}
 use Rattle.scan_session.proofs.Orders.{tail_ascends, first_below}
 
 -- ---- items that pass a test
@@ -158,12 +161,22 @@ module _ (comments : Comments) (lang : Lang) (text : List ℕ) where
       subst P (sym e) (record { exact = λ r. (λ k. absurd k, λ k. absurd k.0); ordered = λ up. up })
 
   -- what is found and not quieted is what is shown
-  pub shown_exactly : (leaf_of : LeafOf) (rules : List Rule) (path : List ℕ) (tree : Node) (found shown : List Reported) → IsExactly reported_cmp (IsFoundIn leaf_of rules path lang text tree) found
-      → AreUnquieted comments lang text found shown → IsExactly reported_cmp (IsShownIn leaf_of comments rules path lang text tree) shown
-  shown_exactly leaf_of rules path tree found shown h u = record {
-    exact = λ r. (
-      λ k. let a = (u.exact r).0 k in record { is_found = (h.exact r).0 a.0; not_quieted = a.1 },
-      λ k. (u.exact r).1 ((h.exact r).1 k.is_found, k.not_quieted),
-    );
-    ordered = u.ordered h.ordered;
-  }
+  module _ (leaf_of : LeafOf) (traced : Bool) (rules : List Rule) (path : List ℕ) (tree : Node) where
+    -- a comment quiets a finding with its trace where it quiets the finding
+    still_quieted : (bare r : Reported) → HasTrace traced leaf_of rules lang text tree bare r → IsQuietedIn comments lang text r ↔ IsQuietedIn comments lang text bare
+    still_quieted bare r has =
+        let s = same_but_stops leaf_of rules lang text tree traced bare r has in
+        let P : Reported → Type 0 = λ x. IsQuietedIn comments lang text x ↔ IsQuietedIn comments lang text bare in
+        subst P (sym s.1) (λ q. q, λ q. q)
+
+    pub shown_exactly : (found shown : List Reported) → IsExactly reported_cmp (IsTracedIn leaf_of traced rules path lang text tree) found → AreUnquieted comments lang text found shown → IsExactly reported_cmp (IsShownIn leaf_of comments traced rules path lang text tree) shown
+    shown_exactly found shown h u = record {
+      exact = λ r. (
+        λ k.
+            let a = (u.exact r).0 k in
+            let t = (h.exact r).0 a.0 in
+            record { bare = t.bare; is_found = t.is_found; not_quieted = λ q. a.1 ((still_quieted t.bare r t.trace).1 q); trace = t.trace },
+        λ k. (u.exact r).1 ((h.exact r).1 (record { bare = k.bare; is_found = k.is_found; trace = k.trace }), λ q. k.not_quieted ((still_quieted k.bare r k.trace).0 q)),
+      );
+      ordered = u.ordered h.ordered;
+    }

@@ -31,6 +31,7 @@ use Rattle.scan_session.specs.Scans.{AreAll, AreTooMany, HasScanned, Scans}
 use Rattle.running_rules.proofs.Ids.{are_apart}
 use Rattle.running_rules.proofs.Members.{among_left, among_right, among_either, appended, adds_both}
 use Rattle.scan_session.proofs.Orders.{before_below, ascends_front, ascends_on, first_decides}
+use Rattle.scan_session.proofs.Traces.{same_path}
 use Rattle.scan_session.proofs.Views.{shows_one, notes_one}
 
 -- ---- one file
@@ -43,7 +44,7 @@ only_as spells path bytes lang o p e f h = let P : Lang → Type 0 = λ l. HasOn
 
 module _ (grammars : Grammars) (rules : List Rule) (path bytes : List ℕ) (o : Opened) (is : IsOpened grammars.spells (lang_at path) bytes o) (only : HasOnlyTree grammars.spells (lang_at path) bytes o) where
   abbrev Results : Reported → Type 0
-  Results r = InView o (λ lang tree. IsShownIn grammars.leaf_of grammars.comments rules path lang bytes tree r)
+  Results r = InView o (λ lang tree. IsShownIn grammars.leaf_of grammars.comments grammars.traced rules path lang bytes tree r)
 
   abbrev Notices : Notice → Type 0
   Notices n = InView o (λ lang tree. IsNotedIn grammars.leaf_of rules path lang bytes tree n)
@@ -83,10 +84,10 @@ module _ (grammars : Grammars) (rules : List Rule) (path bytes : List ℕ) (o : 
       λ p. let H : List ℕ → Type 0 = λ x. P lang x tree in (lang, tree, shows, subst H text-is p),
     )
 
-    pub seen_results : (results : List Reported) → IsExactly reported_cmp (IsShownIn grammars.leaf_of grammars.comments rules path lang text tree) results → IsExactly reported_cmp (IsResultIn grammars rules (path, bytes)) results
+    pub seen_results : (results : List Reported) → IsExactly reported_cmp (IsShownIn grammars.leaf_of grammars.comments grammars.traced rules path lang text tree) results → IsExactly reported_cmp (IsResultIn grammars rules (path, bytes)) results
     seen_results results h = record {
       exact = λ r.
-          let s = seen (λ l x t. IsShownIn grammars.leaf_of grammars.comments rules path l x t r) in
+          let s = seen (λ l x t. IsShownIn grammars.leaf_of grammars.comments grammars.traced rules path l x t r) in
           (λ k. (result_in r).1 (s.1 ((h.exact r).0 k)), λ k. (h.exact r).1 (s.0 ((result_in r).0 k)));
       ordered = h.ordered;
     }
@@ -103,8 +104,8 @@ module _ (grammars : Grammars) (rules : List Rule) (path bytes : List ℕ) (o : 
 file_total : IsTotalOrder file_cmp
 file_total = on_total (λ (f : File). f.0) name_total
 
-path_of : (grammars : Grammars) (rules : List Rule) (file : File) (r : Reported) → IsResultIn grammars rules file r → r.path ≡ file.0
-path_of grammars rules file r h = ap (λ (x : Reported). x.path) h.2.3.is_found.is
+pub path_of : (grammars : Grammars) (rules : List Rule) (file : File) (r : Reported) → IsResultIn grammars rules file r → r.path ≡ file.0
+path_of grammars rules file r h = let s = h.2.3 in same_path grammars.leaf_of rules h.2.0 file.1 h.2.1 grammars.traced file.0 s.bare r s.is_found s.trace
 
 -- what holds of a file before or of this one
 one_file : {X : Type 0} (P : File → X → Type 0) (done : List File) (f : File) (x : X) → (((g : File) × Among done g × P g x) ⊎ P f x) ↔ ((g : File) × Among (done ++ f ∷ []) g × P g x)

@@ -1,5 +1,5 @@
 -- What a scan of files by rule files reports, where texts have the trees and the comments that a reader gives.
-use Rattle.std.specs.Prelude.{◌≡◌, ◌⊎◌, ℕ, List, [], ◌∷◌}
+use Rattle.std.specs.Prelude.{◌≡◌, ◌⊎◌, ℕ, Bool, List, [], ◌∷◌}
 use Rattle.std.specs.Option.{unwrap_or}
 use Rattle.std.specs.declared.cmp.Ordering.{Ordering}
 use Rattle.node_tree.specs.declared.node.Node.{Node}
@@ -26,6 +26,7 @@ use Rattle.running_rules.specs.Running.{running, rule_notices}
 use Rattle.scan_session.specs.Looking.{LeafOf, RuleFinds}
 use Rattle.scan_session.specs.Quieted.{Comments, Grammars, IsQuietedIn}
 use Rattle.scan_session.specs.Reports.{reported, reported_cmp, outcome_notices}
+use Rattle.scan_session.specs.Tracing.{HasTrace}
 
 -- a path, and the bytes there
 abbrev pub File : Type 0
@@ -62,10 +63,12 @@ pub record IsFoundIn (leaf_of : LeafOf) (rules : List Rule) (path : List ℕ) (l
   pub found : Among (findings_of outcome) finding
   pub is : r ≡ reported path text rule finding
 
--- such a finding that no comment of the file quiets
-pub record IsShownIn (leaf_of : LeafOf) (comments : Comments) (rules : List Rule) (path : List ℕ) (lang : Lang) (text : List ℕ) (tree : Node) (r : Reported) : Type 0 where
-  pub is_found : IsFoundIn leaf_of rules path lang text tree r
-  pub not_quieted : IsQuietedIn comments lang text r → ⊥
+-- such a finding that no comment of the file quiets, with its trace if traces are wanted
+pub record IsShownIn (leaf_of : LeafOf) (comments : Comments) (traced : Bool) (rules : List Rule) (path : List ℕ) (lang : Lang) (text : List ℕ) (tree : Node) (r : Reported) : Type 0 where
+  pub bare : Reported
+  pub is_found : IsFoundIn leaf_of rules path lang text tree bare
+  pub not_quieted : IsQuietedIn comments lang text bare → ⊥
+  pub trace : HasTrace traced leaf_of rules lang text tree bare r
 
 -- a notice of what one of the rules finds there
 pub record IsNotedIn (leaf_of : LeafOf) (rules : List Rule) (path : List ℕ) (lang : Lang) (text : List ℕ) (tree : Node) (n : Notice) : Type 0 where
@@ -82,7 +85,7 @@ InView o P = (lang : Lang) × (tree : Node) × Shows o lang tree × P lang tree
 -- a finding of one of the rules in a file that no comment there quiets
 abbrev pub IsResultIn : Grammars → List Rule → File → Reported → Type 0
 IsResultIn grammars rules file r =
-    (o : Opened) × IsOpened grammars.spells (lang_at file.0) file.1 o × InView o (λ lang tree. IsShownIn grammars.leaf_of grammars.comments rules file.0 lang file.1 tree r)
+    (o : Opened) × IsOpened grammars.spells (lang_at file.0) file.1 o × InView o (λ lang tree. IsShownIn grammars.leaf_of grammars.comments grammars.traced rules file.0 lang file.1 tree r)
 
 -- a notice of a file: how it is opened, or what one of the rules finds there
 abbrev pub IsNoticeIn : Grammars → List Rule → File → Notice → Type 0

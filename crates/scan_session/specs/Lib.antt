@@ -8,6 +8,8 @@ pub mod Hits
 pub mod HitOrder
 pub mod Judging
 pub mod Quieted
+pub mod Tracing
 pub mod Fresh
+pub mod Followed
 pub mod Others
 pub mod Scans

@@ -18,15 +18,17 @@ use Rattle.scan_session.specs.Reports.{reported_cmp}
 abbrev pub Comments : Type 1
 Comments = Lang → List ℕ → List Span → Type 0
 
--- which trees and which comments texts have, and which members patterns have in files with these trees
+-- which trees and which comments texts have, which members patterns have in files with these trees, and whether findings have
+-- their traces
 pub record Grammars : Type 1 where
   pub spells : Spells
   pub comments : Comments
   pub leaf_of : LeafOf
+  pub traced : Bool
 
 -- those where patterns see through imports, by the names that are known in the trees
-abbrev pub grammars_of : Spells → Knows → Comments → Grammars
-grammars_of spells knows comments = record { spells = spells; comments = comments; leaf_of = own_leaf knows }
+abbrev pub grammars_of : Spells → Knows → Comments → Bool → Grammars
+grammars_of spells knows comments traced = record { spells = spells; comments = comments; leaf_of = own_leaf knows; traced = traced }
 
 -- a file in the language with this text has these comments; one in another language than Python and C has none
 abbrev pub HasComments : Comments → Lang → List ℕ → List Span → Type 0

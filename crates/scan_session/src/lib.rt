@@ -20,6 +20,7 @@ mod resolving;
 mod row;
 mod scanner;
 mod scanning;
+mod tracing;
 
 pub use fault::ScanFault;
 pub use needing::with_needed_names;

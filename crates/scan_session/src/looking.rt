@@ -85,19 +85,21 @@ fn leaves_of<S: FileSearch, L: Ledger>(
     Ok(leaves)
 }
 
-// What the part with that number finds.
-fn judge_part<S: FileSearch, L: Ledger>(
+/// What the part with that number finds, after the members of its patterns.
+pub fn judge_part<S: FileSearch, L: Ledger>(
     alloc: Global,
     view: &SharedFile<'_>,
     rule: &Runner<'_>,
     part: usize,
     search: &mut S,
     steps: &mut Steps<L>,
-) -> Result<Found, Memory>
+) -> Result<(List<Leaf>, Found), Memory>
     requires part { part < length rule.now.parts }
     requires file { S.file search.old ≡ view.now }
-    ensures finds { (p : a_part) → slice_get rule.now.parts part ≡ Some p → IfOk result (PartJudges view.now.lang rule.now.texts view.now.bytes (known_tree view.now) p) }
-    ensures placed { IfOk result (λ found. All (λ finding. IsFindingPlaced view.now.bytes finding) (findings_of found)) }
+    ensures leaves { (p : a_part) → slice_get rule.now.parts part ≡ Some p → IfOk result (λ judged. AreLeaves (named_leaf view.now.known view.now.lang) view.now.tree p.patterns judged.0) }
+    ensures leaves_placed { IfOk result (λ judged. All (λ leaf. IsLeafPlaced view.now.bytes leaf) judged.0) }
+    ensures finds { (p : a_part) → slice_get rule.now.parts part ≡ Some p → IfOk result (λ judged. PartJudges view.now.lang rule.now.texts view.now.bytes (known_tree view.now) p judged.1) }
+    ensures placed { IfOk result (λ judged. All (λ finding. IsFindingPlaced view.now.bytes finding) (findings_of judged.1)) }
     ensures same { S.file search.new ≡ S.file search.old }
     ensures asked { (p : a_part) → slice_get rule.now.parts part ≡ Some p → OnOk result (Asked S.asks p.patterns search.old steps.old search.new steps.new) }
 {
@@ -108,7 +110,7 @@ fn judge_part<S: FileSearch, L: Ledger>(
     let rule = rule.rule();
     let patterns = &rule.parts.as_slice()[part].patterns;
     let leaves = leaves_of(alloc, patterns.as_slice(), search, steps)?;
-    judge(
+    let found = judge(
         alloc,
         view.view(),
         view.flow(),
@@ -116,7 +118,8 @@ fn judge_part<S: FileSearch, L: Ledger>(
         number,
         &leaves,
         &mut rx,
-    )
+    )?;
+    Ok((leaves, found))
 }
 
 // Adds what the part with that number finds, if it looks at the file.
@@ -140,7 +143,7 @@ fn add_part<S: FileSearch, L: Ledger>(
     if !looks_at(&rule.rule().parts.as_slice()[part], view.view().lang) {
         return Ok(());
     }
-    let found = judge_part(alloc, view, rule, part, search, steps)?;
+    let (_, found) = judge_part(alloc, view, rule, part, search, steps)?;
     judged.push(Judged { number, found })?;
     Ok(())
 }
@@ -202,6 +205,7 @@ pub fn judge_all<S: FileSearch, L: Ledger>(
     requires { S.file search.old ≡ view.now }
     ensures judged { IfOk result (λ judged. (x : a_judged) → Among judged.items x ↔ IsJudged path.now view.now.lang view.now.bytes (known_tree view.now) running.now x) }
     ensures placed { IfOk result (λ judged. AreAllPlaced view.now.bytes judged.items) }
+    ensures same { S.file search.new ≡ S.file search.old }
     ensures asked { OnOk result (AsksFor S.asks (IsAskedFor path.now view.now.lang running.now) search.old steps.old search.new steps.new) }
 {
     let mut judged = Vec::new(alloc);

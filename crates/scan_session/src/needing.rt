@@ -6,10 +6,11 @@ ghost use Rattle.scan_session.specs.Looking.{LooksAt};
 ghost use Rattle.scan_session.specs.Needing.{NeedsNoNames, PatternsNeedNoNames, PartsNeedNoNames, RulesNeedNoNames, ServesRules};
 
 use crate::looking::looks_at;
-use crate::resolving::{resolved_beside, resolved_or_itself};
+use crate::resolving::resolved_or_itself;
 use code_reader::TreeReader;
 use file_open::with_names;
 use file_search::WholeFile;
+use import_names::resolved_beside;
 use literal_use::uses_literals;
 use node_tree::{FileView, Memory, Pattern};
 use rule_form::Part;

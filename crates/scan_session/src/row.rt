@@ -85,8 +85,8 @@ impl<'r, 'f> Ordered for Row<'r, 'f> {
 }
 
 impl<'r, 'f> Row<'r, 'f> {
-    // The finding of the rule with that number and id.
-    fn of(number: usize, id: &'r str, finding: &'f Finding) -> Result<Row<'r, 'f>, Memory>
+    /// The finding of the rule with that number and id.
+    pub fn of(number: usize, id: &'r str, finding: &'f Finding) -> Result<Row<'r, 'f>, Memory>
         ensures { IfOk result (λ row. row ≡ record { number = number; id = id.now; finding = finding.now }) }
     {
         Ok(Row {

@@ -57,13 +57,14 @@ pub struct Scanner<'r, R> {
     reader: &'r R,
     running: Vec<Runner<'r>>,
     most: u64,
+    traced: bool,
     results: List<Reported>,
     notices: Vec<Noted>,
 }
 
 impl<'r, R: TreeReader + CommentReader> Scanner<'r, R> {
-    /// A scan by the rules of the rule files, which reports at most so many findings and has no file so far. Files are opened by
-    /// the reader. A rule whose id an earlier one has does not run; nor does one with a text that is refused.
+    /// A scan by the rules of the rule files, which reports at most so many findings, with their traces if
+    /// `traced` says so, and has no file so far. Files are opened by the reader. A rule whose id an earlier one has does not run; nor does one with a text that is refused.
     ///
     /// Each text of a good rule that isn't decided is decided now, in order of rule file, entry and place. The refused ones are
     /// then those that were refused before or now. Whatever this answers, what was decided stays so.
@@ -72,6 +73,7 @@ impl<'r, R: TreeReader + CommentReader> Scanner<'r, R> {
         reader: &'r R,
         rules: &'r [RuleFile],
         most: u64,
+        traced: bool,
         decided: &mut DecidedTexts,
         patterns: &mut P,
     ) -> Result<Scanner<'r, R>, Memory>
@@ -82,7 +84,8 @@ impl<'r, R: TreeReader + CommentReader> Scanner<'r, R> {
         ensures refused { OnOk result (TakesAll decided.old decided.new (P.refusals patterns.old) (P.refusals patterns.new)) }
         ensures decided { OnOk result (AreDecided decided.new (texts_of (stated rules.now))) }
         ensures same_reader { IfOk result (λ scanner. scanner.reader.now ≡ reader.now) }
-        ensures begun { IfOk result (HasScanned (grammars_of (R.spells reader.now) (R.knows reader.now) (R.comments reader.now)) decided.new.refused rules.now most []) }
+        ensures traced { IfOk result (λ scanner. scanner.traced ≡ traced) }
+        ensures begun { IfOk result (HasScanned (grammars_of (R.spells reader.now) (R.knows reader.now) (R.comments reader.now) traced) decided.new.refused rules.now most []) }
     {
         let mut notices = Vec::new(alloc);
         let running = take_files(alloc, rules, decided, patterns, &mut notices)?;
@@ -90,6 +93,7 @@ impl<'r, R: TreeReader + CommentReader> Scanner<'r, R> {
             reader,
             running,
             most,
+            traced,
             results: List::new(alloc),
             notices,
         })
@@ -112,9 +116,10 @@ impl<'r, R: TreeReader + CommentReader> Scanner<'r, R> {
     /// Adds what was found in a file that comes after all so far: of whichever file these are all results and all notices by the
     /// rules that run. It is passed over where the files so far have too many findings already.
     pub fn add(&mut self, results: List<Reported>, notices: List<Notice>) -> Result<(), Memory>
-        ensures added { (file : a_file) → IsExactly reported_cmp (IsResultIn (grammars_of (R.spells self.old.reader.now) (R.knows self.old.reader.now) (R.comments self.old.reader.now)) self.old.running.items file) results → ((n : a_notice) → Among notices n ↔ IsNoticeIn (grammars_of (R.spells self.old.reader.now) (R.knows self.old.reader.now) (R.comments self.old.reader.now)) self.old.running.items file n) → OnOk result (Scans (grammars_of (R.spells self.old.reader.now) (R.knows self.old.reader.now) (R.comments self.old.reader.now)) (file ∷ []) self.old self.new) }
+        ensures added { (file : a_file) → IsExactly reported_cmp (IsResultIn (grammars_of (R.spells self.old.reader.now) (R.knows self.old.reader.now) (R.comments self.old.reader.now) self.old.traced) self.old.running.items file) results → ((n : a_notice) → Among notices n ↔ IsNoticeIn (grammars_of (R.spells self.old.reader.now) (R.knows self.old.reader.now) (R.comments self.old.reader.now) self.old.traced) self.old.running.items file n) → OnOk result (Scans (grammars_of (R.spells self.old.reader.now) (R.knows self.old.reader.now) (R.comments self.old.reader.now) self.old.traced) (file ∷ []) self.old self.new) }
         ensures same_rules { self.new.running.items ≡ self.old.running.items }
         ensures same_reader { self.new.reader.now ≡ self.old.reader.now }
+        ensures same_traced { self.new.traced ≡ self.old.traced }
     {
         if self.is_over() {
             return Ok(());
@@ -132,8 +137,9 @@ impl<'r, R: TreeReader + CommentReader> Scanner<'r, R> {
         bytes: Bytes,
         steps: &mut Steps<L>,
     ) -> Result<(), Memory>
-        ensures scanned { OnOk result (Scans (grammars_of (R.spells self.old.reader.now) (R.knows self.old.reader.now) (R.comments self.old.reader.now)) ((path.now, bytes) ∷ []) self.old self.new) }
+        ensures scanned { OnOk result (Scans (grammars_of (R.spells self.old.reader.now) (R.knows self.old.reader.now) (R.comments self.old.reader.now) self.old.traced) ((path.now, bytes) ∷ []) self.old self.new) }
         ensures same_reader { self.new.reader.now ≡ self.old.reader.now }
+        ensures same_traced { self.new.traced ≡ self.old.traced }
     {
         if self.is_over() {
             return Ok(());
@@ -145,6 +151,7 @@ impl<'r, R: TreeReader + CommentReader> Scanner<'r, R> {
             path,
             bytes,
             running,
+            self.traced,
             steps,
             &mut self.notices,
         )?;
@@ -157,12 +164,12 @@ impl<'r, R: TreeReader + CommentReader> Scanner<'r, R> {
     /// TooMany comes exactly where there are more findings than are reported. A file, whatever it holds, and an entry that is
     /// no rule change no finding of another.
     pub fn report(self, alloc: Global) -> Result<Report, ScanFault>
-        ensures fresh { AfterScan (grammars_of (R.spells self.entry.reader.now) (R.knows self.entry.reader.now) (R.comments self.entry.reader.now)) self.entry (λ grammars refused rules most files. IfOk result (IsFresh grammars refused files rules)) }
-        ensures few { AfterScan (grammars_of (R.spells self.entry.reader.now) (R.knows self.entry.reader.now) (R.comments self.entry.reader.now)) self.entry (λ grammars refused rules most files. IfOk result (λ report. length report.results ≤ most)) }
-        ensures too_many { AfterScan (grammars_of (R.spells self.entry.reader.now) (R.knows self.entry.reader.now) (R.comments self.entry.reader.now)) self.entry (λ grammars refused rules most files. (n : ℕ) → result ≡ Err (TooMany n) → (n ≡ most) × HasMore reported_cmp (IsResult grammars (rules_of refused rules) files) most) }
-        ensures only { AfterScan (grammars_of (R.spells self.entry.reader.now) (R.knows self.entry.reader.now) (R.comments self.entry.reader.now)) self.entry (λ grammars refused rules most files. IfOk result (λ report. (r : a_report) → IsFresh grammars refused files rules r → r ≡ report)) }
-        ensures other_files { AfterScan (grammars_of (R.spells self.entry.reader.now) (R.knows self.entry.reader.now) (R.comments self.entry.reader.now)) self.entry (λ grammars refused rules most files. IfOk result (KeepsOtherFiles grammars refused files rules)) }
-        ensures other_rules { AfterScan (grammars_of (R.spells self.entry.reader.now) (R.knows self.entry.reader.now) (R.comments self.entry.reader.now)) self.entry (λ grammars refused rules most files. IfOk result (KeepsOtherRules grammars refused files rules)) }
+        ensures fresh { AfterScan (grammars_of (R.spells self.entry.reader.now) (R.knows self.entry.reader.now) (R.comments self.entry.reader.now) self.entry.traced) self.entry (λ grammars refused rules most files. IfOk result (IsFresh grammars refused files rules)) }
+        ensures few { AfterScan (grammars_of (R.spells self.entry.reader.now) (R.knows self.entry.reader.now) (R.comments self.entry.reader.now) self.entry.traced) self.entry (λ grammars refused rules most files. IfOk result (λ report. length report.results ≤ most)) }
+        ensures too_many { AfterScan (grammars_of (R.spells self.entry.reader.now) (R.knows self.entry.reader.now) (R.comments self.entry.reader.now) self.entry.traced) self.entry (λ grammars refused rules most files. (n : ℕ) → result ≡ Err (TooMany n) → (n ≡ most) × HasMore reported_cmp (IsResult grammars (rules_of refused rules) files) most) }
+        ensures only { AfterScan (grammars_of (R.spells self.entry.reader.now) (R.knows self.entry.reader.now) (R.comments self.entry.reader.now) self.entry.traced) self.entry (λ grammars refused rules most files. IfOk result (λ report. (r : a_report) → IsFresh grammars refused files rules r → r ≡ report)) }
+        ensures other_files { AfterScan (grammars_of (R.spells self.entry.reader.now) (R.knows self.entry.reader.now) (R.comments self.entry.reader.now) self.entry.traced) self.entry (λ grammars refused rules most files. IfOk result (KeepsOtherFiles grammars refused files rules)) }
+        ensures other_rules { AfterScan (grammars_of (R.spells self.entry.reader.now) (R.knows self.entry.reader.now) (R.comments self.entry.reader.now) self.entry.traced) self.entry (λ grammars refused rules most files. IfOk result (KeepsOtherRules grammars refused files rules)) }
     {
         if self.is_over() {
             return Err(ScanFault::TooMany(self.most));

@@ -9,19 +9,22 @@ ghost use Rattle.scan_session.specs.Reports.{reported_cmp};
 ghost use Rattle.scan_session.specs.Looking.{named_leaf, own_leaf};
 ghost use Rattle.scan_session.specs.Asking.{IsAskedFor};
 ghost use Rattle.scan_session.specs.Quieted.{grammars_of};
-ghost use Rattle.scan_session.specs.Fresh.{IsResultIn, IsFoundIn, IsShownIn, IsNotedIn, IsNoticeIn};
+ghost use Rattle.scan_session.specs.Fresh.{IsResultIn, IsShownIn, IsNotedIn, IsNoticeIn};
+ghost use Rattle.scan_session.specs.Followed.{IsTracedIn};
 
 use crate::following::some_follows_in;
 use crate::looking::judge_all;
 use crate::needing::rules_need;
 use crate::quiet::without_quieted;
 use crate::reporting::{note_judged, report_rows};
-use crate::resolving::{resolved_beside, resolved_or_itself};
+use crate::resolving::resolved_or_itself;
 use crate::row::rows_of;
+use crate::tracing::with_traces;
 use code_reader::TreeReader;
 use comment_reader::CommentReader;
 use file_open::{Opened, open_file, with_names};
 use file_search::{FileSearch, WholeFile};
+use import_names::resolved_beside;
 use node_tree::{Bytes, FileView, Lang, List, Memory, Steps};
 use part_judge::SharedFile;
 use path_glob::lang_of;
@@ -31,18 +34,20 @@ use sorted_sets::settled;
 use std::alloc::Global;
 use std::sync::ledger::Ledger;
 
-// What the rules find in the file at that path, by the names that are known in what was opened. The notices are added.
+// What the rules find in the file at that path, by the names that are known in what was opened, with its traces if `traced` says
+// so. The notices are added.
 fn find_view<S: FileSearch, L: Ledger>(
     alloc: Global,
     path: &str,
     view: &FileView,
     search: &mut S,
     running: &[Runner<'_>],
+    traced: bool,
     steps: &mut Steps<L>,
     notices: &mut Vec<Noted>,
 ) -> Result<List<Reported>, Memory>
     requires { S.file search.old ≡ view.now }
-    ensures results { AreApart running.now → IfOk result (IsExactly reported_cmp (IsFoundIn (named_leaf view.now.known) running.now path.now view.now.lang view.now.bytes view.now.tree)) }
+    ensures results { AreApart running.now → IfOk result (IsExactly reported_cmp (IsTracedIn (named_leaf view.now.known) traced running.now path.now view.now.lang view.now.bytes view.now.tree)) }
     ensures notices { OnOk result (Adds notices.old.items notices.new.items (IsNotedIn (named_leaf view.now.known) running.now path.now view.now.lang view.now.bytes view.now.tree)) }
     ensures asked { OnOk result (AsksFor S.asks (IsAskedFor path.now view.now.lang running.now) search.old steps.old search.new steps.new) }
 {
@@ -53,7 +58,9 @@ fn find_view<S: FileSearch, L: Ledger>(
     note_judged(alloc, path, running, found, notices)?;
     let unsorted = rows_of(alloc, running, found)?;
     let rows = settled(alloc, unsorted)?;
-    report_rows(alloc, path, view, running, rows.as_slice())
+    let shown = rows.as_slice();
+    let bares = report_rows(alloc, path, view, running, shown)?;
+    with_traces(alloc, traced, &file, running, shown, bares, search, steps)
 }
 
 /// What the rules find in the file at that path and no comment there quiets, by the names that are known in what was opened. The
@@ -65,15 +72,16 @@ pub fn scan_view<R: CommentReader, S: FileSearch, L: Ledger>(
     view: &FileView,
     search: &mut S,
     running: &[Runner<'_>],
+    traced: bool,
     steps: &mut Steps<L>,
     notices: &mut Vec<Noted>,
 ) -> Result<List<Reported>, Memory>
     requires { S.file search.old ≡ view.now }
-    ensures results { AreApart running.now → IfOk result (IsExactly reported_cmp (IsShownIn (named_leaf view.now.known) (R.comments reader.now) running.now path.now view.now.lang view.now.bytes view.now.tree)) }
+    ensures results { AreApart running.now → IfOk result (IsExactly reported_cmp (IsShownIn (named_leaf view.now.known) (R.comments reader.now) traced running.now path.now view.now.lang view.now.bytes view.now.tree)) }
     ensures notices { OnOk result (Adds notices.old.items notices.new.items (IsNotedIn (named_leaf view.now.known) running.now path.now view.now.lang view.now.bytes view.now.tree)) }
     ensures asked { OnOk result (AsksFor S.asks (IsAskedFor path.now view.now.lang running.now) search.old steps.old search.new steps.new) }
 {
-    let found = find_view(alloc, path, view, search, running, steps, notices)?;
+    let found = find_view(alloc, path, view, search, running, traced, steps, notices)?;
     without_quieted(alloc, reader, view, found)
 }
 
@@ -84,10 +92,11 @@ fn show_bare<R: TreeReader + CommentReader, L: Ledger>(
     path: &str,
     view: &FileView,
     running: &[Runner<'_>],
+    traced: bool,
     steps: &mut Steps<L>,
     notices: &mut Vec<Noted>,
 ) -> Result<Option<List<Reported>>, Memory>
-    ensures results { AreApart running.now → IfOk result (λ shown. IfSome shown (IsExactly reported_cmp (IsShownIn (own_leaf (R.knows reader.now)) (R.comments reader.now) running.now path.now view.now.lang view.now.bytes view.now.tree))) }
+    ensures results { AreApart running.now → IfOk result (λ shown. IfSome shown (IsExactly reported_cmp (IsShownIn (own_leaf (R.knows reader.now)) (R.comments reader.now) traced running.now path.now view.now.lang view.now.bytes view.now.tree))) }
     ensures notices { IfOk result (λ shown. IsSome shown → Adds notices.old.items notices.new.items (IsNotedIn (own_leaf (R.knows reader.now)) running.now path.now view.now.lang view.now.bytes view.now.tree)) }
     ensures untold { IfOk result (λ shown. shown ≡ None → notices.new.items ≡ notices.old.items) }
 {
@@ -97,7 +106,7 @@ fn show_bare<R: TreeReader + CommentReader, L: Ledger>(
         return Ok(None);
     }
     let shown = scan_view(
-        alloc, reader, path, view, &mut file, running, steps, notices,
+        alloc, reader, path, view, &mut file, running, traced, steps, notices,
     )?;
     Ok(Some(shown))
 }
@@ -109,17 +118,18 @@ fn show_named<R: TreeReader + CommentReader, L: Ledger>(
     path: &str,
     view: FileView,
     running: &[Runner<'_>],
+    traced: bool,
     steps: &mut Steps<L>,
     notices: &mut Vec<Noted>,
 ) -> Result<List<Reported>, Memory>
-    ensures results { AreApart running.now → IfOk result (IsExactly reported_cmp (IsShownIn (own_leaf (R.knows reader.now)) (R.comments reader.now) running.now path.now view.lang view.bytes view.tree)) }
+    ensures results { AreApart running.now → IfOk result (IsExactly reported_cmp (IsShownIn (own_leaf (R.knows reader.now)) (R.comments reader.now) traced running.now path.now view.lang view.bytes view.tree)) }
     ensures notices { OnOk result (Adds notices.old.items notices.new.items (IsNotedIn (own_leaf (R.knows reader.now)) running.now path.now view.lang view.bytes view.tree)) }
 {
     let named = with_names(alloc, reader, view)?;
     let beside = resolved_beside(alloc, &named)?;
     let mut file = WholeFile::of(alloc, &named, resolved_or_itself(&named, &beside))?;
     scan_view(
-        alloc, reader, path, &named, &mut file, running, steps, notices,
+        alloc, reader, path, &named, &mut file, running, traced, steps, notices,
     )
 }
 
@@ -131,15 +141,16 @@ fn show_view<R: TreeReader + CommentReader, L: Ledger>(
     path: &str,
     view: FileView,
     running: &[Runner<'_>],
+    traced: bool,
     steps: &mut Steps<L>,
     notices: &mut Vec<Noted>,
 ) -> Result<List<Reported>, Memory>
-    ensures results { AreApart running.now → IfOk result (IsExactly reported_cmp (IsShownIn (own_leaf (R.knows reader.now)) (R.comments reader.now) running.now path.now view.lang view.bytes view.tree)) }
+    ensures results { AreApart running.now → IfOk result (IsExactly reported_cmp (IsShownIn (own_leaf (R.knows reader.now)) (R.comments reader.now) traced running.now path.now view.lang view.bytes view.tree)) }
     ensures notices { OnOk result (Adds notices.old.items notices.new.items (IsNotedIn (own_leaf (R.knows reader.now)) running.now path.now view.lang view.bytes view.tree)) }
 {
-    match show_bare(alloc, reader, path, &view, running, steps, notices)? {
+    match show_bare(alloc, reader, path, &view, running, traced, steps, notices)? {
         Some(shown) => Ok(shown),
-        None => show_named(alloc, reader, path, view, running, steps, notices),
+        None => show_named(alloc, reader, path, view, running, traced, steps, notices),
     }
 }
 
@@ -151,11 +162,12 @@ pub fn scan_file<R: TreeReader + CommentReader, L: Ledger>(
     path: &str,
     bytes: Bytes,
     running: &[Runner<'_>],
+    traced: bool,
     steps: &mut Steps<L>,
     notices: &mut Vec<Noted>,
 ) -> Result<List<Reported>, Memory>
-    ensures results { AreApart running.now → IfOk result (IsExactly reported_cmp (IsResultIn (grammars_of (R.spells reader.now) (R.knows reader.now) (R.comments reader.now)) running.now (path.now, bytes))) }
-    ensures notices { OnOk result (Adds notices.old.items notices.new.items (IsNoticeIn (grammars_of (R.spells reader.now) (R.knows reader.now) (R.comments reader.now)) running.now (path.now, bytes))) }
+    ensures results { AreApart running.now → IfOk result (IsExactly reported_cmp (IsResultIn (grammars_of (R.spells reader.now) (R.knows reader.now) (R.comments reader.now) traced) running.now (path.now, bytes))) }
+    ensures notices { OnOk result (Adds notices.old.items notices.new.items (IsNoticeIn (grammars_of (R.spells reader.now) (R.knows reader.now) (R.comments reader.now) traced) running.now (path.now, bytes))) }
 {
     let lang = lang_of(path).unwrap_or(Lang::Regex);
     let opened = open_file(alloc, reader, lang, bytes, steps)?;
@@ -170,8 +182,8 @@ pub fn scan_file<R: TreeReader + CommentReader, L: Ledger>(
         }
         Opened::NoTree(view) => {
             add_notice(alloc, notices, path, "", NoticeKind::NoTree, "")?;
-            show_view(alloc, reader, path, view, running, steps, notices)
+            show_view(alloc, reader, path, view, running, traced, steps, notices)
         }
-        Opened::Read(view) => show_view(alloc, reader, path, view, running, steps, notices),
+        Opened::Read(view) => show_view(alloc, reader, path, view, running, traced, steps, notices),
     }
 }

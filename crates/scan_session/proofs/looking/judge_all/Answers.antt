@@ -51,3 +51,9 @@ returns-clause-asked g c =
     let i = c.loop-number.number in
     let a = c.loop-number-test.false in
     asks_end g.S.FileSearch.asks (RuleAsksFor c.args.path.now c.args.view.now.lang) rules (drop i rules) c.args.search.now c.loop-number.search c.args.steps.now c.loop-number.steps c.loop-number.invariant.3 (drop_all i rules (omega (arith, a)))
+
+pub returns-clause-same : goal.returns-clause-same
+returns-clause-same g c = c.loop-number.invariant.2
+
+pub returns-in_err-add_rule-clause-same : goal.returns-in_err-add_rule-clause-same
+returns-in_err-add_rule-clause-same g c = c.add_rule.ensures.same ∙ c.loop-number.invariant.2

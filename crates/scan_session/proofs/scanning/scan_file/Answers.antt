@@ -15,7 +15,7 @@ use Rattle.scan_session.proofs.scanning.scan_file.Goals as goal
 
 pub returns-in_ok-add_notice-in-TooLarge-clause-results : goal.returns-in_ok-add_notice-in-TooLarge-clause-results
 returns-in_ok-add_notice-in-TooLarge-clause-results g c apart =
-    let grammars = grammars_of (g.R.TreeReader.spells c.args.reader.now) (g.R.TreeReader.knows c.args.reader.now) (g.R.CommentReader.comments c.args.reader.now) in
+    let grammars = grammars_of (g.R.TreeReader.spells c.args.reader.now) (g.R.TreeReader.knows c.args.reader.now) (g.R.CommentReader.comments c.args.reader.now) c.args.traced in
     let path = c.args.path.now in
     let bytes = c.args.bytes in
     let e : c.unwrap_or-lang.result ≡ lang_at path = c.unwrap_or-lang.ensures ∙ ap (λ (o : Option Lang). unwrap_or o Regex) c.lang_of.ensures in
@@ -25,7 +25,7 @@ returns-in_ok-add_notice-in-TooLarge-clause-results g c apart =
 
 pub returns-in_ok-add_notice-in-TooLarge-clause-notices : goal.returns-in_ok-add_notice-in-TooLarge-clause-notices
 returns-in_ok-add_notice-in-TooLarge-clause-notices g c =
-    let grammars = grammars_of (g.R.TreeReader.spells c.args.reader.now) (g.R.TreeReader.knows c.args.reader.now) (g.R.CommentReader.comments c.args.reader.now) in
+    let grammars = grammars_of (g.R.TreeReader.spells c.args.reader.now) (g.R.TreeReader.knows c.args.reader.now) (g.R.CommentReader.comments c.args.reader.now) c.args.traced in
     let path = c.args.path.now in
     let bytes = c.args.bytes in
     let e : c.unwrap_or-lang.result ≡ lang_at path = c.unwrap_or-lang.ensures ∙ ap (λ (o : Option Lang). unwrap_or o Regex) c.lang_of.ensures in
@@ -35,7 +35,7 @@ returns-in_ok-add_notice-in-TooLarge-clause-notices g c =
 
 pub returns-in_ok-add_notice-in-NotUtf8-clause-results : goal.returns-in_ok-add_notice-in-NotUtf8-clause-results
 returns-in_ok-add_notice-in-NotUtf8-clause-results g c apart =
-    let grammars = grammars_of (g.R.TreeReader.spells c.args.reader.now) (g.R.TreeReader.knows c.args.reader.now) (g.R.CommentReader.comments c.args.reader.now) in
+    let grammars = grammars_of (g.R.TreeReader.spells c.args.reader.now) (g.R.TreeReader.knows c.args.reader.now) (g.R.CommentReader.comments c.args.reader.now) c.args.traced in
     let path = c.args.path.now in
     let bytes = c.args.bytes in
     let e : c.unwrap_or-lang.result ≡ lang_at path = c.unwrap_or-lang.ensures ∙ ap (λ (o : Option Lang). unwrap_or o Regex) c.lang_of.ensures in
@@ -45,7 +45,7 @@ returns-in_ok-add_notice-in-NotUtf8-clause-results g c apart =
 
 pub returns-in_ok-add_notice-in-NotUtf8-clause-notices : goal.returns-in_ok-add_notice-in-NotUtf8-clause-notices
 returns-in_ok-add_notice-in-NotUtf8-clause-notices g c =
-    let grammars = grammars_of (g.R.TreeReader.spells c.args.reader.now) (g.R.TreeReader.knows c.args.reader.now) (g.R.CommentReader.comments c.args.reader.now) in
+    let grammars = grammars_of (g.R.TreeReader.spells c.args.reader.now) (g.R.TreeReader.knows c.args.reader.now) (g.R.CommentReader.comments c.args.reader.now) c.args.traced in
     let path = c.args.path.now in
     let bytes = c.args.bytes in
     let e : c.unwrap_or-lang.result ≡ lang_at path = c.unwrap_or-lang.ensures ∙ ap (λ (o : Option Lang). unwrap_or o Regex) c.lang_of.ensures in
@@ -55,7 +55,7 @@ returns-in_ok-add_notice-in-NotUtf8-clause-notices g c =
 
 pub returns-in_ok-add_notice-in-NoTree-clause-results : goal.returns-in_ok-add_notice-in-NoTree-clause-results
 returns-in_ok-add_notice-in-NoTree-clause-results g c apart =
-    let grammars = grammars_of (g.R.TreeReader.spells c.args.reader.now) (g.R.TreeReader.knows c.args.reader.now) (g.R.CommentReader.comments c.args.reader.now) in
+    let grammars = grammars_of (g.R.TreeReader.spells c.args.reader.now) (g.R.TreeReader.knows c.args.reader.now) (g.R.CommentReader.comments c.args.reader.now) c.args.traced in
     let path = c.args.path.now in
     let bytes = c.args.bytes in
     let rules = c.args.running.now in
@@ -63,12 +63,12 @@ returns-in_ok-add_notice-in-NoTree-clause-results g c apart =
     let e : c.unwrap_or-lang.result ≡ lang_at path = c.unwrap_or-lang.ensures ∙ ap (λ (o : Option Lang). unwrap_or o Regex) c.lang_of.ensures in
     let is = opened_as grammars.spells path bytes _ _ (opened.NoTree v) e c.in-NoTree.is c.in_ok-opened.ensures.opened in
     let only = only_as grammars.spells path bytes _ _ (opened.NoTree v) e c.in-NoTree.is c.in_ok-opened.ensures.only in
-    if_reported (IsExactly reported_cmp (IsShownIn grammars.leaf_of grammars.comments rules path v.lang v.bytes v.tree)) (IsExactly reported_cmp (IsResultIn grammars rules (path, bytes))) c.show_view.result
+    if_reported (IsExactly reported_cmp (IsShownIn grammars.leaf_of grammars.comments grammars.traced rules path v.lang v.bytes v.tree)) (IsExactly reported_cmp (IsResultIn grammars rules (path, bytes))) c.show_view.result
     (λ rs h. seen_results grammars rules path bytes (opened.NoTree v) is only v.lang v.bytes v.tree (refl, refl) (λ l t s. s) is.2.bytes_are rs h) (c.show_view.ensures.results apart)
 
 pub returns-in_ok-add_notice-in-NoTree-clause-notices : goal.returns-in_ok-add_notice-in-NoTree-clause-notices
 returns-in_ok-add_notice-in-NoTree-clause-notices g c =
-    let grammars = grammars_of (g.R.TreeReader.spells c.args.reader.now) (g.R.TreeReader.knows c.args.reader.now) (g.R.CommentReader.comments c.args.reader.now) in
+    let grammars = grammars_of (g.R.TreeReader.spells c.args.reader.now) (g.R.TreeReader.knows c.args.reader.now) (g.R.CommentReader.comments c.args.reader.now) c.args.traced in
     let path = c.args.path.now in
     let bytes = c.args.bytes in
     let rules = c.args.running.now in
@@ -83,7 +83,7 @@ returns-in_ok-add_notice-in-NoTree-clause-notices g c =
 
 pub returns-in-Read-clause-results : goal.returns-in-Read-clause-results
 returns-in-Read-clause-results g c apart =
-    let grammars = grammars_of (g.R.TreeReader.spells c.args.reader.now) (g.R.TreeReader.knows c.args.reader.now) (g.R.CommentReader.comments c.args.reader.now) in
+    let grammars = grammars_of (g.R.TreeReader.spells c.args.reader.now) (g.R.TreeReader.knows c.args.reader.now) (g.R.CommentReader.comments c.args.reader.now) c.args.traced in
     let path = c.args.path.now in
     let bytes = c.args.bytes in
     let rules = c.args.running.now in
@@ -91,12 +91,12 @@ returns-in-Read-clause-results g c apart =
     let e : c.unwrap_or-lang.result ≡ lang_at path = c.unwrap_or-lang.ensures ∙ ap (λ (o : Option Lang). unwrap_or o Regex) c.lang_of.ensures in
     let is = opened_as grammars.spells path bytes _ _ (opened.Read v) e c.in-Read.is c.in_ok-opened.ensures.opened in
     let only = only_as grammars.spells path bytes _ _ (opened.Read v) e c.in-Read.is c.in_ok-opened.ensures.only in
-    if_reported (IsExactly reported_cmp (IsShownIn grammars.leaf_of grammars.comments rules path v.lang v.bytes v.tree)) (IsExactly reported_cmp (IsResultIn grammars rules (path, bytes))) c.show_view-in-Read.result
+    if_reported (IsExactly reported_cmp (IsShownIn grammars.leaf_of grammars.comments grammars.traced rules path v.lang v.bytes v.tree)) (IsExactly reported_cmp (IsResultIn grammars rules (path, bytes))) c.show_view-in-Read.result
     (λ rs h. seen_results grammars rules path bytes (opened.Read v) is only v.lang v.bytes v.tree (refl, refl) (λ l t s. s) is.2.bytes_are rs h) (c.show_view-in-Read.ensures.results apart)
 
 pub returns-in-Read-clause-notices : goal.returns-in-Read-clause-notices
 returns-in-Read-clause-notices g c =
-    let grammars = grammars_of (g.R.TreeReader.spells c.args.reader.now) (g.R.TreeReader.knows c.args.reader.now) (g.R.CommentReader.comments c.args.reader.now) in
+    let grammars = grammars_of (g.R.TreeReader.spells c.args.reader.now) (g.R.TreeReader.knows c.args.reader.now) (g.R.CommentReader.comments c.args.reader.now) c.args.traced in
     let path = c.args.path.now in
     let bytes = c.args.bytes in
     let rules = c.args.running.now in

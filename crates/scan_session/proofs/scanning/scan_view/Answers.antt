@@ -17,8 +17,8 @@ returns-clause-results g c apart =
     let rules = c.args.running.now in
     let path = c.args.path.now in
     let comments = g.R.CommentReader.comments c.args.reader.now in
-    if_reported (AreUnquieted comments v.lang v.bytes c.in_ok-found.found) (IsExactly reported_cmp (IsShownIn (named_leaf v.known) comments rules path v.lang v.bytes v.tree)) c.without_quieted.result
-    (λ shown u. shown_exactly comments v.lang v.bytes (named_leaf v.known) rules path v.tree c.in_ok-found.found shown (c.in_ok-found.ensures.results apart) u) c.without_quieted.ensures
+    if_reported (AreUnquieted comments v.lang v.bytes c.in_ok-found.found) (IsExactly reported_cmp (IsShownIn (named_leaf v.known) comments c.args.traced rules path v.lang v.bytes v.tree)) c.without_quieted.result
+    (λ shown u. shown_exactly comments v.lang v.bytes (named_leaf v.known) c.args.traced rules path v.tree c.in_ok-found.found shown (c.in_ok-found.ensures.results apart) u) c.without_quieted.ensures
 
 pub returns-clause-notices : goal.returns-clause-notices
 returns-clause-notices g c =

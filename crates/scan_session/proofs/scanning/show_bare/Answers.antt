@@ -9,7 +9,7 @@ returns-clause-results g c apart =
     let v = c.args.view.now in
     let rules = c.args.running.now in
     let free = subst (λ (w : FileView). RulesNeedNoNames w.lang w.tree rules) c.in_ok-file.ensures (c.in_ok-rules_need.ensures c.if-branch.false) in
-    shown_served (g.R.TreeReader.knows c.args.reader.now) v.lang v.tree v.known rules (inr free) (g.R.CommentReader.comments c.args.reader.now) c.args.path.now v.bytes c.in_ok-shown.shown (c.in_ok-shown.ensures.results apart)
+    shown_served (g.R.TreeReader.knows c.args.reader.now) v.lang v.tree v.known rules (inr free) (g.R.CommentReader.comments c.args.reader.now) c.args.traced c.args.path.now v.bytes c.in_ok-shown.shown (c.in_ok-shown.ensures.results apart)
 
 pub returns-clause-notices : goal.returns-clause-notices
 returns-clause-notices g c _ =

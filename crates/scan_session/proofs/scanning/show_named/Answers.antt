@@ -15,8 +15,8 @@ returns-clause-results g c apart =
     let v = c.in_ok-named.named in
     let rules = c.args.running.now in
     let path = c.args.path.now in
-    if_reported (IsExactly reported_cmp (IsShownIn (named_leaf v.known) comments rules path v.lang v.bytes v.tree)) (IsExactly reported_cmp (IsShownIn (own_leaf knows) comments rules path bare.lang bare.bytes bare.tree)) c.scan_view.result
-    (λ rs h. shown_named knows bare v c.in_ok-named.ensures rules path comments rs h) (c.scan_view.ensures.results apart)
+    if_reported (IsExactly reported_cmp (IsShownIn (named_leaf v.known) comments c.args.traced rules path v.lang v.bytes v.tree)) (IsExactly reported_cmp (IsShownIn (own_leaf knows) comments c.args.traced rules path bare.lang bare.bytes bare.tree)) c.scan_view.result
+    (λ rs h. shown_named knows bare v c.in_ok-named.ensures rules path comments c.args.traced rs h) (c.scan_view.ensures.results apart)
 
 pub returns-clause-notices : goal.returns-clause-notices
 returns-clause-notices g c =

@@ -8,12 +8,12 @@ use Rattle.scan_session.proofs.scanner.Scanner.add.Goals as goal
 pub returns-then-is_over-clause-added : goal.returns-then-is_over-clause-added
 returns-then-is_over-clause-added g c file finds told refused rule_files most files up h =
     let s = c.args.self.now in
-    passed_over (grammars_of (g.R.TreeReader.spells s.reader.now) (g.R.TreeReader.knows s.reader.now) (g.R.CommentReader.comments s.reader.now)) refused rule_files most files s h _ (c.is_over.ensures.0 c.if-is_over.true)
+    passed_over (grammars_of (g.R.TreeReader.spells s.reader.now) (g.R.TreeReader.knows s.reader.now) (g.R.CommentReader.comments s.reader.now) s.traced) refused rule_files most files s h _ (c.is_over.ensures.0 c.if-is_over.true)
 
 pub returns-clause-added : goal.returns-clause-added
 returns-clause-added g c file finds told =
     let s = c.args.self.now in
-    let grammars = grammars_of (g.R.TreeReader.spells s.reader.now) (g.R.TreeReader.knows s.reader.now) (g.R.CommentReader.comments s.reader.now) in
+    let grammars = grammars_of (g.R.TreeReader.spells s.reader.now) (g.R.TreeReader.knows s.reader.now) (g.R.CommentReader.comments s.reader.now) s.traced in
     let few = not_over s c.is_over.result c.is_over.ensures c.if-is_over.false in
     let new = c.append_notices.new.notices.items in
     on_ok_map c.append.result (λ put refused rule_files most files up h. record {

@@ -11,7 +11,7 @@ returns-clause-begun g c =
     let rules = running refused c.args.rules.now in
     let before = rule_notices refused c.args.rules.now in
     let noted = c.in_ok-running.ensures.notices ∙ ap (λ (ns : List Notice). ns ++ before) c.new-notices.ensures.items in
-    record { limit = refl; rules = c.in_ok-running.ensures.rules; found = inl (none_yet (grammars_of (g.R.TreeReader.spells c.args.reader.now) (g.R.TreeReader.knows c.args.reader.now) (g.R.CommentReader.comments c.args.reader.now)) rules before c.args.most c.new.result c.take_files.new.notices.items c.new.ensures noted) }
+    record { limit = refl; rules = c.in_ok-running.ensures.rules; found = inl (none_yet (grammars_of (g.R.TreeReader.spells c.args.reader.now) (g.R.TreeReader.knows c.args.reader.now) (g.R.CommentReader.comments c.args.reader.now) c.args.traced) rules before c.args.most c.new.result c.take_files.new.notices.items c.new.ensures noted) }
 
 pub returns-in_err-running-clause-grows : goal.returns-in_err-running-clause-grows
 returns-in_err-running-clause-grows g c = c.take_files.ensures.begun.gains
