@@ -6,26 +6,38 @@ use Rattle.scan_world.specs.Streams.{AppendsFront}
 use Rattle.report_form.specs.declared.report.Report.{Report}
 use Rattle.run_status.specs.declared.status.Status.{Status}
 use Rattle.run_status.specs.declared.status.Status.TheVariants.{Done}
-use Rattle.run_status.specs.Ways.{Printed, PrintedFront}
+use Rattle.run_status.specs.Ways.{PrintedFront}
 use Rattle.stream_run.specs.Doing.{Setting}
-use Rattle.stream_run.proofs.Streaming.{one_line, one_front}
-use Rattle.drill_run.specs.Drilling.{HasDrilled, drill_line, DrillEnds, done}
+use Rattle.stream_run.proofs.Streaming.{nothing_written, one_line, one_front}
+use Rattle.drill_run.specs.Drilling.{drill_line, DrillEnds, done}
+use Rattle.drill_run.specs.Costs.{HasDrilledAfter, DrilledAfter, EndsSo}
 
-module _ (s : Setting) (count : ℕ) (written : Option (List ℕ)) where
-  module _ (reports : List Report) (drilled : HasDrilled s count reports) (first second : Report) (are : reports ≡ first ∷ second ∷ []) (written_after : Option (List ℕ)) where
-    ends : DrillEnds s count Done (drill_line count first second ∷ [])
-    ends = done first second (subst (λ (rs : List Report). HasDrilled s count rs) are drilled)
+module _ (s : Setting) (count before after : ℕ) (written : Option (List ℕ)) where
+  module _ (reports : List Report) (drilled : HasDrilledAfter s count reports before after) (first second : Report) (are : reports ≡ first ∷ second ∷ []) (written_after : Option (List ℕ)) where
+    both : HasDrilledAfter s count (first ∷ second ∷ []) before after
+    both = subst (λ (rs : List Report). HasDrilledAfter s count rs before after) are drilled
 
-    pub ends_printed : (status : Status) → status ≡ Done → Appends written written_after (drill_line count first second) → Printed (DrillEnds s count) written written_after status
-    ends_printed status is put =
-        subst (λ (st : Status). Printed (DrillEnds s count) written written_after st) (sym is)
-        (record { lines = drill_line count first second ∷ []; ends = ends; printed = one_line written written_after (drill_line count first second) (drill_line count first second) refl put })
+    pub ends_after : (status : Status) → status ≡ Done → Appends written written_after (drill_line count first second) → DrilledAfter s count written written_after status before after
+    ends_after status is put =
+        subst (λ (st : Status). DrilledAfter s count written written_after st before after) (sym is)
+        (record {
+          prints = record {
+            lines = drill_line count first second ∷ [];
+            ends = done first second both.0;
+            printed = one_line written written_after (drill_line count first second) (drill_line count first second) refl put;
+          };
+          takes = both.1;
+        })
 
     pub ends_front : AppendsFront written written_after (drill_line count first second) → PrintedFront (DrillEnds s count) written written_after
     ends_front put = record {
       status = Done;
       finished = tt;
       lines = drill_line count first second ∷ [];
-      ends = ends;
+      ends = done first second both.0;
       printed = one_front written written_after (drill_line count first second) (drill_line count first second) refl put;
     }
+
+  -- it came to no line
+  pub ends_early : (status : Status) → EndsSo s count status [] before after → DrilledAfter s count written written status before after
+  ends_early status ends = record { prints = record { lines = []; ends = ends.0; printed = nothing_written written }; takes = ends.1 }

@@ -1,2 +1,3 @@
 pub mod Drilling
+pub mod Costs
 pub mod Commands

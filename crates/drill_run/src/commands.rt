@@ -4,8 +4,10 @@ ghost use Rattle.std.specs.Prelude.{◌≡◌, [], ◌++◌, length, Err, OnOk, 
 ghost use Rattle.scan_world.specs.Trees.{KeepsFiles};
 ghost use Rattle.decided_texts.specs.Refused.{gained, Gains};
 ghost use Rattle.run_status.specs.Status.{IsAnswer};
-ghost use Rattle.stream_run.specs.Still.{IsNew, Keeps, RefusesGained};
-ghost use Rattle.drill_run.specs.Drilling.{report_in, IsWithin, HasDrilled, DrillEnds};
+ghost use Rattle.seen_files.specs.Seen.{HasSeenNone};
+ghost use Rattle.stream_run.specs.Still.{IsNew, CostsStill, Keeps, RefusesGained};
+ghost use Rattle.drill_run.specs.Drilling.{report_in, IsWithin};
+ghost use Rattle.drill_run.specs.Costs.{HasDrilledAfter, EndsSo};
 ghost use Rattle.drill_run.specs.Commands.{drill_setting, EndsAdding, DoesNext, StopsAt, HasStopCause};
 
 use node_tree::{List, Steps};
@@ -44,6 +46,7 @@ fn do_one<W: Workspace, T: Tree, P: Patterns, L: Ledger>(
 ) -> Result<(), Status>
     ensures does { OnOk result (DoesNext (W.readings (W.reader workspace.old)) (W.state workspace.old) wire.now (W.state workspace.new) reports.old reports.new) }
     ensures stops { IfErr result (StopsAt (W.readings (W.reader workspace.old)) (W.state workspace.old) wire.now (W.state workspace.new)) }
+    ensures work { (result ≡ Err Status.Memory → ⊥) → CostsStill (W.readings (W.reader workspace.old)) (W.state workspace.old) wire.now (W.state workspace.new) (W.seen workspace.old) (W.seen workspace.new) steps.old steps.new }
     ensures refused { (result ≡ Err Status.Memory → ⊥) → RefusesGained (W.state workspace.old) (W.state workspace.new) (P.refusals patterns.old) (P.refusals patterns.new) }
     ensures keeps { Keeps (W.state workspace.old) (W.state workspace.new) (P.refusals patterns.old) (P.refusals patterns.new) }
     ensures same_reader { W.reader workspace.new ≡ W.reader workspace.old }
@@ -57,7 +60,8 @@ fn do_one<W: Workspace, T: Tree, P: Patterns, L: Ledger>(
     }
 }
 
-/// Does the commands of the drill with so many files on a new workspace. Gives the reports of its scans, of which there are two.
+/// Does the commands of the drill with so many files on a new workspace, each for its steps. Gives the reports of its scans, of which
+/// there are two.
 pub fn do_all<W: Workspace, T: Tree, P: Patterns, L: Ledger>(
     alloc: Global,
     count: u32,
@@ -66,10 +70,11 @@ pub fn do_all<W: Workspace, T: Tree, P: Patterns, L: Ledger>(
     patterns: &mut P,
     steps: &mut Steps<L>,
 ) -> Result<List<Report>, Status>
-    requires { IsNew (W.state workspace.old) }
-    ensures drilled { IfOk result (HasDrilled (drill_setting (W.readings (W.reader workspace.old)) (W.state workspace.old).most (gained (P.refusals patterns.old) (P.refusals patterns.new))) count) }
+    requires new { IsNew (W.state workspace.old) }
+    requires unseen { HasSeenNone (W.seen workspace.old) }
+    ensures drilled { IfOk result (λ reports. HasDrilledAfter (drill_setting (W.readings (W.reader workspace.old)) (W.state workspace.old).most (gained (P.refusals patterns.old) (P.refusals patterns.new))) count reports steps.old steps.new) }
     ensures two { IfOk result (λ reports. length reports ≡ 2) }
-    ensures ends { IfErr result (λ status. IsAnswer status → DrillEnds (drill_setting (W.readings (W.reader workspace.old)) (W.state workspace.old).most (gained (P.refusals patterns.old) (P.refusals patterns.new))) count status []) }
+    ensures ends { IfErr result (λ status. IsAnswer status → EndsSo (drill_setting (W.readings (W.reader workspace.old)) (W.state workspace.old).most (gained (P.refusals patterns.old) (P.refusals patterns.new))) count status [] steps.old steps.new) }
     ensures files_kept { KeepsFiles (T.files tree.old) (T.files tree.new) }
     ensures unfailed { OnOk result (T.faults tree.new ≡ T.faults tree.old) }
     ensures cause { IfErr result (HasStopCause (T.faults tree.old) (T.faults tree.new)) }

@@ -7,7 +7,9 @@ ghost use Rattle.decided_texts.specs.Refused.{gained, Gains};
 ghost use Rattle.run_status.specs.Status.{IsAnswer};
 ghost use Rattle.run_status.specs.Ways.{Printed, PrintedFront};
 ghost use Rattle.stream_run.specs.Still.{IsNew};
+ghost use Rattle.seen_files.specs.Seen.{HasSeenNone};
 ghost use Rattle.drill_run.specs.Drilling.{DrillEnds};
+ghost use Rattle.drill_run.specs.Costs.{DrilledAfter};
 ghost use Rattle.drill_run.specs.Commands.{drill_setting};
 
 use crate::commands::do_all;
@@ -23,7 +25,8 @@ use workspace::Workspace;
 /// Does the session that is made from the number, on a new workspace, and prints how many files it puts, how many findings both of
 /// its scans have, and how many notices the second.
 ///
-/// It has no command that looks at the tree, so how it ends and what it prints is the same whatever the tree tells.
+/// It has no command that looks at the tree, so how it ends and what it prints is the same whatever the tree tells. It takes the
+/// steps of its scans, as `specs/Costs.antt` says.
 pub fn drill<W: Workspace, T: Tree, K: Sink, P: Patterns, L: Ledger>(
     alloc: Global,
     count: u32,
@@ -33,8 +36,10 @@ pub fn drill<W: Workspace, T: Tree, K: Sink, P: Patterns, L: Ledger>(
     patterns: &mut P,
     steps: &mut Steps<L>,
 ) -> Status
-    requires { IsNew (W.state workspace.old) }
+    requires new { IsNew (W.state workspace.old) }
+    requires unseen { HasSeenNone (W.seen workspace.old) }
     ensures ends { IsAnswer result → Printed (DrillEnds (drill_setting (W.readings (W.reader workspace.old)) (W.state workspace.old).most (gained (P.refusals patterns.old) (P.refusals patterns.new))) count) (K.written out.old) (K.written out.new) result }
+    ensures work { IsAnswer result → DrilledAfter (drill_setting (W.readings (W.reader workspace.old)) (W.state workspace.old).most (gained (P.refusals patterns.old) (P.refusals patterns.new))) count (K.written out.old) (K.written out.new) result steps.old steps.new }
     ensures output_kept { IsAnswer result → K.faults out.new ≡ K.faults out.old }
     ensures tree_kept { IsAnswer result → T.faults tree.new ≡ T.faults tree.old }
     ensures no_input { result ≡ Status.InputFault → ⊥ }

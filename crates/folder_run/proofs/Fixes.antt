@@ -1,5 +1,5 @@
 -- What fixing a folder comes to.
-use Rattle.std.proofs.Common.{◌≡◌, ◌≢◌, ℕ, ◌≤◌, Bool, true, false, List, [], ◌∷◌, ◌++◌, length, refl, sym, ap, ◌∙◌, subst}
+use Rattle.std.proofs.Common.{◌≡◌, ℕ, ◌≤◌, Bool, List, [], ◌∷◌, ◌++◌, length, refl, sym, ap, ◌∙◌, subst}
 use Rattle.std.specs.Prelude.{Option, None, Some, Result, Ok, Err, if◌then◌else◌}
 use Rattle.std.specs.List.{concat}
 use Rattle.std.proofs.lemmas.List.{append-nil}
@@ -14,21 +14,24 @@ use Rattle.fix_apply.specs.declared.fixed.FixedFile.{FixedFile}
 use Rattle.fix_apply.specs.declared.fixed.FixReport.{FixReport}
 use Rattle.run_status.specs.declared.status.Status.{Status}
 use Rattle.run_status.specs.declared.status.Status.TheVariants as statuses
-use Rattle.run_status.specs.Status.{IsAnswer}
 use Rattle.run_status.specs.Ways.{Printed, PrintedFront}
+use Rattle.seen_files.specs.declared.seen.SeenFiles.{SeenFiles}
+use Rattle.seen_files.specs.Seen.{HasSeenNone}
 use Rattle.wire_words.specs.Commands.{Task}
 use Rattle.workspace.specs.declared.fault.FixFault.{FixFault}
 use Rattle.workspace.specs.declared.fault.FixFault.TheVariants as faults
 use Rattle.workspace.specs.State.{State}
 use Rattle.workspace.specs.Reports.{Readings, HasMoreResults}
+use Rattle.workspace.specs.Work.{Works}
 use Rattle.workspace.specs.Fixes.{IsFixReport, FixesPass, files_fixed}
 use Rattle.stream_run.specs.Printed.{fix_line}
-use Rattle.stream_run.specs.Doing.{Setting, Shelves}
+use Rattle.stream_run.specs.Doing.{Setting}
 use Rattle.stream_run.specs.Still.{setting, shelves_of, IsNew}
 use Rattle.folder_run.specs.Taking.{Takes, TakesNone}
 use Rattle.folder_run.specs.Ends.{FixEnds, none, too_many, over, fixed, FixPrints}
-use Rattle.folder_run.specs.Written.{WritesAll, WritesBut, WritesSome, LeavesOf, kept, all, some, Leaves, untouched, by_fixes, Wrote}
-use Rattle.folder_run.proofs.Wrote.{none_written, kept_writes, writes_before}
+use Rattle.folder_run.specs.Costs.{ScansOnce, FixedAfter}
+use Rattle.folder_run.specs.Written.{WritesAll, WritesBut, LeavesOf, kept, all, some, Leaves, by_fixes, Wrote}
+use Rattle.folder_run.proofs.Wrote.{kept_writes, writes_before}
 
 pub nothing_written : (a : Option (List ℕ)) → Appends a a []
 nothing_written None = tt
@@ -73,8 +76,8 @@ leaves_before dry files told now new h (some e w) = some e (record {
 -- ---- the rules and the files were not taken
 
 module _ (s : Setting) (task : Task) (status : Status) (no : TakesNone s.readings s.told task.config task.prefix status) where
-  pub none_prints : (written : Option (List ℕ)) → Printed (FixPrints s task) written written status
-  none_prints written = record { lines = []; ends = ([], none status no); printed = nothing_written written }
+  pub none_after : (written : Option (List ℕ)) (steps : ℕ) → FixedAfter s task written written status steps steps
+  none_after written steps = record { prints = record { lines = []; ends = ([], none status no); printed = nothing_written written }; takes = refl }
 
   pub none_wrote : (now : Option Files) → KeepsFiles s.told now → Wrote s task now status
   none_wrote now h = record { lines = []; fixed = []; ends = none status no; wrote = kept_writes s.told now h }
@@ -95,55 +98,71 @@ module _ {R : Type 0} (readings : R → Readings) (r r' : R) (same : r' ≡ r) (
       let U : List (List ℕ) → Type 0 = λ x. P r x in
       subst U refused_is (subst Q same h)
 
+  -- the one scan of what was taken
+  module _ (was unseen seen : SeenFiles) (has-none : HasSeenNone unseen) (still : was ≡ unseen) (before after : ℕ) (work : Works (readings r') after-fix.refused mid.files mid.rules was seen before after) where
+    pub scans_once : ScansOnce s (shelves_of mid) before after
+    scans_once = (was, seen, subst HasSeenNone (sym still) has-none, by_start (λ x t. Works (readings x) t mid.files mid.rules was seen before after) work)
+
   -- too many findings, or too many bytes
   module _ (n : ℕ) (n-is : n ≡ mid.most) (more : HasMoreResults (readings r') after-fix.refused mid.files mid.rules n) where
-    many_ends : FixEnds s task (statuses.TooMany n) [] []
-    many_ends =
-        let e : n ≡ start.most = n-is ∙ most in
-        let H : ℕ → Type 0 = λ m. HasMoreResults (readings r) gained mid.files mid.rules m in
-        let P : ℕ → Type 0 = λ m. FixEnds s task (statuses.TooMany m) [] [] in
-        subst P (sym e) (too_many (shelves_of mid) takes (subst H e (by_start (λ x t. HasMoreResults (readings x) t mid.files mid.rules n) more)))
+    -- there are as many as that where the fix began
+    many_is : n ≡ start.most
+    many_is = n-is ∙ most
 
-    pub many_prints : (written : Option (List ℕ)) → Printed (FixPrints s task) written written (statuses.TooMany n)
-    many_prints written = record { lines = []; ends = ([], many_ends); printed = nothing_written written }
+    many_more : HasMoreResults (readings r) gained mid.files mid.rules start.most
+    many_more = let H : ℕ → Type 0 = λ m. HasMoreResults (readings r) gained mid.files mid.rules m in subst H many_is (by_start (λ x t. HasMoreResults (readings x) t mid.files mid.rules n) more)
+
+    many_ends : FixEnds s task (statuses.TooMany n) [] []
+    many_ends = let P : ℕ → Type 0 = λ m. FixEnds s task (statuses.TooMany m) [] [] in subst P (sym many_is) (too_many (shelves_of mid) takes many_more)
+
+    pub many_after : (written : Option (List ℕ)) (steps steps_after : ℕ) → ScansOnce s (shelves_of mid) steps steps_after → FixedAfter s task written written (statuses.TooMany n) steps steps_after
+    many_after written steps steps_after once =
+        let P : ℕ → Type 0 = λ m. FixedAfter s task written written (statuses.TooMany m) steps steps_after in
+        subst P (sym many_is) (record { prints = record { lines = []; ends = ([], too_many (shelves_of mid) takes many_more); printed = nothing_written written }; takes = once })
 
     pub many_wrote : Wrote s task now (statuses.TooMany n)
     many_wrote = record { lines = []; fixed = []; ends = many_ends; wrote = kept_writes told now kept-files }
 
   module _ (kind : LimitKind) (n : ℕ) (passes : FixesPass (readings r') after-fix.refused mid.files mid.rules mid.most kind n) where
-    over_ends : FixEnds s task (statuses.OverLimit kind n) [] []
-    over_ends =
+    over_passes : FixesPass (readings r) gained mid.files mid.rules start.most kind n
+    over_passes =
         let P : ℕ → Type 0 = λ m. FixesPass (readings r) gained mid.files mid.rules m kind n in
-        over (shelves_of mid) kind n takes (subst P most (by_start (λ x t. FixesPass (readings x) t mid.files mid.rules mid.most kind n) passes))
+        subst P most (by_start (λ x t. FixesPass (readings x) t mid.files mid.rules mid.most kind n) passes)
 
-    pub over_prints : (written : Option (List ℕ)) → Printed (FixPrints s task) written written (statuses.OverLimit kind n)
-    over_prints written = record { lines = []; ends = ([], over_ends); printed = nothing_written written }
+    pub over_after : (written : Option (List ℕ)) (steps steps_after : ℕ) → ScansOnce s (shelves_of mid) steps steps_after → FixedAfter s task written written (statuses.OverLimit kind n) steps steps_after
+    over_after written steps steps_after once =
+        record { prints = record { lines = []; ends = ([], over (shelves_of mid) kind n takes over_passes); printed = nothing_written written }; takes = once }
 
     pub over_wrote : Wrote s task now (statuses.OverLimit kind n)
-    over_wrote = record { lines = []; fixed = []; ends = over_ends; wrote = kept_writes told now kept-files }
+    over_wrote = record { lines = []; fixed = []; ends = over (shelves_of mid) kind n takes over_passes; wrote = kept_writes told now kept-files }
 
   -- files that are changed
   module _ (changed : FixReport) (report : IsFixReport (readings r') after-fix.refused mid.files mid.rules changed) (few : length changed.report.results ≤ mid.most) (within : over_limit (files_fixed mid.files changed.files) ≡ None) where
     report_is : IsFixReport (readings r) gained mid.files mid.rules changed
     report_is = by_start (λ x t. IsFixReport (readings x) t mid.files mid.rules changed) report
 
+    few_is : length changed.report.results ≤ start.most
+    few_is = let P : ℕ → Type 0 = λ m. length changed.report.results ≤ m in subst P most few
+
     done_ends : FixEnds s task statuses.Done (fix_line changed ∷ []) (if task.flag then [] else changed.files)
-    done_ends =
-        let P : ℕ → Type 0 = λ m. length changed.report.results ≤ m in
-        fixed (shelves_of mid) changed takes report_is (subst P most few) within
+    done_ends = fixed (shelves_of mid) changed takes report_is few_is within
 
     pub done_left : (after : Option Files) → LeavesOf task.flag changed.files now after → Leaves s task after
     done_left after left = by_fixes (shelves_of mid) changed takes report_is (leaves_before task.flag changed.files told now after kept-files left)
 
-    pub done_prints : (status : Status) (written written_after : Option (List ℕ)) → Printed (λ st lines. (st ≡ statuses.Done) × (lines ≡ fix_line changed ∷ [])) written written_after status → Printed (FixPrints s task) written written_after status
-    done_prints status written written_after p =
-        let P : Status → Type 0 = λ st. FixPrints s task st (fix_line changed ∷ []) in
+    pub done_after : (status : Status) (written written_after : Option (List ℕ)) (steps steps_after : ℕ) → ScansOnce s (shelves_of mid) steps steps_after
+        → Printed (λ st lines. (st ≡ statuses.Done) × (lines ≡ fix_line changed ∷ [])) written written_after status → FixedAfter s task written written_after status steps steps_after
+    done_after status written written_after steps steps_after once p =
+        let P : Status → Type 0 = λ st. FixedAfter s task written written_after st steps steps_after in
         let Q : List (List ℕ) → Type 0 = λ ls. Appends written written_after (concat ls) in
-        record {
-          lines = fix_line changed ∷ [];
-          ends = subst P (sym p.ends.0) ((if task.flag then [] else changed.files), done_ends);
-          printed = subst Q p.ends.1 p.printed;
-        }
+        subst P (sym p.ends.0) (record {
+          prints = record {
+            lines = fix_line changed ∷ [];
+            ends = ((if task.flag then [] else changed.files), fixed (shelves_of mid) changed takes report_is few_is within);
+            printed = subst Q p.ends.1 p.printed;
+          };
+          takes = once;
+        })
 
     pub done_wrote : (status : Status) (after : Option Files) → status ≡ statuses.Done → WritesAll now after (if task.flag then [] else changed.files) → Wrote s task after status
     done_wrote status after e w =

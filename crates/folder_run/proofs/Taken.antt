@@ -1,5 +1,5 @@
 -- What taking a folder comes to, step by step.
-use Rattle.std.proofs.Common.{◌≡◌, ℕ, List, [], ◌∷◌, refl, sym, ap, ◌∙◌, subst}
+use Rattle.std.proofs.Common.{◌≡◌, ℕ, List, [], ◌∷◌, sym, ap, ◌∙◌, subst}
 use Rattle.std.specs.Prelude.{Option, None, Some}
 use Rattle.scan_world.specs.Files.{Files}
 use Rattle.scan_world.specs.Trees.{KeepsFiles, LacksFile}
@@ -15,7 +15,6 @@ use Rattle.file_map.specs.Sync.{AreSynced, Syncs, SyncPasses}
 use Rattle.rule_map.specs.RuleMap.{PutRuleEnds}
 use Rattle.run_status.specs.declared.status.Status.{Status}
 use Rattle.run_status.specs.declared.status.Status.TheVariants.{NoSuchPath, OverLimit}
-use Rattle.run_status.specs.Status.{IsAnswer}
 use Rattle.workspace.specs.State.{State, with_files, with_rules}
 use Rattle.workspace.specs.Reports.{Readings}
 use Rattle.stream_run.specs.Still.{shelves_of, IsNew}

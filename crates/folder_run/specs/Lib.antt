@@ -1,4 +1,5 @@
 pub mod Taking
 pub mod Causes
 pub mod Ends
+pub mod Costs
 pub mod Written

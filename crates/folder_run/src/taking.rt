@@ -45,6 +45,7 @@ pub fn take_folder<W: Workspace, T: Tree>(
     ensures none { IfErr result (λ status. IsAnswer status → TakesNone (W.readings (W.reader workspace.old)) (T.files tree.old) job.now.config.now job.now.prefix.now status) }
     ensures decided { OnOk result ((W.state workspace.new).decided ≡ (W.state workspace.old).decided) }
     ensures most { OnOk result ((W.state workspace.new).most ≡ (W.state workspace.old).most) }
+    ensures unseen { W.seen workspace.new ≡ W.seen workspace.old }
     ensures same_reader { W.reader workspace.new ≡ W.reader workspace.old }
     ensures kept { KeepsFiles (T.files tree.old) (T.files tree.new) }
     ensures unfailed { OnOk result (T.faults tree.new ≡ T.faults tree.old) }

@@ -1,15 +1,16 @@
 -- What the clauses of a session say of its end.
-use Rattle.std.proofs.Common.{◌≡◌, ◌⊎◌, inl, inr, ℕ, sym, subst}
+use Rattle.std.proofs.Common.{◌≡◌, ◌⊎◌, inl, inr, ℕ, refl, sym, subst}
 use Rattle.scan_world.specs.Faults.{Rose}
 use Rattle.run_status.specs.declared.status.Status.{Status}
 use Rattle.run_status.specs.declared.status.Status.TheVariants as statuses
 use Rattle.run_status.specs.Status.{IsAnswer}
 use Rattle.stream_run.specs.Doing.{Setting}
 use Rattle.stream_run.specs.Playing.{PrintsEnd, PrintsFirst, PrintsFront, PrintsWhole}
+use Rattle.stream_run.specs.Costs.{EndsAfter, FrontAfter}
 use Rattle.stream_run.proofs.Turns.{Bytes}
 
 -- what the clauses of a session say of its end, with what was read, written and refused before and after
-pub record IsServed (s : Setting) (stream stream_after written written_after : Bytes) (source source_after sink sink_after tree tree_after : ℕ) (status : Status) : Type 0 where
+pub record IsServed (s : Setting) (stream stream_after written written_after : Bytes) (source source_after sink sink_after tree tree_after before after : ℕ) (status : Status) : Type 0 where
   pub ends : IsAnswer status → PrintsEnd s stream written written_after status
   pub input_kept : IsAnswer status → source_after ≡ source
   pub output_kept : IsAnswer status → sink_after ≡ sink
@@ -17,26 +18,30 @@ pub record IsServed (s : Setting) (stream stream_after written written_after : B
   pub first_lines : (status ≡ statuses.Memory) ⊎ (status ≡ statuses.TreeFault) → PrintsFirst s stream written written_after
   pub whole_lines : status ≡ statuses.InputFault → PrintsWhole s stream stream_after written written_after
   pub front : status ≡ statuses.OutputFault → PrintsFront s stream written written_after
+  pub work : IsAnswer status → EndsAfter s stream written written_after status before after
+  pub work_to_fault : (IsAnswer status → ⊥) → (status ≡ statuses.Memory → ⊥) → FrontAfter s stream written written_after before after
   pub input_fault : status ≡ statuses.InputFault → Rose source source_after
   pub output_fault : status ≡ statuses.OutputFault → Rose sink sink_after
   pub tree_fault : status ≡ statuses.TreeFault → Rose tree tree_after
 
-module _ (s : Setting) (stream stream_after written written_after : Bytes) (source source_after sink sink_after tree tree_after : ℕ) where
+module _ (s : Setting) (stream stream_after written written_after : Bytes) (source source_after sink sink_after tree tree_after before after : ℕ) where
   abbrev Served : Status → Type 0
-  Served status = IsServed s stream stream_after written written_after source source_after sink sink_after tree tree_after status
+  Served status = IsServed s stream stream_after written written_after source source_after sink sink_after tree tree_after before after status
 
   answer_no : (status other : Status) → (IsAnswer other → ⊥) → IsAnswer status → status ≡ other → ⊥
   answer_no status other no_answer is e = no_answer (subst IsAnswer e is)
 
-  pub answered : (status : Status) → IsAnswer status → PrintsEnd s stream written written_after status → source_after ≡ source → sink_after ≡ sink → tree_after ≡ tree → Served status
+  pub answered : (status : Status) → IsAnswer status → EndsAfter s stream written written_after status before after → source_after ≡ source → sink_after ≡ sink → tree_after ≡ tree → Served status
   answered status is p i o t = record {
-    ends = λ _. p;
+    ends = λ _. p.prints;
     input_kept = λ _. i;
     output_kept = λ _. o;
     tree_kept = λ _. t;
     first_lines = none;
     whole_lines = λ e. absurd (answer_no status statuses.InputFault (λ h. h) is e);
     front = λ e. absurd (answer_no status statuses.OutputFault (λ h. h) is e);
+    work = λ _. p;
+    work_to_fault = λ fault got. absurd (fault is);
     input_fault = λ e. absurd (answer_no status statuses.InputFault (λ h. h) is e);
     output_fault = λ e. absurd (answer_no status statuses.OutputFault (λ h. h) is e);
     tree_fault = λ e. absurd (answer_no status statuses.TreeFault (λ h. h) is e);
@@ -55,13 +60,15 @@ module _ (s : Setting) (stream stream_after written written_after : Bytes) (sour
     first_lines = λ _. p;
     whole_lines = λ e. absurd cc;
     front = λ e. absurd cc;
+    work = λ h. absurd h;
+    work_to_fault = λ fault got. absurd (got refl);
     input_fault = λ e. absurd cc;
     output_fault = λ e. absurd cc;
     tree_fault = λ e. absurd cc;
   }
 
-  pub tree_failed : PrintsFirst s stream written written_after → Rose tree tree_after → Served statuses.TreeFault
-  tree_failed p rose = record {
+  pub tree_failed : PrintsFirst s stream written written_after → FrontAfter s stream written written_after before after → Rose tree tree_after → Served statuses.TreeFault
+  tree_failed p took rose = record {
     ends = λ h. absurd h;
     input_kept = λ h. absurd h;
     output_kept = λ h. absurd h;
@@ -69,6 +76,8 @@ module _ (s : Setting) (stream stream_after written written_after : Bytes) (sour
     first_lines = λ _. p;
     whole_lines = λ e. absurd cc;
     front = λ e. absurd cc;
+    work = λ h. absurd h;
+    work_to_fault = λ fault got. took;
     input_fault = λ e. absurd cc;
     output_fault = λ e. absurd cc;
     tree_fault = λ _. rose;
@@ -78,8 +87,8 @@ module _ (s : Setting) (stream stream_after written written_after : Bytes) (sour
   none_first status a b (inl e) = absurd (a e)
   none_first status a b (inr e) = absurd (b e)
 
-  pub input_failed : PrintsWhole s stream stream_after written written_after → Rose source source_after → Served statuses.InputFault
-  input_failed p rose = record {
+  pub input_failed : PrintsWhole s stream stream_after written written_after → FrontAfter s stream written written_after before after → Rose source source_after → Served statuses.InputFault
+  input_failed p took rose = record {
     ends = λ h. absurd h;
     input_kept = λ h. absurd h;
     output_kept = λ h. absurd h;
@@ -87,24 +96,28 @@ module _ (s : Setting) (stream stream_after written written_after : Bytes) (sour
     first_lines = none_first statuses.InputFault (λ e. absurd cc) (λ e. absurd cc);
     whole_lines = λ _. p;
     front = λ e. absurd cc;
+    work = λ h. absurd h;
+    work_to_fault = λ fault got. took;
     input_fault = λ _. rose;
     output_fault = λ e. absurd cc;
     tree_fault = λ e. absurd cc;
   }
 
-  pub output_failed : PrintsFront s stream written written_after → Rose sink sink_after → Served statuses.OutputFault
-  output_failed p rose = record {
+  pub output_failed : FrontAfter s stream written written_after before after → Rose sink sink_after → Served statuses.OutputFault
+  output_failed took rose = record {
     ends = λ h. absurd h;
     input_kept = λ h. absurd h;
     output_kept = λ h. absurd h;
     tree_kept = λ h. absurd h;
     first_lines = none_first statuses.OutputFault (λ e. absurd cc) (λ e. absurd cc);
     whole_lines = λ e. absurd cc;
-    front = λ _. p;
+    front = λ _. took.prints;
+    work = λ h. absurd h;
+    work_to_fault = λ fault got. took;
     input_fault = λ e. absurd cc;
     output_fault = λ _. rose;
     tree_fault = λ e. absurd cc;
   }
 
   pub served_as : (status other : Status) → other ≡ status → Served status → Served other
-  served_as status other e h = subst (λ (x : Status). IsServed s stream stream_after written written_after source source_after sink sink_after tree tree_after x) (sym e) h
+  served_as status other e h = subst (λ (x : Status). IsServed s stream stream_after written written_after source source_after sink sink_after tree tree_after before after x) (sym e) h

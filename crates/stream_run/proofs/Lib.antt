@@ -3,6 +3,7 @@ pub mod Streaming
 pub mod Told
 pub mod Edits
 pub mod Scans
+pub mod Costs
 pub mod Turns
 pub mod Ends
 pub mod Served

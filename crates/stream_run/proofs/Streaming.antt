@@ -30,6 +30,10 @@ pub lines_front : (a b c : Option (List ℕ)) (xs ys : List (List ℕ)) → Appe
 lines_front a b c xs ys h (front, rest, e, k) =
     (concat xs ++ front, rest, concat-append xs ys ∙ ap (λ (l : List ℕ). concat xs ++ l) e ∙ sym (append_assoc (concat xs) front rest), written_on a b c (concat xs) front h k)
 
+-- all of what was written is a front of it
+pub whole_front : (a b : Option (List ℕ)) (x : List ℕ) → Appends a b x → AppendsFront a b x
+whole_front a b x h = (x, [], sym (append-nil x), h)
+
 pub one_line : (a b : Option (List ℕ)) (x y : List ℕ) → x ≡ y → Appends a b x → Appends a b (concat (y ∷ []))
 one_line a b x y e h = subst (λ (l : List ℕ). Appends a b l) (e ∙ sym (append-nil y)) h
 

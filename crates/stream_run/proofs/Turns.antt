@@ -1,5 +1,5 @@
 -- A session so far, and one more command of it.
-use Rattle.std.proofs.Common.{◌≡◌, ◌≢◌, ◌≤◌, ◌+◌, ℕ, List, [], ◌++◌, sym, ap, ◌∙◌, subst, append_assoc}
+use Rattle.std.proofs.Common.{◌≡◌, ◌≢◌, ◌≤◌, ◌+◌, ℕ, List, [], ◌++◌, refl, sym, ap, ◌∙◌, subst, append_assoc}
 use Rattle.std.specs.Prelude.{Option}
 use Rattle.std.specs.List.{concat}
 use Rattle.std.specs.Io.KnownBytes.{Appends}
@@ -11,13 +11,16 @@ use Rattle.decided_texts.specs.Refused.{gained, Gains}
 use Rattle.wire_stream.specs.declared.wire.Wire.{Wire}
 use Rattle.wire_stream.specs.declared.wire.Wire.TheVariants as wires
 use Rattle.wire_stream.specs.Feeds.{FeedState, Next}
+use Rattle.seen_files.specs.declared.seen.SeenFiles.{SeenFiles}
+use Rattle.seen_files.specs.Seen.{HasSeenNone}
 use Rattle.workspace.specs.State.{State}
 use Rattle.workspace.specs.Reports.{Readings}
 use Rattle.stream_run.specs.declared.reply.Reply.{Reply}
 use Rattle.stream_run.specs.Printed.{lines_of}
-use Rattle.stream_run.specs.Doing.{Shelves, empty_shelves, Does}
+use Rattle.stream_run.specs.Doing.{Setting, Shelves, empty_shelves, Does}
 use Rattle.stream_run.specs.Playing.{Plays, begun, more}
-use Rattle.stream_run.specs.Still.{setting, shelves_of, IsNew, DoesStill, Keeps, RefusesGained}
+use Rattle.stream_run.specs.Costs.{Costs, Take}
+use Rattle.stream_run.specs.Still.{setting, shelves_of, IsNew, DoesStill, CostsStill, Keeps, RefusesGained}
 use Rattle.stream_run.proofs.Gained.{Texts, gained_none, gains_none, gained_on, gains_on, undecided_none, undecided_before, undecided_both}
 use Rattle.stream_run.proofs.Streaming.{nothing_written, lines_on, left_of, left_first, used_left}
 use Rattle.stream_run.proofs.Told.{does_before}
@@ -25,29 +28,33 @@ use Rattle.stream_run.proofs.Told.{does_before}
 abbrev pub Bytes : Type 0
 Bytes = Option (List ℕ)
 
+-- the first commands were done, and took the steps
+abbrev pub PlaysSo : Setting → Bytes → ℕ → ℕ → List (List ℕ) → Shelves → Bytes → SeenFiles → ℕ → Type 0
+PlaysSo s stream before place lines shelves left seen after = (plays : Plays s stream place lines shelves left) × Take plays seen before after
+
 -- The first commands were done, and no text that was not decided by then makes a difference. What was written are their lines,
 -- and what is refused is what the builder's list gained since the start.
-pub record IsPlaying (readings : Readings) (told : Option Files) (most : ℕ) (stream : Bytes) (start : Texts) (written : Bytes) (state : State) (texts : Texts) (written_now : Bytes) (place : ℕ) (left : Bytes) : Type 0 where
+pub record IsPlaying (readings : Readings) (told : Option Files) (most : ℕ) (stream : Bytes) (start : Texts) (written : Bytes) (before : ℕ) (state : State) (seen : SeenFiles) (steps : ℕ) (texts : Texts) (written_now : Bytes) (place : ℕ) (left : Bytes) : Type 0 where
   pub lines : List (List ℕ)
-  pub plays : (later : Texts) → AreUndecided state.decided later → Plays (setting readings told most (gained start texts ++ later)) stream place lines (shelves_of state) left
+  pub plays : (later : Texts) → AreUndecided state.decided later → PlaysSo (setting readings told most (gained start texts ++ later)) stream before place lines (shelves_of state) left seen steps
   pub printed : Appends written written_now (concat lines)
   pub refused : state.decided.refused ≡ gained start texts
   pub grows : Gains start texts
   pub most_is : state.most ≡ most
 
 -- the same of a feed that has used so much of the stream
-abbrev pub PlaysTo : Readings → Option Files → ℕ → Bytes → Texts → Bytes → State → Texts → Bytes → FeedState → Bytes → Type 0
-PlaysTo readings told most stream start written state texts written_now feed source = IsPlaying readings told most stream start written state texts written_now feed.place (left_of source feed.hand)
+abbrev pub PlaysTo : Readings → Option Files → ℕ → Bytes → Texts → Bytes → ℕ → State → SeenFiles → ℕ → Texts → Bytes → FeedState → Bytes → Type 0
+PlaysTo readings told most stream start written before state seen steps texts written_now feed source = IsPlaying readings told most stream start written before state seen steps texts written_now feed.place (left_of source feed.hand)
 
-module _ (readings : Readings) (told : Option Files) (most : ℕ) (stream : Bytes) (start : Texts) (written : Bytes) where
-  module _ (state : State) (new : IsNew state) (most_is : state.most ≡ most) where
+module _ (readings : Readings) (told : Option Files) (most : ℕ) (stream : Bytes) (start : Texts) (written : Bytes) (before : ℕ) where
+  module _ (state : State) (new : IsNew state) (most_is : state.most ≡ most) (seen : SeenFiles) (unseen : HasSeenNone seen) where
     no_shelves : empty_shelves ≡ shelves_of state
     no_shelves = ap (λ (files : Files). record { files = files; rules = [] }) (sym new.files) ∙ ap (λ (rules : Files). record { files = state.files; rules = rules }) (sym new.rules)
 
-    pub first_turn : (feed : FeedState) → feed.place ≡ 0 → feed.hand ≡ [] → PlaysTo readings told most stream start written state start written feed stream
+    pub first_turn : (feed : FeedState) → feed.place ≡ 0 → feed.hand ≡ [] → PlaysTo readings told most stream start written before state seen before start written feed stream
     first_turn feed at none =
-        let P : Shelves → ℕ → Bytes → Type 0 = λ shelves place left. (later : Texts) → AreUndecided state.decided later → Plays (setting readings told most (gained start start ++ later)) stream place [] shelves left in
-        let here : P empty_shelves 0 stream = λ later free. begun in
+        let P : Shelves → ℕ → Bytes → Type 0 = λ shelves place left. (later : Texts) → AreUndecided state.decided later → PlaysSo (setting readings told most (gained start start ++ later)) stream before place [] shelves left seen before in
+        let here : P empty_shelves 0 stream = λ later free. (begun, (unseen, refl)) in
         let there : P (shelves_of state) 0 stream = subst (λ (s : Shelves). P s 0 stream) no_shelves here in
         let placed : P (shelves_of state) feed.place stream = subst (λ (n : ℕ). P (shelves_of state) n stream) (sym at) there in
         record {
@@ -59,11 +66,11 @@ module _ (readings : Readings) (told : Option Files) (most : ℕ) (stream : Byte
           most_is = most_is;
         }
 
-  module _ (state : State) (texts : Texts) (written_now : Bytes) (feed : FeedState) (source : Bytes) (far : PlaysTo readings told most stream start written state texts written_now feed source) where
+  module _ (state : State) (seen : SeenFiles) (steps : ℕ) (texts : Texts) (written_now : Bytes) (feed : FeedState) (source : Bytes) (far : PlaysTo readings told most stream start written before state seen steps texts written_now feed source) where
     -- what was done so far, by what is refused so far
-    pub plays_now : Plays (setting readings told most (gained start texts)) stream feed.place far.lines (shelves_of state) (left_of source feed.hand)
+    pub plays_now : PlaysSo (setting readings told most (gained start texts)) stream before feed.place far.lines (shelves_of state) (left_of source feed.hand) seen steps
     plays_now =
-        subst (λ (refused : Texts). Plays (setting readings told most refused) stream feed.place far.lines (shelves_of state) (left_of source feed.hand)) (append-nil (gained start texts))
+        subst (λ (refused : Texts). PlaysSo (setting readings told most refused) stream before feed.place far.lines (shelves_of state) (left_of source feed.hand) seen steps) (append-nil (gained start texts))
         (far.plays [] (undecided_none state.decided))
 
     module _ (state_after : State) (texts_after : Texts) (kept : Keeps state state_after texts texts_after) where
@@ -75,24 +82,33 @@ module _ (readings : Readings) (told : Option Files) (most : ℕ) (stream : Byte
 
       -- what was done so far, by what is refused after one more command and by what is refused later
       plays_later : (later : Texts) → AreUndecided state.decided later
-          → Plays (setting readings told most (gained start texts_after ++ later)) stream feed.place far.lines (shelves_of state) (left_of source feed.hand)
+          → PlaysSo (setting readings told most (gained start texts_after ++ later)) stream before feed.place far.lines (shelves_of state) (left_of source feed.hand) seen steps
       plays_later later free =
           let same : gained start texts ++ (gained texts texts_after ++ later) ≡ gained start texts_after ++ later =
           sym (append_assoc (gained start texts) (gained texts texts_after) later) ∙ ap (λ (l : Texts). l ++ later) (sym more_gained) in
-          subst (λ (refused : Texts). Plays (setting readings told most refused) stream feed.place far.lines (shelves_of state) (left_of source feed.hand)) same
+          subst (λ (refused : Texts). PlaysSo (setting readings told most refused) stream before feed.place far.lines (shelves_of state) (left_of source feed.hand) seen steps) same
           (far.plays (gained texts texts_after ++ later) (undecided_both state.decided (gained texts texts_after) later kept.asked free))
 
-      pub plays_then : Plays (setting readings told most (gained start texts_after)) stream feed.place far.lines (shelves_of state) (left_of source feed.hand)
+      pub plays_then : PlaysSo (setting readings told most (gained start texts_after)) stream before feed.place far.lines (shelves_of state) (left_of source feed.hand) seen steps
       plays_then =
-          subst (λ (refused : Texts). Plays (setting readings told most refused) stream feed.place far.lines (shelves_of state) (left_of source feed.hand)) (append-nil (gained start texts_after))
+          subst (λ (refused : Texts). PlaysSo (setting readings told most refused) stream before feed.place far.lines (shelves_of state) (left_of source feed.hand) seen steps) (append-nil (gained start texts_after))
           (plays_later [] (undecided_none state.decided))
 
       module _ (refuses : RefusesGained state state_after texts texts_after) where
         pub refused_then : state_after.decided.refused ≡ gained start texts_after
         refused_then = refuses ∙ ap (λ (l : Texts). l ++ gained texts texts_after) far.refused ∙ sym more_gained
 
+        module _ (wire : Wire) (seen_after : SeenFiles) (steps_after : ℕ) (costs : CostsStill readings state wire state_after seen seen_after steps steps_after) where
+          costs_then : (later : Texts) → AreUndecided state_after.decided later → Costs readings (gained start texts_after ++ later) (shelves_of state) wire seen seen_after steps steps_after
+          costs_then later free = subst (λ (refused : Texts). Costs readings (refused ++ later) (shelves_of state) wire seen seen_after steps steps_after) refused_then (costs later free)
+
+          -- what the command took, by what is refused after it
+          pub costs_now : Costs readings (gained start texts_after) (shelves_of state) wire seen seen_after steps steps_after
+          costs_now =
+              subst (λ (refused : Texts). Costs readings refused (shelves_of state) wire seen seen_after steps steps_after) (append-nil (gained start texts_after)) (costs_then [] (undecided_none state_after.decided))
+
         module _ (now : Option Files) (stays : KeepsFiles told now) (wire : Wire) (reply : Reply) (does : DoesStill readings now state wire state_after reply) (feed_after : FeedState) (source_after : Bytes)
-            (next : Next source source_after feed feed_after wire) (goes : wire ≢ wires.End) where
+            (next : Next source source_after feed feed_after wire) (goes : wire ≢ wires.End) (seen_after : SeenFiles) (steps_after : ℕ) (costs : CostsStill readings state wire state_after seen seen_after steps steps_after) where
           does_then : (later : Texts) → AreUndecided state_after.decided later → Does (setting readings told most (gained start texts_after ++ later)) (shelves_of state) wire (shelves_of state_after) reply
           does_then later free =
               let P : ℕ → Texts → Type 0 = λ n refused. Does (setting readings told n (refused ++ later)) (shelves_of state) wire (shelves_of state_after) reply in
@@ -101,16 +117,18 @@ module _ (readings : Readings) (told : Option Files) (most : ℕ) (stream : Byte
               subst (P most) refused_then (subst (λ (n : ℕ). P n state_after.decided.refused) far.most_is here)
 
           plays_more : (later : Texts) → AreUndecided state_after.decided later
-              → Plays (setting readings told most (gained start texts_after ++ later)) stream feed_after.place (far.lines ++ lines_of reply) (shelves_of state_after) (left_of source_after feed_after.hand)
+              → PlaysSo (setting readings told most (gained start texts_after ++ later)) stream before feed_after.place (far.lines ++ lines_of reply) (shelves_of state_after) (left_of source_after feed_after.hand) seen_after steps_after
           plays_more later free =
-              let P : ℕ → Type 0 = λ place. Plays (setting readings told most (gained start texts_after ++ later)) stream place (far.lines ++ lines_of reply) (shelves_of state_after) (left_of source_after feed_after.hand) in
+              let P : ℕ → Type 0 = λ place. PlaysSo (setting readings told most (gained start texts_after ++ later)) stream before place (far.lines ++ lines_of reply) (shelves_of state_after) (left_of source_after feed_after.hand) seen_after steps_after in
+              let was = plays_later later (undecided_before state.decided state_after.decided later kept.stay free) in
               let within : feed.place + next.count ≤ 268435456 = subst (λ (n : ℕ). n ≤ 268435456) next.place next.within in
-              subst P (sym next.place)
-              (more feed.place next.count far.lines (shelves_of state) (shelves_of state_after) (left_of source feed.hand) (left_of source_after feed_after.hand) wire reply
-              (plays_later later (undecided_before state.decided state_after.decided later kept.stay free)) (used_left source source_after feed.hand feed_after.hand wire next.count next.used) goes within
-              (does_then later free))
+              subst P (sym next.place) (
+                more feed.place next.count far.lines (shelves_of state) (shelves_of state_after) (left_of source feed.hand) (left_of source_after feed_after.hand) wire reply was.0
+                    (used_left source source_after feed.hand feed_after.hand wire next.count next.used) goes within (does_then later free),
+                (seen, steps, was.1, costs_then wire seen_after steps_after costs later free),
+              )
 
-          pub one_turn : (written_after : Bytes) → Appends written_now written_after (concat (lines_of reply)) → PlaysTo readings told most stream start written state_after texts_after written_after feed_after source_after
+          pub one_turn : (written_after : Bytes) → Appends written_now written_after (concat (lines_of reply)) → PlaysTo readings told most stream start written before state_after seen_after steps_after texts_after written_after feed_after source_after
           one_turn written_after put = record {
             lines = far.lines ++ lines_of reply;
             plays = plays_more;
@@ -121,7 +139,7 @@ module _ (readings : Readings) (told : Option Files) (most : ℕ) (stream : Byte
           }
 
           -- the lines with the one that a failed write was to print
-          pub plays_most : Plays (setting readings told most (gained start texts_after)) stream feed_after.place (far.lines ++ lines_of reply) (shelves_of state_after) (left_of source_after feed_after.hand)
+          pub plays_most : PlaysSo (setting readings told most (gained start texts_after)) stream before feed_after.place (far.lines ++ lines_of reply) (shelves_of state_after) (left_of source_after feed_after.hand) seen_after steps_after
           plays_most =
-              subst (λ (refused : Texts). Plays (setting readings told most refused) stream feed_after.place (far.lines ++ lines_of reply) (shelves_of state_after) (left_of source_after feed_after.hand))
+              subst (λ (refused : Texts). PlaysSo (setting readings told most refused) stream before feed_after.place (far.lines ++ lines_of reply) (shelves_of state_after) (left_of source_after feed_after.hand) seen_after steps_after)
               (append-nil (gained start texts_after)) (plays_more [] (undecided_none state_after.decided))

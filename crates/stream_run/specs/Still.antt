@@ -4,12 +4,14 @@ use Rattle.scan_world.specs.Files.{Files}
 use Rattle.file_map.specs.declared.limit.LimitKind.{LimitKind}
 use Rattle.decided_texts.specs.Decided.{AreUndecided}
 use Rattle.decided_texts.specs.Refused.{gained, Gains}
+use Rattle.seen_files.specs.declared.seen.SeenFiles.{SeenFiles}
 use Rattle.wire_stream.specs.declared.wire.Wire.{Wire}
 use Rattle.wire_stream.specs.declared.wire.Wire.TheVariants as wires
 use Rattle.workspace.specs.State.{State}
 use Rattle.workspace.specs.Reports.{Readings, StayDecided}
 use Rattle.stream_run.specs.declared.reply.Reply.{Reply}
 use Rattle.stream_run.specs.Doing.{Setting, Shelves, Does, Passes}
+use Rattle.stream_run.specs.Costs.{Costs}
 
 -- the setting of a session in which these texts are refused
 abbrev pub setting : Readings → Option Files → ℕ → List (List ℕ) → Setting
@@ -44,6 +46,11 @@ PassesEver readings told old wire kind n = (refused : List (List ℕ)) → Passe
 abbrev pub DoesStill : Readings → Option Files → State → Wire → State → Reply → Type 0
 DoesStill readings told old wire new reply =
     (more : List (List ℕ)) → AreUndecided new.decided more → Does (setting readings told old.most (new.decided.refused ++ more)) (shelves_of old) wire (shelves_of new) reply
+
+-- and the command takes these steps
+abbrev pub CostsStill : Readings → State → Wire → State → SeenFiles → SeenFiles → ℕ → ℕ → Type 0
+CostsStill readings old wire new was seen before after =
+    (more : List (List ℕ)) → AreUndecided new.decided more → Costs readings (new.decided.refused ++ more) (shelves_of old) wire was seen before after
 
 -- where the texts are refused that are so then, this limit is passed
 abbrev pub PassesNow : Readings → Option Files → State → Wire → State → LimitKind → ℕ → Type 0

@@ -6,7 +6,7 @@ ghost use Rattle.scan_world.specs.Files.{Files};
 ghost use Rattle.scan_world.specs.Trees.{KeepsFiles};
 ghost use Rattle.stream_run.specs.declared.fault.PlayFault.TheVariants.{Memory as no_memory};
 ghost use Rattle.stream_run.specs.Faults.{TellsPassed, HasPlayCause};
-ghost use Rattle.stream_run.specs.Still.{IsEdit, DoesEver, PassesEver, DoesStill, PassesNow, Keeps, RefusesGained};
+ghost use Rattle.stream_run.specs.Still.{IsEdit, DoesEver, PassesEver, DoesStill, PassesNow, CostsStill, Keeps, RefusesGained};
 ghost use Rattle.wire_stream.specs.declared.wire.Wire.TheVariants.{Scan as scan_wire, Fix as fix_wire};
 
 use crate::fault::PlayFault;
@@ -30,6 +30,7 @@ fn edit<W: Workspace, T: Tree>(
     ensures passes { IfErr result (TellsPassed (PassesEver (W.readings (W.reader workspace.old)) (T.files tree.old) (W.state workspace.old) wire.now)) }
     ensures most { (W.state workspace.new).most ≡ (W.state workspace.old).most }
     ensures decided { (W.state workspace.new).decided ≡ (W.state workspace.old).decided }
+    ensures unseen { W.seen workspace.new ≡ W.seen workspace.old }
     ensures same_reader { W.reader workspace.new ≡ W.reader workspace.old }
     ensures files_kept { KeepsFiles (T.files tree.old) (T.files tree.new) }
     ensures cause { HasPlayCause (T.faults tree.old) (T.faults tree.new) result }
@@ -62,6 +63,7 @@ fn scan<W: Workspace, P: Patterns, L: Ledger>(
 ) -> Result<Reply, PlayFault>
     ensures does { IfOk result (λ reply. (told : Option Files) → DoesStill (W.readings (W.reader workspace.old)) told (W.state workspace.old) scan_wire (W.state workspace.new) reply) }
     ensures cause { IfErr result (λ fault. fault ≡ no_memory) }
+    ensures work { (result ≡ Err PlayFault.Memory → ⊥) → CostsStill (W.readings (W.reader workspace.old)) (W.state workspace.old) scan_wire (W.state workspace.new) (W.seen workspace.old) (W.seen workspace.new) steps.old steps.new }
     ensures refused { OnOk result (RefusesGained (W.state workspace.old) (W.state workspace.new) (P.refusals patterns.old) (P.refusals patterns.new)) }
     ensures keeps { Keeps (W.state workspace.old) (W.state workspace.new) (P.refusals patterns.old) (P.refusals patterns.new) }
     ensures same_reader { W.reader workspace.new ≡ W.reader workspace.old }
@@ -82,6 +84,7 @@ fn fix<W: Workspace, P: Patterns, L: Ledger>(
     ensures does { IfOk result (λ reply. (told : Option Files) → DoesStill (W.readings (W.reader workspace.old)) told (W.state workspace.old) fix_wire (W.state workspace.new) reply) }
     ensures passes { IfErr result (TellsPassed (λ kind n. (told : Option Files) → PassesNow (W.readings (W.reader workspace.old)) told (W.state workspace.old) fix_wire (W.state workspace.new) kind n)) }
     ensures unfailed { result ≡ Err PlayFault.Failed → ⊥ }
+    ensures work { (result ≡ Err PlayFault.Memory → ⊥) → CostsStill (W.readings (W.reader workspace.old)) (W.state workspace.old) fix_wire (W.state workspace.new) (W.seen workspace.old) (W.seen workspace.new) steps.old steps.new }
     ensures refused { (result ≡ Err PlayFault.Memory → ⊥) → RefusesGained (W.state workspace.old) (W.state workspace.new) (P.refusals patterns.old) (P.refusals patterns.new) }
     ensures keeps { Keeps (W.state workspace.old) (W.state workspace.new) (P.refusals patterns.old) (P.refusals patterns.new) }
     ensures same_reader { W.reader workspace.new ≡ W.reader workspace.old }
@@ -97,7 +100,7 @@ fn fix<W: Workspace, P: Patterns, L: Ledger>(
 /// Does a command of a session, and says what it came to. A command that passes a limit does nothing.
 ///
 /// The texts of regular expressions that are refused later change nothing of it: `does` holds for any that the workspace has not
-/// decided.
+/// decided. So it is with the steps that it takes, as `specs/Costs.antt` says.
 pub fn play<W: Workspace, T: Tree, P: Patterns, L: Ledger>(
     wire: &Wire,
     workspace: &mut W,
@@ -107,6 +110,8 @@ pub fn play<W: Workspace, T: Tree, P: Patterns, L: Ledger>(
 ) -> Result<Reply, PlayFault>
     ensures does { IfOk result (DoesStill (W.readings (W.reader workspace.old)) (T.files tree.old) (W.state workspace.old) wire.now (W.state workspace.new)) }
     ensures passes { IfErr result (TellsPassed (PassesNow (W.readings (W.reader workspace.old)) (T.files tree.old) (W.state workspace.old) wire.now (W.state workspace.new))) }
+    ensures work { (result ≡ Err PlayFault.Memory → ⊥) → CostsStill (W.readings (W.reader workspace.old)) (W.state workspace.old) wire.now (W.state workspace.new) (W.seen workspace.old) (W.seen workspace.new) steps.old steps.new }
+    ensures unspent { result ≡ Err PlayFault.Failed → steps.new ≡ steps.old }
     ensures refused { (result ≡ Err PlayFault.Memory → ⊥) → RefusesGained (W.state workspace.old) (W.state workspace.new) (P.refusals patterns.old) (P.refusals patterns.new) }
     ensures keeps { Keeps (W.state workspace.old) (W.state workspace.new) (P.refusals patterns.old) (P.refusals patterns.new) }
     ensures same_reader { W.reader workspace.new ≡ W.reader workspace.old }

@@ -7,7 +7,9 @@ ghost use Rattle.decided_texts.specs.Refused.{gained, Gains};
 ghost use Rattle.run_status.specs.Status.{IsAnswer};
 ghost use Rattle.stream_run.specs.Faults.{status_of_wire};
 ghost use Rattle.stream_run.specs.Playing.{PrintsEnd, PrintsFirst, PrintsFront, PrintsWhole};
+ghost use Rattle.stream_run.specs.Costs.{EndsAfter, FrontAfter};
 ghost use Rattle.stream_run.specs.Still.{setting, IsNew};
+ghost use Rattle.seen_files.specs.Seen.{HasSeenNone};
 
 use crate::doing::play;
 use crate::printing::print;
@@ -38,7 +40,8 @@ fn unread(fault: WireFault) -> Status
 
 /// Does the commands of the stream on a new workspace, one after the other up to `end`, and prints what each comes to, as
 /// `specs/Playing.antt` says, by the texts of regular expressions that were refused meanwhile. More findings than a report may
-/// have are told in a line, and the session goes on; any other limit that is passed ends it.
+/// have are told in a line, and the session goes on; any other limit that is passed ends it. `specs/Costs.antt` says what that costs
+/// in steps.
 pub fn serve<W: Workspace, T: Tree, S: Source, K: Sink, P: Patterns, L: Ledger>(
     alloc: Global,
     workspace: &mut W,
@@ -48,7 +51,8 @@ pub fn serve<W: Workspace, T: Tree, S: Source, K: Sink, P: Patterns, L: Ledger>(
     patterns: &mut P,
     steps: &mut Steps<L>,
 ) -> Status
-    requires { IsNew (W.state workspace.old) }
+    requires new { IsNew (W.state workspace.old) }
+    requires unseen { HasSeenNone (W.seen workspace.old) }
 
     // A session without a fault ends and prints as the definition says, and leaves the counts of faults as they were.
     ensures ends { IsAnswer result → PrintsEnd (setting (W.readings (W.reader workspace.old)) (T.files tree.old) (W.state workspace.old).most (gained (P.refusals patterns.old) (P.refusals patterns.new))) (S.left input.old) (K.written out.old) (K.written out.new) result }
@@ -61,6 +65,11 @@ pub fn serve<W: Workspace, T: Tree, S: Source, K: Sink, P: Patterns, L: Ledger>(
     ensures first_lines { (result ≡ Status.Memory) ⊎ (result ≡ Status.TreeFault) → PrintsFirst (setting (W.readings (W.reader workspace.old)) (T.files tree.old) (W.state workspace.old).most (gained (P.refusals patterns.old) (P.refusals patterns.new))) (S.left input.old) (K.written out.old) (K.written out.new) }
     ensures whole_lines { result ≡ Status.InputFault → PrintsWhole (setting (W.readings (W.reader workspace.old)) (T.files tree.old) (W.state workspace.old).most (gained (P.refusals patterns.old) (P.refusals patterns.new))) (S.left input.old) (S.left input.new) (K.written out.old) (K.written out.new) }
     ensures front { result ≡ Status.OutputFault → PrintsFront (setting (W.readings (W.reader workspace.old)) (T.files tree.old) (W.state workspace.old).most (gained (P.refusals patterns.old) (P.refusals patterns.new))) (S.left input.old) (K.written out.old) (K.written out.new) }
+
+    // A session takes the steps of the commands that it did: of all up to its end, or up to a fault. After want of memory it is
+    // not said how many.
+    ensures work { IsAnswer result → EndsAfter (setting (W.readings (W.reader workspace.old)) (T.files tree.old) (W.state workspace.old).most (gained (P.refusals patterns.old) (P.refusals patterns.new))) (S.left input.old) (K.written out.old) (K.written out.new) result steps.old steps.new }
+    ensures work_to_fault { (IsAnswer result → ⊥) → (result ≡ Status.Memory → ⊥) → FrontAfter (setting (W.readings (W.reader workspace.old)) (T.files tree.old) (W.state workspace.old).most (gained (P.refusals patterns.old) (P.refusals patterns.new))) (S.left input.old) (K.written out.old) (K.written out.new) steps.old steps.new }
 
     // A fault comes only where its count rose.
     ensures input_fault { result ≡ Status.InputFault → Rose (S.faults input.old) (S.faults input.new) }

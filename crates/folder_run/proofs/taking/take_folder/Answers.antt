@@ -1,4 +1,3 @@
-use Rattle.std.specs.Prelude.{Some, None}
 use Rattle.folder_run.proofs.Taken.{none_read, over_rules, over_files, taken}
 use Rattle.folder_run.proofs.taking.take_folder.Goals as goal
 

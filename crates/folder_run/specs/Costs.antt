@@ -1,0 +1,28 @@
+-- What fixing a folder costs in steps.
+use Rattle.std.specs.Prelude.{◌≡◌, ℕ, List, Option}
+use Rattle.fix_apply.specs.declared.fixed.FixedFile.{FixedFile}
+use Rattle.run_status.specs.declared.status.Status.{Status}
+use Rattle.run_status.specs.Ways.{Printed}
+use Rattle.seen_files.specs.declared.seen.SeenFiles.{SeenFiles}
+use Rattle.seen_files.specs.Seen.{HasSeenNone}
+use Rattle.wire_words.specs.Commands.{Task}
+use Rattle.workspace.specs.Work.{Works}
+use Rattle.stream_run.specs.Doing.{Setting, Shelves}
+use Rattle.folder_run.specs.Ends.{FixEnds, none, too_many, over, fixed, FixPrints}
+
+-- one scan of these files by these rules, before which nothing was seen, takes the steps from the one number to the other
+abbrev pub ScansOnce : Setting → Shelves → ℕ → ℕ → Type 0
+ScansOnce s shelves before after = (was : SeenFiles) × (seen : SeenFiles) × HasSeenNone was × Works s.readings s.refused shelves.files shelves.rules was seen before after
+
+module _ {s : Setting} {task : Task} where
+  -- the steps of fixing a folder that ends so: none where nothing was taken, else those of one scan of what was taken
+  abbrev pub FixTakes : {status : Status} {lines : List (List ℕ)} {files : List FixedFile} → FixEnds s task status lines files → ℕ → ℕ → Type 0
+  FixTakes (none status untaken) before after = after ≡ before
+  FixTakes (too_many shelves takes more) before after = ScansOnce s shelves before after
+  FixTakes (over shelves kind n takes passes) before after = ScansOnce s shelves before after
+  FixTakes (fixed shelves changed takes is few within) before after = ScansOnce s shelves before after
+
+-- fixing the folder ended so, and took these steps
+pub record FixedAfter (s : Setting) (task : Task) (written written_after : Option (List ℕ)) (status : Status) (before after : ℕ) : Type 0 where
+  pub prints : Printed (FixPrints s task) written written_after status
+  pub takes : FixTakes prints.ends.1 before after
