@@ -10,7 +10,7 @@ from .refusal import Refusal
 BUILT = os.path.join(os.path.dirname(os.path.dirname(os.path.dirname(os.path.abspath(__file__)))), 'crates', 'semscan', 'out', 'semscan')
 NO_PROGRAM = 127
 MEANING = {
-    2: 'the words are none of the program\'s: semscan scan [--error] [--max N] --config PATH PREFIX',
+    2: 'the words are none of the program\'s: semscan scan [--error] [--trace] [--max N] --config PATH PREFIX',
     3: 'memory ran out; scan fewer files at once',
     5: 'the report could not be written',
     6: 'a file or folder could not be read; look at its permissions',

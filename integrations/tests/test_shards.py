@@ -128,9 +128,10 @@ class Parts(Tree):
 
     @needs_program
     def test_example(self):
-        one = scan(TOP, '--config', 'examples/rules.yaml', 'examples')
-        many = run('semscan-shards', '--files', '2', '--config', 'examples/rules.yaml', 'examples', cwd=TOP)
-        self.assertEqual((many.stdout, many.returncode, many.stderr), (one.stdout, 0, b''))
+        for words in ((), ('--trace',)):
+            one = scan(TOP, *words, '--config', 'examples/rules.yaml', 'examples')
+            many = run('semscan-shards', *words, '--files', '2', '--config', 'examples/rules.yaml', 'examples', cwd=TOP)
+            self.assertEqual((many.stdout, many.returncode, many.stderr), (one.stdout, 0, b''), words)
 
     @needs_program
     def test_statuses(self):

@@ -58,12 +58,10 @@ fn prints_where_a_text_stops_being_json(rt: HostRuntime) -> Result<(), Fail> {
 #[test]
 fn refuses_what_is_not_built(rt: HostRuntime) -> Result<(), Fail> {
     let alloc = rt.alloc();
-    let rows: [&[&str]; 5] = [
+    let rows: [&[&str]; 3] = [
         &["check", "python"],
-        &["session", "--trace"],
-        &["fix", "--trace", "--config", "r.yaml", "."],
-        &["scan", "--trace", "--config", "r.yaml", "."],
         &["scan", "--store", "s", "--config", "r.yaml", "."],
+        &["scan", "--trace", "--store", "s", "--config", "r.yaml", "."],
     ];
     for words in rows {
         let mut patterns = RealPatterns::new(alloc);

@@ -15,3 +15,5 @@ mod runs;
 mod scans;
 #[cfg(test)]
 mod sessions;
+#[cfg(test)]
+mod traces;

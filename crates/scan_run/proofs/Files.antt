@@ -212,7 +212,8 @@ pub record Far (told : Option Files) (paths : List Path) (count total : ℕ) (ol
   pub summed : total ≡ bytes_of files
   pub small : total ≤ 33554432
   pub within : limit_end 0 0 files ≡ None
-  pub scans : Scans grammars files old new
+  pub scans : Scans (grammars old.traced) files old new
+  pub same_traced : new.traced ≡ old.traced
 
 module _ (told now : Option Files) (kept : KeepsFiles told now) (paths : List Path) (count total : ℕ) (old mid : Scanner Languages) (i : ℕ) (x asked : Path) (lt : i < length paths) (is : x ≡ get_or paths i x) (far : Far told (take i paths) count total old mid) (e : asked ≡ x) where
   pub far_absent : LacksFile now asked → Far told (take (i + 1) paths) count total old mid
@@ -225,12 +226,14 @@ module _ (told now : Option Files) (kept : KeepsFiles told now) (paths : List Pa
     small = far.small;
     within = far.within;
     scans = far.scans;
+    same_traced = far.same_traced;
   }
 
   module _ (bytes : List ℕ) (short : length bytes ≤ 1000001) (front : HasFront now asked 1000001 bytes) where
-    pub far_read : (size all : ℕ) (new : Scanner Languages) → size ≡ length bytes → count + 1 ≤ 10000 → all ≤ 33554432 → all ≡ total + size → Scans grammars ((asked, bytes) ∷ []) mid new → Far told (take (i + 1) paths) (count + 1) all old new
-    far_read size all new es few small ea scans =
+    pub far_read : (size all : ℕ) (new : Scanner Languages) → size ≡ length bytes → count + 1 ≤ 10000 → all ≤ 33554432 → all ≡ total + size → Scans (grammars mid.traced) ((asked, bytes) ∷ []) mid new → new.traced ≡ mid.traced → Far told (take (i + 1) paths) (count + 1) all old new
+    far_read size all new es few small ea scans same_traced =
         let f : File = (asked, bytes) in
+        let P : Bool → Type 0 = λ t. Scans (grammars t) (f ∷ []) mid new in
         let c = count_more far.files f count total size all far.counted far.summed far.within es few small ea in
         record {
           files = far.files ++ f ∷ [];
@@ -240,7 +243,8 @@ module _ (told now : Option Files) (kept : KeepsFiles told now) (paths : List Pa
           summed = c.counted;
           small = small;
           within = c.within;
-          scans = scans_then grammars far.files (f ∷ []) old mid new far.scans scans;
+          scans = scans_then (grammars old.traced) far.files (f ∷ []) old mid new far.scans (subst P far.same_traced scans);
+          same_traced = same_traced ∙ far.same_traced;
         }
 
     pub far_over : (size : ℕ) (status : Status) → length bytes ≡ size → IsOver count total size status → ReadingEnds told paths status
@@ -249,7 +253,7 @@ module _ (told now : Option Files) (kept : KeepsFiles told now) (paths : List Pa
 pub far_all : (told : Option Files) (paths : List Path) (i count total : ℕ) (old new : Scanner Languages) → length paths ≤ i → Far told (take i paths) count total old new → ScansRead told paths old new
 far_all told paths i count total old new end far =
     let P : List Path → Type 0 = λ ps. AreRead told ps far.files in
-    record { files = far.files; are_read = subst P (take_all i paths end) far.are_read; within = far.within; scans = far.scans }
+    record { files = far.files; are_read = subst P (take_all i paths end) far.are_read; within = far.within; scans = far.scans; same_traced = far.same_traced }
 
 -- the files that were read are those under the prefix
 module _ (told now : Option Files) (kept : KeepsFiles told now) (prefix : Path) (paths taken : List Path) (listed : IsListing prefix told paths) (are : AreTaken paths taken) where
@@ -257,7 +261,7 @@ module _ (told now : Option Files) (kept : KeepsFiles told now) (prefix : Path) 
   all_files files r = record { paths = paths; listed = listed; taken = taken; are_taken = are; are_read = read_before told now taken files kept r }
 
   pub all_scanned : {A : Type 0} (r : Result A Status) (old new : Scanner Languages) → OnOk r (ScansRead now taken old new) → OnOk r (ScansFiles told prefix old new)
-  all_scanned (Ok u) old new h = let are = all_files h.files h.are_read in record { files = h.files; are = are; ascend = files_ascend told prefix h.files are; within = h.within; scans = h.scans }
+  all_scanned (Ok u) old new h = let are = all_files h.files h.are_read in record { files = h.files; are = are; ascend = files_ascend told prefix h.files are; within = h.within; scans = h.scans; same_traced = h.same_traced }
   all_scanned (Err s) old new h = tt
 
   pub all_end : {A : Type 0} (r : Result A Status) → IfErr r (λ s. IsAnswer s → ReadingEnds now taken s) → IfErr r (λ s. IsAnswer s → FilesEnd told prefix s)

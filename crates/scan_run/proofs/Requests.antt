@@ -149,19 +149,19 @@ module _ (words : List (List ℕ)) (left : Option (List ℕ)) (told : Option Fil
       front_drill = front_by (Drills count refused) run_drill w v
 
     module _ (most : ℕ) (trace : Bool) (is : Asks words (Serving most trace)) where
-      run_session : (s : Status) (lines : List (List ℕ)) → Serves most told refused left s lines → Ends words left told refused s lines
+      run_session : (s : Status) (lines : List (List ℕ)) → Serves most trace told refused left s lines → Ends words left told refused s lines
       run_session s lines f = served most trace s lines is f
 
-      pub ends_session : (s : Status) → Printed (Serves most told refused left) w v s → Printed (Ends words left told refused) w v s
-      ends_session = ends_by (Serves most told refused left) run_session w v
+      pub ends_session : (s : Status) → Printed (Serves most trace told refused left) w v s → Printed (Ends words left told refused) w v s
+      ends_session = ends_by (Serves most trace told refused left) run_session w v
 
-      pub front_session : PrintsFront (setting most told refused) left w v → WritesFront words left told refused w v
+      pub front_session : PrintsFront (setting most trace told refused) left w v → WritesFront words left told refused w v
       front_session p = (p.lines, commands most trace p.lines is p.first, p.printed)
 
-      pub commands_session : PrintsFirst (setting most told refused) left w v → WritesCommands words left told refused w v
+      pub commands_session : PrintsFirst (setting most trace told refused) left w v → WritesCommands words left told refused w v
       commands_session p = (most, trace, is, (p.lines, p.first, p.printed))
 
-      pub some_session : PrintsFirst (setting most told refused) left w v → WritesSome words left told refused w v
+      pub some_session : PrintsFirst (setting most trace told refused) left w v → WritesSome words left told refused w v
       some_session p =
           let P : List (List ℕ) → Type 0 = λ ls. Appends w v (concat ls) in
           (p.lines, commands most trace p.lines is p.first, (length p.lines, subst P (sym (take-length p.lines)) p.printed))

@@ -37,11 +37,11 @@ finished true [] = tt
 finished true (r ∷ rs) = tt
 finished false results = tt
 
-module _ (flag : Bool) (most : ℕ) (refused : List (List ℕ)) (files : List File) (rules : RuleFile) where
-  report_once : (s t : Status) (ls ms : List (List ℕ)) → (IsFinished s → IsOneReport refused files rules) → ReportEnds flag most refused files rules s ls → ReportEnds flag most refused files rules t ms → Same s t ls ms
+module _ (flag : Bool) (most : ℕ) (traced : Bool) (refused : List (List ℕ)) (files : List File) (rules : RuleFile) where
+  report_once : (s t : Status) (ls ms : List (List ℕ)) → (IsFinished s → IsOneReport traced refused files rules) → ReportEnds flag most traced refused files rules s ls → ReportEnds flag most traced refused files rules t ms → Same s t ls ms
   report_once _ _ _ _ one (too_many more) (too_many _) = (refl, refl)
-  report_once _ _ _ _ one (too_many more) (reported report fresh few) = absurd (exclusive grammars refused files (rules ∷ []) most report fresh few more)
-  report_once _ _ _ _ one (reported report fresh few) (too_many more) = absurd (exclusive grammars refused files (rules ∷ []) most report fresh few more)
+  report_once _ _ _ _ one (too_many more) (reported report fresh few) = absurd (exclusive (grammars traced) refused files (rules ∷ []) most report fresh few more)
+  report_once _ _ _ _ one (reported report fresh few) (too_many more) = absurd (exclusive (grammars traced) refused files (rules ∷ []) most report fresh few more)
   report_once _ _ _ _ one (reported report fresh few) (reported other fresh' few') =
       let same : other ≡ report = one (finished flag report.results) other report fresh' fresh in
       (ap (λ (r : Report). status_of flag r.results) same, ap (λ (r : Report). report_line r ∷ []) same)
@@ -58,18 +58,18 @@ shows_none true [] none = refl
 shows_none true (r ∷ rs) none = absurd (omega (arith, none refl))
 shows_none false results none = refl
 
-pub ends_too_many : (flag : Bool) (most : ℕ) (refused : List (List ℕ)) (files : List File) (rules : RuleFile) (w : Option (List ℕ)) (n : ℕ) → n ≡ most → HasMoreFindings refused files rules most → Printed (ReportEnds flag most refused files rules) w w (TooMany n)
-ends_too_many flag most refused files rules w n e more = let P : ℕ → Type 0 = λ k. ReportEnds flag most refused files rules (TooMany k) [] in record { lines = []; ends = subst P (sym e) (too_many more); printed = nothing_written w }
+pub ends_too_many : (flag : Bool) (most : ℕ) (traced : Bool) (refused : List (List ℕ)) (files : List File) (rules : RuleFile) (w : Option (List ℕ)) (n : ℕ) → n ≡ most → HasMoreFindings traced refused files rules most → Printed (ReportEnds flag most traced refused files rules) w w (TooMany n)
+ends_too_many flag most traced refused files rules w n e more = let P : ℕ → Type 0 = λ k. ReportEnds flag most traced refused files rules (TooMany k) [] in record { lines = []; ends = subst P (sym e) (too_many more); printed = nothing_written w }
 
-module _ (flag : Bool) (most : ℕ) (refused : List (List ℕ)) (files : List File) (rules : RuleFile) (w v : Option (List ℕ)) where
-  module _ (report : Report) (fresh : IsFresh grammars refused files (rules ∷ []) report) (few : length report.results ≤ most) where
-    pub ends_reported : (s : Status) → s ≡ status_of flag report.results → Appends w v (report_line report) → Printed (ReportEnds flag most refused files rules) w v s
+module _ (flag : Bool) (most : ℕ) (traced : Bool) (refused : List (List ℕ)) (files : List File) (rules : RuleFile) (w v : Option (List ℕ)) where
+  module _ (report : Report) (fresh : IsFresh (grammars traced) refused files (rules ∷ []) report) (few : length report.results ≤ most) where
+    pub ends_reported : (s : Status) → s ≡ status_of flag report.results → Appends w v (report_line report) → Printed (ReportEnds flag most traced refused files rules) w v s
     ends_reported s e put =
-        let P : Status → Type 0 = λ x. ReportEnds flag most refused files rules x (report_line report ∷ []) in
+        let P : Status → Type 0 = λ x. ReportEnds flag most traced refused files rules x (report_line report ∷ []) in
         let Q : List ℕ → Type 0 = λ l. Appends w v l in
         record { lines = report_line report ∷ []; ends = subst P (sym e) (reported report fresh few); printed = subst Q (sym (append-nil (report_line report))) put }
 
-    pub front_reported : AppendsFront w v (report_line report) → PrintedFront (ReportEnds flag most refused files rules) w v
+    pub front_reported : AppendsFront w v (report_line report) → PrintedFront (ReportEnds flag most traced refused files rules) w v
     front_reported put =
         let Q : List ℕ → Type 0 = λ l. AppendsFront w v l in
         record {
@@ -82,13 +82,18 @@ module _ (flag : Bool) (most : ℕ) (refused : List (List ℕ)) (files : List Fi
 
 -- ---- by the scan of the files
 
--- the scan has looked at the files, by the rule file that is the only one
-pub has_scanned : (refused : List (List ℕ)) (rules : RuleFile) (all : List RuleFile) (most : ℕ) (told : Option Files) (prefix : List ℕ) (old new : Scanner Languages) (h : ScansFiles told prefix old new) → all ≡ rules ∷ [] → HasScanned grammars refused all most [] old → HasScanned grammars refused (rules ∷ []) most h.files new
-has_scanned refused rules all most told prefix old new h e begun = let P : List RuleFile → Type 0 = λ l. HasScanned grammars refused l most [] old in h.scans refused (rules ∷ []) most [] h.ascend (subst P e begun)
+-- the scan has looked at the files, by the rule file that is the only one, with traces or without as when it began
+pub has_scanned : (refused : List (List ℕ)) (rules : RuleFile) (all : List RuleFile) (most : ℕ) (traced : Bool) (told : Option Files) (prefix : List ℕ) (old new : Scanner Languages) (h : ScansFiles told prefix old new) → old.traced ≡ traced → all ≡ rules ∷ []
+    → HasScanned (grammars traced) refused all most [] old → HasScanned (grammars new.traced) refused (rules ∷ []) most h.files new
+has_scanned refused rules all most traced told prefix old new h was e begun =
+    let P : List RuleFile → Type 0 = λ l. HasScanned (grammars old.traced) refused l most [] old in
+    let Q : Bool → Type 0 = λ t. HasScanned (grammars t) refused all most [] old in
+    let R : Bool → Type 0 = λ t. HasScanned (grammars t) refused (rules ∷ []) most h.files new in
+    subst R (sym h.same_traced) (h.scans refused (rules ∷ []) most [] h.ascend (subst P e (subst Q (sym was) begun)))
 
 -- two reports are one where each is this one
-pub one_report : (refused : List (List ℕ)) (files : List File) (rules : RuleFile) (report : Report) → ((r : Report) → IsFresh grammars refused files (rules ∷ []) r → r ≡ report) → IsOneReport refused files rules
-one_report refused files rules report only a b x y = only a x ∙ sym (only b y)
+pub one_report : (traced : Bool) (refused : List (List ℕ)) (files : List File) (rules : RuleFile) (report : Report) → ((r : Report) → IsFresh (grammars traced) refused files (rules ∷ []) r → r ≡ report) → IsOneReport traced refused files rules
+one_report traced refused files rules report only a b x y = only a x ∙ sym (only b y)
 
 -- how a scan ends whose report was printed is no fault
 pub of_report : (flag : Bool) (results : List Reported) (s : Status) → s ≡ status_of flag results → IsOfReport s
@@ -107,11 +112,11 @@ limit_or_none files s e f = let g : Some s ≡ None = sym e ∙ f in absurd cc
 limit_once : (files : List File) (s t : Status) → limit_end 0 0 files ≡ Some s → limit_end 0 0 files ≡ Some t → t ≡ s
 limit_once files s t e f = let g : Some t ≡ Some s = sym f ∙ e in cc
 
-files_end_once : (task : Task) (refused : List (List ℕ)) (rules : RuleFile) (files : List File) (s t : Status) (ls ms : List (List ℕ)) → (IsFinished s → IsOneReport refused files rules) → ScanEnds task refused rules files s ls → ScanEnds task refused rules files t ms → Same s t ls ms
+files_end_once : (task : Task) (refused : List (List ℕ)) (rules : RuleFile) (files : List File) (s t : Status) (ls ms : List (List ℕ)) → (IsFinished s → IsOneReport task.trace refused files rules) → ScanEnds task refused rules files s ls → ScanEnds task refused rules files t ms → Same s t ls ms
 files_end_once task refused rules files s t _ _ one (over_limit _ e) (over_limit _ f) = (limit_once files s t e f, refl)
 files_end_once task refused rules files s t _ _ one (over_limit _ e) (searched _ _ f _) = absurd (limit_or_none files s e f)
 files_end_once task refused rules files s t _ _ one (searched _ _ f _) (over_limit _ e) = absurd (limit_or_none files t e f)
-files_end_once task refused rules files s t ls ms one (searched _ _ f ends) (searched _ _ _ ends') = report_once task.flag task.most refused files rules s t ls ms one ends ends'
+files_end_once task refused rules files s t ls ms one (searched _ _ f ends) (searched _ _ _ ends') = report_once task.flag task.most task.trace refused files rules s t ls ms one ends ends'
 
 some_map : IsSome {T = Files} None → ⊥
 some_map e = absurd cc
@@ -129,7 +134,7 @@ module _ (task : Task) (refused : List (List ℕ)) (config : Option (List ℕ)) 
 
   -- the one way in which it ends by its files, if these and the rules give one report at most
   pub only_files : (told : Option Files) (rules : RuleFile) (files : List File) (w v : Option (List ℕ)) (status : Status) (lines : List (List ℕ))
-      → IsConfig told task.config config → IsRules task.config config rules → AreFiles told task.prefix files → (IsFinished status → IsOneReport refused files rules)
+      → IsConfig told task.config config → IsRules task.config config rules → AreFiles told task.prefix files → (IsFinished status → IsOneReport task.trace refused files rules)
       → ScanEnds task refused rules files status lines → Appends w v (concat lines) → IsSome told → IsOnlyEnd (Scans task told refused) w v status
   only_files None rules files w v status lines is r are one ends put some other ms scans = absurd (some_map some)
   only_files (Some map) rules files w v status lines is r are one ends put some other ms (no_rules c _ is' ends') =
@@ -156,16 +161,21 @@ module _ (task : Task) (told : Option Files) (refused : List (List ℕ)) (rules 
   pub only_limit : (w : Option (List ℕ)) (status : Status) → (IsFinished status → ⊥) → FilesEnd told task.prefix status → IsSome told → IsOnlyEnd (Scans task told refused) w w status
   only_limit w status nay (files, are, e) = only_files task refused h.config h.one_file told rules files w w status [] h.is_config h.are_rules are (λ f. absurd (nay f)) (over_limit status e) (nothing_written w)
 
-  module _ (files : List File) (are : AreFiles told task.prefix files) (within : limit_end 0 0 files ≡ None) where
+  module _ (files : List File) (are : AreFiles told task.prefix files) (within : limit_end 0 0 files ≡ None) (traced : Bool) (as_asked : traced ≡ task.trace) where
     -- by what the rules find
-    scanned : (status : Status) (lines : List (List ℕ)) → ReportEnds task.flag task.most refused files rules status lines → Scans task told refused status lines
-    scanned status lines ends = with_rules h.config rules files status lines h.is_config h.are_rules are (searched status lines within ends)
+    searched_so : (status : Status) (lines : List (List ℕ)) → ReportEnds task.flag task.most traced refused files rules status lines → ScanEnds task refused rules files status lines
+    searched_so status lines ends = let P : Bool → Type 0 = λ t. ReportEnds task.flag task.most t refused files rules status lines in searched status lines within (subst P as_asked ends)
 
-    pub ends_by_report : (w v : Option (List ℕ)) (status : Status) → Printed (ReportEnds task.flag task.most refused files rules) w v status → Printed (Scans task told refused) w v status
+    scanned : (status : Status) (lines : List (List ℕ)) → ReportEnds task.flag task.most traced refused files rules status lines → Scans task told refused status lines
+    scanned status lines ends = with_rules h.config rules files status lines h.is_config h.are_rules are (searched_so status lines ends)
+
+    pub ends_by_report : (w v : Option (List ℕ)) (status : Status) → Printed (ReportEnds task.flag task.most traced refused files rules) w v status → Printed (Scans task told refused) w v status
     ends_by_report w v status p = record { lines = p.lines; ends = scanned status p.lines p.ends; printed = p.printed }
 
-    pub front_of_report : (w v : Option (List ℕ)) → PrintedFront (ReportEnds task.flag task.most refused files rules) w v → PrintedFront (Scans task told refused) w v
+    pub front_of_report : (w v : Option (List ℕ)) → PrintedFront (ReportEnds task.flag task.most traced refused files rules) w v → PrintedFront (Scans task told refused) w v
     front_of_report w v p = record { status = p.status; finished = p.finished; lines = p.lines; ends = scanned p.status p.lines p.ends; printed = p.printed }
 
-    pub only_report : (w v : Option (List ℕ)) (status : Status) → (IsFinished status → IsOneReport refused files rules) → Printed (ReportEnds task.flag task.most refused files rules) w v status → IsSome told → IsOnlyEnd (Scans task told refused) w v status
-    only_report w v status one p = only_files task refused h.config h.one_file told rules files w v status p.lines h.is_config h.are_rules are one (searched status p.lines within p.ends) p.printed
+    pub only_report : (w v : Option (List ℕ)) (status : Status) → (IsFinished status → IsOneReport traced refused files rules) → Printed (ReportEnds task.flag task.most traced refused files rules) w v status → IsSome told → IsOnlyEnd (Scans task told refused) w v status
+    only_report w v status one p =
+        let P : Bool → Type 0 = λ t. IsFinished status → IsOneReport t refused files rules in
+        only_files task refused h.config h.one_file told rules files w v status p.lines h.is_config h.are_rules are (subst P as_asked one) (searched_so status p.lines p.ends) p.printed

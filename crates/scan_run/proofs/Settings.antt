@@ -1,5 +1,5 @@
 -- What a session that begins with nothing makes of the settings of a run.
-use Rattle.std.proofs.Common.{◌≡◌, ◌⊎◌, inl, inr, ℕ, List, [], refl, sym, ap, subst}
+use Rattle.std.proofs.Common.{◌≡◌, ◌⊎◌, inl, inr, ℕ, Bool, List, [], refl, sym, ap, subst}
 use Rattle.std.specs.Prelude.{Option}
 use Rattle.scan_world.specs.Files.{Files}
 use Rattle.run_status.specs.declared.status.Status.{Status}
@@ -26,8 +26,12 @@ is_new most state e =
     }
 
 -- what holds of the setting of the session holds of that of the run
-pub of_setting : (told : Option Files) (refused : List (List ℕ)) (most : ℕ) (state : State) → state ≡ nothing most → (P : Setting → Type 0) → P (setting state.most told refused) → P (setting most told refused)
-of_setting told refused most state e P p = subst (λ (n : ℕ). P (setting n told refused)) (ap (λ (s : State). s.most) e) p
+pub of_setting : (told : Option Files) (refused : List (List ℕ)) (most : ℕ) (traced : Bool) (state : State) (its : Bool) → state ≡ nothing most → its ≡ traced → (P : Setting → Type 0)
+    → P (setting state.most its told refused) → P (setting most traced told refused)
+of_setting told refused most traced state its e f P p =
+    let Q : ℕ → Type 0 = λ n. P (setting n its told refused) in
+    let R : Bool → Type 0 = λ t. P (setting most t told refused) in
+    subst R f (subst Q (ap (λ (s : State). s.most) e) p)
 
 module _ (s : Setting) (stream w v : Option (List ℕ)) where
   pub printed_of : (status : Status) → PrintsEnd s stream w v status → Printed (SessionEnds s stream) w v status

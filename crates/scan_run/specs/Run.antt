@@ -12,17 +12,17 @@ use Rattle.scan_run.specs.Matching.{Matches}
 use Rattle.scan_run.specs.Checking.{Checks}
 use Rattle.scan_run.specs.Scan.{Scans}
 use Rattle.folder_run.specs.Written.{Wrote, Leaves}
-use Rattle.scan_run.specs.Serving.{setting, Serves, ServesFirst, Fixes, Drills}
+use Rattle.scan_run.specs.Serving.{setting, Serves, ServesFirst, Fixes, Drills, ServesAfter, FixesAfter, DrillsAfter}
 use Rattle.scan_world.specs.Streams.{AppendsFront}
 use Rattle.run_status.specs.Ways.{AppendsSome}
 
--- a run does what is requested; traces and stores are not built yet
+-- a run does what is requested; stores are not built yet
 abbrev pub IsBuilt : Request → Type 0
 IsBuilt (Matching lang text) = Unit {0}
 IsBuilt Checking = Unit {0}
-IsBuilt (Scanning task) = (task.trace ≡ false) × (task.store ≡ None)
-IsBuilt (Fixing task) = task.trace ≡ false
-IsBuilt (Serving most trace) = trace ≡ false
+IsBuilt (Scanning task) = task.store ≡ None
+IsBuilt (Fixing task) = Unit {0}
+IsBuilt (Serving most trace) = Unit {0}
 IsBuilt (Drilling count) = Unit {0}
 
 -- the words ask for this, and a run does it
@@ -42,13 +42,13 @@ pub data Ends (words : List (List ℕ)) (left : Option (List ℕ)) (told : Optio
   checked : (status : Status) (lines : List (List ℕ)) → Asks words Checking → Checks left status lines → Ends words left told refused status lines
   scanned : (task : Task) (status : Status) (lines : List (List ℕ)) → Asks words (Scanning task) → Scans task told refused status lines → Ends words left told refused status lines
   fixed : (task : Task) (status : Status) (lines : List (List ℕ)) → Asks words (Fixing task) → Fixes task told refused status lines → Ends words left told refused status lines
-  served : (most : ℕ) (trace : Bool) (status : Status) (lines : List (List ℕ)) → Asks words (Serving most trace) → Serves most told refused left status lines → Ends words left told refused status lines
+  served : (most : ℕ) (trace : Bool) (status : Status) (lines : List (List ℕ)) → Asks words (Serving most trace) → Serves most trace told refused left status lines → Ends words left told refused status lines
   drilled : (count : ℕ) (status : Status) (lines : List (List ℕ)) → Asks words (Drilling count) → Drills count refused status lines → Ends words left told refused status lines
 
 -- The first lines of a run: all of them where it does all that it is asked for, or those of the first commands of a session.
 pub data StartsWith (words : List (List ℕ)) (left : Option (List ℕ)) (told : Option Files) (refused : List (List ℕ)) : List (List ℕ) → Type 0 where
   whole : (status : Status) (lines : List (List ℕ)) → IsFinished status → Ends words left told refused status lines → StartsWith words left told refused lines
-  commands : (most : ℕ) (trace : Bool) (lines : List (List ℕ)) → Asks words (Serving most trace) → ServesFirst most told refused left lines → StartsWith words left told refused lines
+  commands : (most : ℕ) (trace : Bool) (lines : List (List ℕ)) → Asks words (Serving most trace) → ServesFirst most trace told refused left lines → StartsWith words left told refused lines
 
 -- some front of the first lines of a run was written
 abbrev pub WritesFront : List (List ℕ) → Option (List ℕ) → Option Files → List (List ℕ) → Option (List ℕ) → Option (List ℕ) → Type 0
@@ -61,7 +61,7 @@ WritesSome words left told refused written written_after = (lines : List (List �
 -- the lines of the first commands of a session were written, each whole
 abbrev pub WritesCommands : List (List ℕ) → Option (List ℕ) → Option Files → List (List ℕ) → Option (List ℕ) → Option (List ℕ) → Type 0
 WritesCommands words left told refused written written_after =
-    (most : ℕ) × (trace : Bool) × Asks words (Serving most trace) × ((lines : List (List ℕ)) × ServesFirst most told refused left lines × Appends written written_after (concat lines))
+    (most : ℕ) × (trace : Bool) × Asks words (Serving most trace) × ((lines : List (List ℕ)) × ServesFirst most trace told refused left lines × Appends written written_after (concat lines))
 
 -- what a request reads is told: a match and a check their input, a scan its files; the other requests are not spoken of
 abbrev pub IsTold : Option (List ℕ) → Option Files → Request → Type 0
@@ -86,17 +86,28 @@ AskToRead words = AskToMatch words ⊎ Asks words Checking
 abbrev pub AskToServe : List (List ℕ) → Type 0
 AskToServe words = (most : ℕ) × (trace : Bool) × Asks words (Serving most trace)
 
+-- what a request costs in steps, if it is a session, a fix or a drill; the numbers are before and after
+abbrev pub TakesFor : Request → Option (List ℕ) → Option Files → List (List ℕ) → Option (List ℕ) → Option (List ℕ) → Status → ℕ → ℕ → Type 0
+TakesFor (Serving most trace) left told refused written written_after status before after = ServesAfter most trace told refused left written written_after status before after
+TakesFor (Fixing task) left told refused written written_after status before after = FixesAfter task told refused written written_after status before after
+TakesFor (Drilling count) left told refused written written_after status before after = DrillsAfter count refused written written_after status before after
+TakesFor _ left told refused written written_after status before after = Unit {0}
+
+-- the same of what the words ask for
+abbrev pub Takes : List (List ℕ) → Option (List ℕ) → Option Files → List (List ℕ) → Option (List ℕ) → Option (List ℕ) → Status → ℕ → ℕ → Type 0
+Takes words left told refused written written_after status before after = (request : Request) → Asks words request → TakesFor request left told refused written written_after status before after
+
 -- the words ask for fixes that are written
 abbrev pub AskToWrite : List (List ℕ) → Type 0
 AskToWrite words = (task : Task) × Asks words (Fixing task) × (task.flag ≡ false)
 
 -- what fixing leaves in the tree, by what the words ask for
 abbrev pub FixLeaves : List (List ℕ) → Option Files → List (List ℕ) → Option Files → Type 0
-FixLeaves words told refused new = (task : Task) → Asks words (Fixing task) → Leaves (setting task.most told refused) task new
+FixLeaves words told refused new = (task : Task) → Asks words (Fixing task) → Leaves (setting task.most task.trace told refused) task new
 
 -- the changed files of this end were written
 abbrev pub FixWrote : List (List ℕ) → Option Files → List (List ℕ) → Option Files → Status → Type 0
-FixWrote words told refused new status = (task : Task) → Asks words (Fixing task) → Wrote (setting task.most told refused) task new status
+FixWrote words told refused new status = (task : Task) → Asks words (Fixing task) → Wrote (setting task.most task.trace told refused) task new status
 
 -- what is requested scans nothing
 abbrev pub ScansNothing : Request → Type 0

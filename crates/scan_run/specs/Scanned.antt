@@ -10,12 +10,13 @@ use Rattle.scan_session.specs.Scans.{Scans, HasScanned}
 use Rattle.scan_run.specs.Scan.{grammars}
 use Rattle.scan_run.specs.Taking.{File, AreRead, AreFiles, limit_end}
 
--- the files at these paths were scanned, which are within the limits
+-- the files at these paths were scanned, which are within the limits, with traces or without, as before
 pub record ScansRead (told : Option Files) (paths : List (List ℕ)) (old new : Scanner Languages) : Type 0 where
   pub files : List File
   pub are_read : AreRead told paths files
   pub within : limit_end 0 0 files ≡ None
-  pub scans : Scans grammars files old new
+  pub scans : Scans (grammars old.traced) files old new
+  pub same_traced : new.traced ≡ old.traced
 
 -- so were those under the prefix that are taken, in order of path
 pub record ScansFiles (told : Option Files) (prefix : List ℕ) (old new : Scanner Languages) : Type 0 where
@@ -23,8 +24,9 @@ pub record ScansFiles (told : Option Files) (prefix : List ℕ) (old new : Scann
   pub are : AreFiles told prefix files
   pub ascend : IsAscending file_cmp files
   pub within : limit_end 0 0 files ≡ None
-  pub scans : Scans grammars files old new
+  pub scans : Scans (grammars old.traced) files old new
+  pub same_traced : new.traced ≡ old.traced
 
 -- it holds of what a scan by one rule file has looked at
 abbrev pub AfterScanBy : Scanner Languages → (List (List ℕ) → RuleFile → ℕ → List File → Type 0) → Type 0
-AfterScanBy scanner P = (refused : List (List ℕ)) (rules : RuleFile) (most : ℕ) (files : List File) → HasScanned grammars refused (rules ∷ []) most files scanner → P refused rules most files
+AfterScanBy scanner P = (refused : List (List ℕ)) (rules : RuleFile) (most : ℕ) (files : List File) → HasScanned (grammars scanner.traced) refused (rules ∷ []) most files scanner → P refused rules most files

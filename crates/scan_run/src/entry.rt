@@ -8,7 +8,7 @@ ghost use Rattle.decided_texts.specs.Refused.{Gains, gained};
 ghost use Rattle.run_status.specs.Status.{IsAnswer, IsCutShort};
 ghost use Rattle.run_status.specs.Ways.{Printed, IsOnlyEnd};
 ghost use Rattle.wire_words.specs.Commands.{Request, request as requested};
-ghost use Rattle.scan_run.specs.Run.{Asks, IsBuilt, Ends, WritesFront, WritesSome, WritesCommands, FixWrote, FixLeaves, AreTold, AskToMatch, AskToRead, AskToServe, AskToWrite, AskForNoScan, AskForNoSearch};
+ghost use Rattle.scan_run.specs.Run.{Asks, IsBuilt, Ends, WritesFront, WritesSome, WritesCommands, FixWrote, FixLeaves, AreTold, AskToMatch, AskToRead, AskToServe, AskToWrite, AskForNoScan, AskForNoSearch, Takes};
 ghost use Rattle.scan_run.specs.Steps.{TakesSteps};
 
 use crate::checking::run_check;
@@ -23,17 +23,16 @@ use std::alloc::Global;
 use std::sync::ledger::Ledger;
 use wire_words::{Command, read_words};
 
-// Whether a run does what a command asks for. Traces and stores are not built yet: their words are as those outside
-// the table.
+// Whether a run does what a command asks for. Stores are not built yet: their words are as those outside the table.
 fn is_built(command: &Command<'_>) -> bool
     ensures { IsTrue result ↔ IsBuilt (requested command.now) }
 {
     match command {
         Command::Match(_, _) => true,
         Command::Check => true,
-        Command::Scan(job) => !job.trace && job.store.is_none(),
-        Command::Fix(job) => !job.trace,
-        Command::Session(_, trace) => !*trace,
+        Command::Scan(job) => job.store.is_none(),
+        Command::Fix(_) => true,
+        Command::Session(_, _) => true,
         Command::Drill(_) => true,
     }
 }
@@ -93,6 +92,9 @@ pub fn run<T: Tree, S: Source, K: Sink, P: Patterns, L: Ledger>(
     // A match takes steps as its status says, and a run that searches nothing takes none.
     ensures work { AskToMatch (map string_bytes words.now.items) → TakesSteps result steps.old steps.new }
     ensures no_work { AskForNoSearch (map string_bytes words.now.items) → steps.new ≡ steps.old }
+
+    // A session, a fix and a drill take a step for each file that a scan of theirs opens, and one for each call of the matcher.
+    ensures session_work { IsAnswer result → Takes (map string_bytes words.now.items) (S.left input.old) (T.files tree.old) (gained (P.refusals patterns.old) (P.refusals patterns.new)) (K.written out.old) (K.written out.new) result steps.old steps.new }
 {
     match asked(words) {
         None => Status::Usage,
@@ -100,8 +102,8 @@ pub fn run<T: Tree, S: Source, K: Sink, P: Patterns, L: Ledger>(
         Some(Command::Check) => run_check(alloc, input, out),
         Some(Command::Scan(job)) => run_scan(alloc, &job, tree, out, patterns, steps),
         Some(Command::Fix(job)) => run_fix(alloc, &job, tree, out, patterns, steps),
-        Some(Command::Session(most, _trace)) => {
-            run_session(alloc, most, tree, input, out, patterns, steps)
+        Some(Command::Session(most, trace)) => {
+            run_session(alloc, most, trace, tree, input, out, patterns, steps)
         }
         Some(Command::Drill(count)) => run_drill(alloc, count, tree, out, patterns, steps),
     }

@@ -47,20 +47,30 @@ fn one_file(alloc: Global, rules: RuleFile) -> Result<List<RuleFile>, Memory>
     Ok(all)
 }
 
-// A scan that has no file so far. The builder is asked for all texts of its rules.
+// A scan that has no file so far, with traces if `traced` says so. The builder is asked for all texts of its rules.
 fn begin<'r, P: Patterns>(
     alloc: Global,
     languages: &'r Languages,
     rules: &'r List<RuleFile>,
     most: u64,
+    traced: bool,
     patterns: &mut P,
 ) -> Result<Scanner<'r, Languages>, Memory>
     ensures grows { Gains (P.refusals patterns.old) (P.refusals patterns.new) }
-    ensures begun { IfOk result (HasScanned grammars (gained (P.refusals patterns.old) (P.refusals patterns.new)) rules.now most []) }
+    ensures traced { IfOk result (λ scanner. scanner.traced ≡ traced) }
+    ensures begun { IfOk result (HasScanned (grammars traced) (gained (P.refusals patterns.old) (P.refusals patterns.new)) rules.now most []) }
 {
     let mut decided = DecidedTexts::new(alloc);
     let rules = rules.as_slice();
-    let scanner = Scanner::of(alloc, languages, rules, most, &mut decided, patterns)?;
+    let scanner = Scanner::of(
+        alloc,
+        languages,
+        rules,
+        most,
+        traced,
+        &mut decided,
+        patterns,
+    )?;
     Ok(scanner)
 }
 
@@ -71,13 +81,13 @@ fn print_report<K: Sink>(
     scanner: Scanner<'_, Languages>,
     out: &mut K,
 ) -> Status
-    ensures ends { IsAnswer result → AfterScanBy scanner.entry (λ refused rules most files. Printed (ReportEnds flag most refused files rules) (K.written out.old) (K.written out.new) result) }
-    ensures one_report { IsFinished result → AfterScanBy scanner.entry (λ refused rules most files. IsOneReport refused files rules) }
+    ensures ends { IsAnswer result → AfterScanBy scanner.entry (λ refused rules most files. Printed (ReportEnds flag most scanner.entry.traced refused files rules) (K.written out.old) (K.written out.new) result) }
+    ensures one_report { IsFinished result → AfterScanBy scanner.entry (λ refused rules most files. IsOneReport scanner.entry.traced refused files rules) }
     ensures cause { IsOfReport result }
     ensures unwritten { result ≡ Status.Memory → K.written out.new ≡ K.written out.old }
     ensures output_kept { IsAnswer result → K.faults out.new ≡ K.faults out.old }
     ensures output_fault { result ≡ Status.OutputFault → Rose (K.faults out.old) (K.faults out.new) }
-    ensures front_written { result ≡ Status.OutputFault → AfterScanBy scanner.entry (λ refused rules most files. PrintedFront (ReportEnds flag most refused files rules) (K.written out.old) (K.written out.new)) }
+    ensures front_written { result ≡ Status.OutputFault → AfterScanBy scanner.entry (λ refused rules most files. PrintedFront (ReportEnds flag most scanner.entry.traced refused files rules) (K.written out.old) (K.written out.new)) }
 {
     let report = match scanner.report(alloc) {
         Ok(report) => report,
@@ -125,7 +135,7 @@ pub fn run_scan<T: Tree, K: Sink, P: Patterns, L: Ledger>(
         return Status::Memory;
     };
     let languages = Languages;
-    let Ok(mut scanner) = begin(alloc, &languages, &all, job.most, patterns) else {
+    let Ok(mut scanner) = begin(alloc, &languages, &all, job.most, job.trace, patterns) else {
         return Status::Memory;
     };
     match scan_files(alloc, tree, job.prefix, &mut scanner, steps) {

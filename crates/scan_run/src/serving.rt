@@ -9,7 +9,7 @@ ghost use Rattle.run_status.specs.Status.{IsAnswer, IsCutShort};
 ghost use Rattle.run_status.specs.Ways.{Printed, PrintedFront};
 ghost use Rattle.folder_run.specs.Written.{Wrote, Leaves};
 ghost use Rattle.stream_run.specs.Playing.{PrintsFirst, PrintsFront};
-ghost use Rattle.scan_run.specs.Serving.{setting, Serves, Fixes, Drills};
+ghost use Rattle.scan_run.specs.Serving.{setting, Serves, Fixes, Drills, ServesAfter, FixesAfter, DrillsAfter};
 
 use drill_run::drill;
 use folder_run::fix_folder;
@@ -37,8 +37,9 @@ pub fn run_fix<T: Tree, K: Sink, P: Patterns, L: Ledger>(
     steps: &mut Steps<L>,
 ) -> Status
     ensures ends { IsAnswer result → Printed (Fixes (task_of job.now) (T.files tree.old) (gained (P.refusals patterns.old) (P.refusals patterns.new))) (K.written out.old) (K.written out.new) result }
-    ensures wrote { IsAnswer result → Wrote (setting job.now.most (T.files tree.old) (gained (P.refusals patterns.old) (P.refusals patterns.new))) (task_of job.now) (T.files tree.new) result }
-    ensures left { Leaves (setting job.now.most (T.files tree.old) (gained (P.refusals patterns.old) (P.refusals patterns.new))) (task_of job.now) (T.files tree.new) }
+    ensures work { IsAnswer result → FixesAfter (task_of job.now) (T.files tree.old) (gained (P.refusals patterns.old) (P.refusals patterns.new)) (K.written out.old) (K.written out.new) result steps.old steps.new }
+    ensures wrote { IsAnswer result → Wrote (setting job.now.most job.now.trace (T.files tree.old) (gained (P.refusals patterns.old) (P.refusals patterns.new))) (task_of job.now) (T.files tree.new) result }
+    ensures left { Leaves (setting job.now.most job.now.trace (T.files tree.old) (gained (P.refusals patterns.old) (P.refusals patterns.new))) (task_of job.now) (T.files tree.new) }
     ensures tree_kept { IsAnswer result → T.faults tree.new ≡ T.faults tree.old }
     ensures output_kept { IsAnswer result → K.faults out.new ≡ K.faults out.old }
     ensures no_input { result ≡ Status.InputFault → ⊥ }
@@ -51,23 +52,26 @@ pub fn run_fix<T: Tree, K: Sink, P: Patterns, L: Ledger>(
     ensures patterns_grow { Gains (P.refusals patterns.old) (P.refusals patterns.new) }
 {
     let languages = Languages;
-    let mut session = Session::new(alloc, &languages, job.most);
+    let mut session = Session::new(alloc, &languages, job.most, job.trace);
     fix_folder(alloc, job, &mut session, tree, out, patterns, steps)
 }
 
-/// Does the commands of the input, each of which prints what it says, as `specs/Serving.antt` says.
+/// Does the commands of the input, each of which prints what it says, as `specs/Serving.antt` says. Findings have their traces if
+/// `traced` says so.
 pub fn run_session<T: Tree, S: Source, K: Sink, P: Patterns, L: Ledger>(
     alloc: Global,
     most: u64,
+    traced: bool,
     tree: &mut T,
     input: &mut S,
     out: &mut K,
     patterns: &mut P,
     steps: &mut Steps<L>,
 ) -> Status
-    ensures ends { IsAnswer result → Printed (Serves most (T.files tree.old) (gained (P.refusals patterns.old) (P.refusals patterns.new)) (S.left input.old)) (K.written out.old) (K.written out.new) result }
-    ensures commands_written { IsCutShort result → PrintsFirst (setting most (T.files tree.old) (gained (P.refusals patterns.old) (P.refusals patterns.new))) (S.left input.old) (K.written out.old) (K.written out.new) }
-    ensures front_written { result ≡ Status.OutputFault → PrintsFront (setting most (T.files tree.old) (gained (P.refusals patterns.old) (P.refusals patterns.new))) (S.left input.old) (K.written out.old) (K.written out.new) }
+    ensures ends { IsAnswer result → Printed (Serves most traced (T.files tree.old) (gained (P.refusals patterns.old) (P.refusals patterns.new)) (S.left input.old)) (K.written out.old) (K.written out.new) result }
+    ensures work { IsAnswer result → ServesAfter most traced (T.files tree.old) (gained (P.refusals patterns.old) (P.refusals patterns.new)) (S.left input.old) (K.written out.old) (K.written out.new) result steps.old steps.new }
+    ensures commands_written { IsCutShort result → PrintsFirst (setting most traced (T.files tree.old) (gained (P.refusals patterns.old) (P.refusals patterns.new))) (S.left input.old) (K.written out.old) (K.written out.new) }
+    ensures front_written { result ≡ Status.OutputFault → PrintsFront (setting most traced (T.files tree.old) (gained (P.refusals patterns.old) (P.refusals patterns.new))) (S.left input.old) (K.written out.old) (K.written out.new) }
     ensures files_kept { KeepsFiles (T.files tree.old) (T.files tree.new) }
     ensures tree_kept { IsAnswer result → T.faults tree.new ≡ T.faults tree.old }
     ensures input_kept { IsAnswer result → S.faults input.new ≡ S.faults input.old }
@@ -79,7 +83,7 @@ pub fn run_session<T: Tree, S: Source, K: Sink, P: Patterns, L: Ledger>(
     ensures patterns_grow { Gains (P.refusals patterns.old) (P.refusals patterns.new) }
 {
     let languages = Languages;
-    let mut session = Session::new(alloc, &languages, most);
+    let mut session = Session::new(alloc, &languages, most, traced);
     serve(alloc, &mut session, tree, input, out, patterns, steps)
 }
 
@@ -93,6 +97,7 @@ pub fn run_drill<T: Tree, K: Sink, P: Patterns, L: Ledger>(
     steps: &mut Steps<L>,
 ) -> Status
     ensures ends { IsAnswer result → Printed (Drills count (gained (P.refusals patterns.old) (P.refusals patterns.new))) (K.written out.old) (K.written out.new) result }
+    ensures work { IsAnswer result → DrillsAfter count (gained (P.refusals patterns.old) (P.refusals patterns.new)) (K.written out.old) (K.written out.new) result steps.old steps.new }
     ensures files_kept { KeepsFiles (T.files tree.old) (T.files tree.new) }
     ensures tree_kept { IsAnswer result → T.faults tree.new ≡ T.faults tree.old }
     ensures output_kept { IsAnswer result → K.faults out.new ≡ K.faults out.old }
@@ -106,6 +111,6 @@ pub fn run_drill<T: Tree, K: Sink, P: Patterns, L: Ledger>(
     ensures patterns_grow { Gains (P.refusals patterns.old) (P.refusals patterns.new) }
 {
     let languages = Languages;
-    let mut session = Session::new(alloc, &languages, MOST_FINDINGS);
+    let mut session = Session::new(alloc, &languages, MOST_FINDINGS, false);
     drill(alloc, count, &mut session, tree, out, patterns, steps)
 }

@@ -1,5 +1,5 @@
 -- What is seen of one file.
-use Rattle.std.proofs.Common.{◌≡◌, ◌↔◌, inl, inr, ℕ, List, [], ◌∷◌, refl, sym, ◌∙◌, subst}
+use Rattle.std.proofs.Common.{◌≡◌, ◌↔◌, inl, inr, ℕ, Bool, List, [], ◌∷◌, refl, sym, ◌∙◌, subst}
 use Rattle.std.specs.Prelude.{Result, Ok, Err, IfOk}
 use Rattle.node_tree.specs.declared.node.Node.{Node}
 use Rattle.node_tree.specs.declared.view.FileView.{FileView}
@@ -122,7 +122,7 @@ bare_plain (NoTree b) v h = (b, refl, h)
 bare_plain (Read b) v h = absurd h
 
 module _ (grammars : Grammars) (rules : List Rule) (path bytes : List ℕ) (v w : FileView) (same : IsSameFile v w) (rs : List Reported)
-    (found : IsExactly reported_cmp (IsShownIn grammars.leaf_of grammars.comments rules path v.lang v.bytes v.tree) rs) (mid new : List Notice) (noted : Adds mid new (IsNotedIn grammars.leaf_of rules path v.lang v.bytes v.tree))
+    (found : IsExactly reported_cmp (IsShownIn grammars.leaf_of grammars.comments grammars.traced rules path v.lang v.bytes v.tree) rs) (mid new : List Notice) (noted : Adds mid new (IsNotedIn grammars.leaf_of rules path v.lang v.bytes v.tree))
     (s : SeenFile) (file_is : file_of s ≡ (path, bytes)) (results : s.results ≡ rs) (notices : (n : Notice) → Among s.notices n ↔ Among new n) where
   pub read_seen : mid ≡ [] → IsOpenedSo grammars.spells (path, bytes) (Read v) → s.opened ≡ Read w → IsSeen grammars rules s
   read_seen start so opened =
@@ -155,12 +155,12 @@ module _ (grammars : Grammars) (rules : List Rule) (path bytes : List ℕ) (v w 
 -- ---- by names that serve the rules
 
 module _ (knows : Knows) (rules : List Rule) (path : List ℕ) (v w : FileView) (same : IsSameFile v w) (serves : ServesRules knows v.lang v.tree w.known rules) where
-  pub shown_by : (comments : Comments) (rs : List Reported) → IsExactly reported_cmp (IsShownIn (named_leaf w.known) comments rules path w.lang w.bytes w.tree) rs → IsExactly reported_cmp (IsShownIn (own_leaf knows) comments rules path v.lang v.bytes v.tree) rs
-  shown_by comments rs h =
-      let L : Lang → Type 0 = λ l. IsExactly reported_cmp (IsShownIn (named_leaf w.known) comments rules path l w.bytes w.tree) rs in
-      let B : List ℕ → Type 0 = λ b. IsExactly reported_cmp (IsShownIn (named_leaf w.known) comments rules path v.lang b w.tree) rs in
-      let T : Node → Type 0 = λ t. IsExactly reported_cmp (IsShownIn (named_leaf w.known) comments rules path v.lang v.bytes t) rs in
-      shown_served knows v.lang v.tree w.known rules serves comments path v.bytes rs (subst T same.tree (subst B same.bytes (subst L same.lang h)))
+  pub shown_by : (comments : Comments) (traced : Bool) (rs : List Reported) → IsExactly reported_cmp (IsShownIn (named_leaf w.known) comments traced rules path w.lang w.bytes w.tree) rs → IsExactly reported_cmp (IsShownIn (own_leaf knows) comments traced rules path v.lang v.bytes v.tree) rs
+  shown_by comments traced rs h =
+      let L : Lang → Type 0 = λ l. IsExactly reported_cmp (IsShownIn (named_leaf w.known) comments traced rules path l w.bytes w.tree) rs in
+      let B : List ℕ → Type 0 = λ b. IsExactly reported_cmp (IsShownIn (named_leaf w.known) comments traced rules path v.lang b w.tree) rs in
+      let T : Node → Type 0 = λ t. IsExactly reported_cmp (IsShownIn (named_leaf w.known) comments traced rules path v.lang v.bytes t) rs in
+      shown_served knows v.lang v.tree w.known rules serves comments traced path v.bytes rs (subst T same.tree (subst B same.bytes (subst L same.lang h)))
 
   pub noted_by : (old new : List Notice) → Adds old new (IsNotedIn (named_leaf w.known) rules path w.lang w.bytes w.tree) → Adds old new (IsNotedIn (own_leaf knows) rules path v.lang v.bytes v.tree)
   noted_by old new h =
@@ -182,7 +182,7 @@ module _ {E : Type 0} (grammars : Grammars) (rules : List Rule) (path bytes : Li
       if_four (λ s. file_of s ≡ (path, bytes)) (λ s. s.opened ≡ NotUtf8) (λ s. s.results ≡ []) (λ s. (n : Notice) → Among s.notices n ↔ Among (notice path [] kinds.NotUtf8 [] ∷ []) n) (IsSeen grammars rules) r
       (λ s f o e n. odd_seen grammars rules path bytes s f e o so n) file_is opened results notices
 
-  module _ (v w : FileView) (same : IsSameFile v w) (rs : List Reported) (found : IsExactly reported_cmp (IsShownIn grammars.leaf_of grammars.comments rules path v.lang v.bytes v.tree) rs)
+  module _ (v w : FileView) (same : IsSameFile v w) (rs : List Reported) (found : IsExactly reported_cmp (IsShownIn grammars.leaf_of grammars.comments grammars.traced rules path v.lang v.bytes v.tree) rs)
       (mid new : List Notice) (noted : Adds mid new (IsNotedIn grammars.leaf_of rules path v.lang v.bytes v.tree)) (results : IfOk r (λ s. s.results ≡ rs)) (notices : IfOk r (λ s. (n : Notice) → Among s.notices n ↔ Among new n)) where
     pub if_read : mid ≡ [] → IfOk r (λ s. s.opened ≡ Read w) → IsOpenedSo grammars.spells (path, bytes) (Read v) → IfOk r (IsSeen grammars rules)
     if_read start opened so =

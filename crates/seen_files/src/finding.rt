@@ -74,11 +74,12 @@ pub fn find<R: TreeReader + CommentReader, L: Ledger>(
     bytes: Rc<Bytes>,
     opened: Opened,
     running: &[Runner<'_>],
+    traced: bool,
     kept: &mut KeptLeaves,
     steps: &mut Steps<L>,
 ) -> Result<SeenFile, Memory>
     ensures file { IfOk result (λ s. file_of s ≡ (path.now, bytes.value)) }
-    ensures seen { IsOpenedSo (R.spells reader.now) (path.now, bytes.value) opened → AreApart running.now → IfOk result (IsSeen (grammars_of (R.spells reader.now) (R.knows reader.now) (R.comments reader.now)) running.now) }
+    ensures seen { IsOpenedSo (R.spells reader.now) (path.now, bytes.value) opened → AreApart running.now → IfOk result (IsSeen (grammars_of (R.spells reader.now) (R.knows reader.now) (R.comments reader.now) traced) running.now) }
     ensures kept { IfOk result (λ s. Meets (IsNeededAt running.now s) (map_of kept.old) steps.old (map_of kept.new) steps.new) }
 {
     match opened {
@@ -93,6 +94,7 @@ pub fn find<R: TreeReader + CommentReader, L: Ledger>(
                 path,
                 view,
                 running,
+                traced,
                 kept,
                 steps,
                 &mut notices,
@@ -114,6 +116,7 @@ pub fn find<R: TreeReader + CommentReader, L: Ledger>(
                 path,
                 view,
                 running,
+                traced,
                 kept,
                 steps,
                 &mut notices,
@@ -131,16 +134,19 @@ pub fn find_anew<R: TreeReader + CommentReader, L: Ledger>(
     path: &str,
     bytes: &Rc<Bytes>,
     running: &[Runner<'_>],
+    traced: bool,
     kept: &mut KeptLeaves,
     steps: &mut Steps<L>,
 ) -> Result<SeenFile, Memory>
     ensures file { IfOk result (λ s. file_of s ≡ (path.now, bytes.now.value)) }
-    ensures seen { AreApart running.now → IfOk result (IsSeen (grammars_of (R.spells reader.now) (R.knows reader.now) (R.comments reader.now)) running.now) }
+    ensures seen { AreApart running.now → IfOk result (IsSeen (grammars_of (R.spells reader.now) (R.knows reader.now) (R.comments reader.now) traced) running.now) }
     ensures kept { IfOk result (λ s. Meets (IsNeededAt running.now s) (map_of kept.old) (steps.old + 1) (map_of kept.new) steps.new) }
 {
     let lang = lang_of(path).unwrap_or(Lang::Regex);
     let own = Rc::as_ref(bytes).copy()?;
     let opened = open_file(alloc, reader, lang, own, steps)?;
     let shared = bytes.clone()?;
-    find(alloc, reader, path, shared, opened, running, kept, steps)
+    find(
+        alloc, reader, path, shared, opened, running, traced, kept, steps,
+    )
 }

@@ -31,11 +31,12 @@ fn look<R: CommentReader, L: Ledger>(
     path: &str,
     view: &FileView,
     running: &[Runner<'_>],
+    traced: bool,
     kept: &mut KeptLeaves,
     steps: &mut Steps<L>,
     notices: &mut Vec<Noted>,
 ) -> Result<List<Reported>, Memory>
-    ensures results { AreApart running.now → IfOk result (IsExactly reported_cmp (IsShownIn (named_leaf view.now.known) (R.comments reader.now) running.now path.now view.now.lang view.now.bytes view.now.tree)) }
+    ensures results { AreApart running.now → IfOk result (IsExactly reported_cmp (IsShownIn (named_leaf view.now.known) (R.comments reader.now) traced running.now path.now view.now.lang view.now.bytes view.now.tree)) }
     ensures notices { OnOk result (Adds notices.old.items notices.new.items (IsNotedIn (named_leaf view.now.known) running.now path.now view.now.lang view.now.bytes view.now.tree)) }
     ensures kept { OnOk result (Meets (IsNeededIn running.now path.now view.now) (map_of kept.old) steps.old (map_of kept.new) steps.new) }
 {
@@ -49,6 +50,7 @@ fn look<R: CommentReader, L: Ledger>(
         view,
         &mut search,
         running,
+        traced,
         steps,
         notices,
     )?;
@@ -64,16 +66,19 @@ pub fn look_with_names<R: TreeReader + CommentReader, L: Ledger>(
     path: &str,
     view: FileView,
     running: &[Runner<'_>],
+    traced: bool,
     kept: &mut KeptLeaves,
     steps: &mut Steps<L>,
     notices: &mut Vec<Noted>,
 ) -> Result<(FileView, List<Reported>), Memory>
     ensures same { IfOk result (λ found. IsSameFile view found.0) }
-    ensures results { AreApart running.now → IfOk result (λ found. IsExactly reported_cmp (IsShownIn (own_leaf (R.knows reader.now)) (R.comments reader.now) running.now path.now view.lang view.bytes view.tree) found.1) }
+    ensures results { AreApart running.now → IfOk result (λ found. IsExactly reported_cmp (IsShownIn (own_leaf (R.knows reader.now)) (R.comments reader.now) traced running.now path.now view.lang view.bytes view.tree) found.1) }
     ensures notices { OnOk result (Adds notices.old.items notices.new.items (IsNotedIn (own_leaf (R.knows reader.now)) running.now path.now view.lang view.bytes view.tree)) }
     ensures kept { IfOk result (λ found. Meets (IsNeededIn running.now path.now found.0) (map_of kept.old) steps.old (map_of kept.new) steps.new) }
 {
     let named = with_needed_names(alloc, reader, view, running)?;
-    let results = look(alloc, reader, path, &named, running, kept, steps, notices)?;
+    let results = look(
+        alloc, reader, path, &named, running, traced, kept, steps, notices,
+    )?;
     Ok((named, results))
 }

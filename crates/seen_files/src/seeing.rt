@@ -30,11 +30,12 @@ fn see_all<R: TreeReader + CommentReader, L: Ledger>(
     mut left: List<SeenFile>,
     running: &[Runner<'_>],
     same_rules: bool,
+    traced: bool,
     kept: &mut KeptLeaves,
     steps: &mut Steps<L>,
 ) -> Result<List<SeenFile>, Memory>
-    ensures walked { AfterSeen (grammars_of (R.spells reader.now) (R.knows reader.now) (R.comments reader.now)) same_rules running.now (turned left kept.old) (λ before old.
-        IfOk result (HasWalked (grammars_of (R.spells reader.now) (R.knows reader.now) (R.comments reader.now)) running.now old files.now (map_of kept.old) steps.old (map_of kept.new) steps.new)) }
+    ensures walked { AfterSeen (grammars_of (R.spells reader.now) (R.knows reader.now) (R.comments reader.now) traced) same_rules running.now (turned left kept.old) (λ before old.
+        IfOk result (HasWalked (grammars_of (R.spells reader.now) (R.knows reader.now) (R.comments reader.now) traced) running.now old files.now (map_of kept.old) steps.old (map_of kept.new) steps.new)) }
     ensures ordered { OnOk result (IsAscending file_cmp files.now) }
 {
     let mut seen = List::new(alloc);
@@ -42,7 +43,7 @@ fn see_all<R: TreeReader + CommentReader, L: Ledger>(
     for (path, bytes) in entries.as_slice() {
         let taken = take_at(&mut left, path)?;
         let file = see_file(
-            alloc, reader, path, bytes, taken, running, same_rules, kept, steps,
+            alloc, reader, path, bytes, taken, running, same_rules, traced, kept, steps,
         )?;
         seen.push(file)?;
     }
@@ -76,7 +77,7 @@ impl SeenFiles {
     }
 
     /// Sees the files that there are now by the rules that run. `same_rules` says that they are those by which the files were seen
-    /// before.
+    /// before. Findings have their traces if `traced` says so, as they had then.
     ///
     /// A file with the bytes with which it was seen isn't opened again, and what the same rules found in it stays. Else each
     /// pattern that the rules ask for in it is matched in those of its pieces for which it wasn't needed before. What was needed
@@ -88,18 +89,21 @@ impl SeenFiles {
         files: &FileMap,
         running: &[Runner<'_>],
         same_rules: bool,
+        traced: bool,
         steps: &mut Steps<L>,
     ) -> Result<(), Memory>
-        ensures seen { AfterSeen (grammars_of (R.spells reader.now) (R.knows reader.now) (R.comments reader.now)) same_rules running.now self.old (λ before old.
-            OnOk result (HasSeen (grammars_of (R.spells reader.now) (R.knows reader.now) (R.comments reader.now)) running.now files.now self.new)) }
-        ensures spent { AfterSeen (grammars_of (R.spells reader.now) (R.knows reader.now) (R.comments reader.now)) same_rules running.now self.old (λ before old.
+        ensures seen { AfterSeen (grammars_of (R.spells reader.now) (R.knows reader.now) (R.comments reader.now) traced) same_rules running.now self.old (λ before old.
+            OnOk result (HasSeen (grammars_of (R.spells reader.now) (R.knows reader.now) (R.comments reader.now) traced) running.now files.now self.new)) }
+        ensures spent { AfterSeen (grammars_of (R.spells reader.now) (R.knows reader.now) (R.comments reader.now) traced) same_rules running.now self.old (λ before old.
             OnOk result (Spends old files.now (IsNeeded before self.old.files) (IsNeeded running.now self.new.files) steps.old steps.new)) }
         ensures forgotten { OnErr result (HasSeenNone self.new) }
     {
         let mut left = mem::replace(&mut self.files, List::new(alloc));
         left.reverse();
         let kept = &mut self.kept;
-        match see_all(alloc, reader, files, left, running, same_rules, kept, steps) {
+        match see_all(
+            alloc, reader, files, left, running, same_rules, traced, kept, steps,
+        ) {
             Ok(seen) => {
                 self.files = seen;
                 self.kept.turn();

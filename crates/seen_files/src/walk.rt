@@ -57,27 +57,28 @@ fn see_again<R: TreeReader + CommentReader, L: Ledger>(
     was: SeenFile,
     running: &[Runner<'_>],
     same_rules: bool,
+    traced: bool,
     kept: &mut KeptLeaves,
     steps: &mut Steps<L>,
 ) -> Result<SeenFile, Memory>
     requires { was.path ≡ path.now }
     ensures file { IfOk result (λ s. file_of s ≡ (path.now, bytes.now.value)) }
     ensures seen { (before : list a_rule) → (same_rules ≡ true → running.now ≡ before) → AreApart running.now
-        → IsSeen (grammars_of (R.spells reader.now) (R.knows reader.now) (R.comments reader.now)) before was
-        → IfOk result (IsSeen (grammars_of (R.spells reader.now) (R.knows reader.now) (R.comments reader.now)) running.now) }
+        → IsSeen (grammars_of (R.spells reader.now) (R.knows reader.now) (R.comments reader.now) traced) before was
+        → IfOk result (IsSeen (grammars_of (R.spells reader.now) (R.knows reader.now) (R.comments reader.now) traced) running.now) }
     ensures kept { (before : list a_rule) → (same_rules ≡ true → running.now ≡ before)
         → ((x : a_pair) → ((path.now ≡ x.path) × IsKept (map_of kept.old) x) ↔ IsNeededAt before was x)
         → IfOk result (λ s. Meets (IsNeededAt running.now s) (map_of kept.old) (steps.old + openings (Some was) bytes.now.value) (map_of kept.new) steps.new) }
 {
     if !has_bytes(&was, bytes) {
-        return find_anew(alloc, reader, path, bytes, running, kept, steps);
+        return find_anew(alloc, reader, path, bytes, running, traced, kept, steps);
     }
     if same_rules {
         kept.keep_path(path);
         return Ok(was);
     }
     find(
-        alloc, reader, path, was.bytes, was.opened, running, kept, steps,
+        alloc, reader, path, was.bytes, was.opened, running, traced, kept, steps,
     )
 }
 
@@ -90,22 +91,23 @@ pub fn see_file<R: TreeReader + CommentReader, L: Ledger>(
     was: Option<SeenFile>,
     running: &[Runner<'_>],
     same_rules: bool,
+    traced: bool,
     kept: &mut KeptLeaves,
     steps: &mut Steps<L>,
 ) -> Result<SeenFile, Memory>
     requires { IfSome was (λ s. s.path ≡ path.now) }
     ensures file { IfOk result (λ s. file_of s ≡ (path.now, bytes.now.value)) }
     ensures seen { (before : list a_rule) → (same_rules ≡ true → running.now ≡ before) → AreApart running.now
-        → IfSome was (IsSeen (grammars_of (R.spells reader.now) (R.knows reader.now) (R.comments reader.now)) before)
-        → IfOk result (IsSeen (grammars_of (R.spells reader.now) (R.knows reader.now) (R.comments reader.now)) running.now) }
+        → IfSome was (IsSeen (grammars_of (R.spells reader.now) (R.knows reader.now) (R.comments reader.now) traced) before)
+        → IfOk result (IsSeen (grammars_of (R.spells reader.now) (R.knows reader.now) (R.comments reader.now) traced) running.now) }
     ensures kept { (before : list a_rule) → (same_rules ≡ true → running.now ≡ before)
         → IfSome was (λ s. (x : a_pair) → ((path.now ≡ x.path) × IsKept (map_of kept.old) x) ↔ IsNeededAt before s x)
         → IfOk result (λ s. Meets (IsNeededAt running.now s) (map_of kept.old) (steps.old + openings was bytes.now.value) (map_of kept.new) steps.new) }
 {
     match was {
-        None => find_anew(alloc, reader, path, bytes, running, kept, steps),
+        None => find_anew(alloc, reader, path, bytes, running, traced, kept, steps),
         Some(was) => see_again(
-            alloc, reader, path, bytes, was, running, same_rules, kept, steps,
+            alloc, reader, path, bytes, was, running, same_rules, traced, kept, steps,
         ),
     }
 }

@@ -1,5 +1,5 @@
 -- What was found in files that were seen is added to a scan.
-use Rattle.std.proofs.Common.{◌≡◌, inl, inr, ◌↔◌, ℕ, zero, suc, ◌+◌, ◌<◌, ◌≤◌, List, [], ◌∷◌, ◌++◌, length, take, drop, map, get_or, refl, sym, ap, ◌∙◌, subst, arith}
+use Rattle.std.proofs.Common.{◌≡◌, inl, inr, ◌↔◌, Bool, ℕ, zero, suc, ◌+◌, ◌<◌, ◌≤◌, List, [], ◌∷◌, ◌++◌, length, take, drop, map, get_or, refl, sym, ap, ◌∙◌, subst, arith}
 use Rattle.std.proofs.lemmas.List.{take_all, map-append, take-append-drop}
 use Rattle.report_form.specs.declared.notice.Notice.{Notice}
 use Rattle.report_form.specs.declared.report.Reported.{Reported}
@@ -25,6 +25,17 @@ among_items [] i d lt = absurd (omega (arith, lt))
 among_items (x ∷ xs) zero d lt = inl refl
 among_items (x ∷ xs) (suc i) d lt = inr (among_items xs i d (omega (arith, lt)))
 
+-- what reads the files of a scan, and whether findings have their traces
+abbrev pub manner_of : {R : Type 0} → Scanner R → R × Bool
+manner_of s = (s.reader.now, s.traced)
+
+-- both are as they were
+pub same_manner : {R : Type 0} (now begun : Scanner R) → now.reader.now ≡ begun.reader.now → now.traced ≡ begun.traced → manner_of now ≡ manner_of begun
+same_manner {R} now begun reader traced =
+    let F : R → R × Bool = λ r. (r, now.traced) in
+    let G : Bool → R × Bool = λ b. (begun.reader.now, b) in
+    ap F reader ∙ ap G traced
+
 -- Whichever rules the scan is by and whatever files were seen by them, the scan has looked at these.
 abbrev pub HasAdded : {R : Type 0} → Grammars → SeenFiles → Scanner R → List File → Scanner R → Type 0
 HasAdded grammars seen begun done now =
@@ -34,30 +45,30 @@ pub added_none : {R : Type 0} (grammars : Grammars) (seen : SeenFiles) (begun : 
 added_none grammars seen begun refused rules most files has sees = has
 
 -- one more file
-module _ {R : Type 0} (grammars : R → Grammars) (seen : SeenFiles) (begun now next : Scanner R) (still : now.reader.now ≡ begun.reader.now)
+module _ {R : Type 0} (grammars : R × Bool → Grammars) (seen : SeenFiles) (begun now next : Scanner R) (still : manner_of now ≡ manner_of begun)
     (items : List SeenFile) (are : items ≡ seen.files) (i : ℕ) (x d : SeenFile) (lt : i < length items) (is : x ≡ get_or items i d)
     (results : List Reported) (notices : List Notice) (results_are : results ≡ x.results) (notices_are : notices ≡ x.notices)
-    (adds : (file : File) → IsExactly reported_cmp (IsResultIn (grammars now.reader.now) now.running.items file) results → ((n : Notice) → Among notices n ↔ IsNoticeIn (grammars now.reader.now) now.running.items file n) → Scans (grammars now.reader.now) (file ∷ []) now next) where
-  -- by the reader and the rules with which the scan began
-  module _ (rules : List Rule) (rules_are : now.running.items ≡ rules) (s : IsSeen (grammars begun.reader.now) rules x) where
-    own_results : IsExactly reported_cmp (IsResultIn (grammars now.reader.now) now.running.items (file_of x)) results
+    (adds : (file : File) → IsExactly reported_cmp (IsResultIn (grammars (manner_of now)) now.running.items file) results → ((n : Notice) → Among notices n ↔ IsNoticeIn (grammars (manner_of now)) now.running.items file n) → Scans (grammars (manner_of now)) (file ∷ []) now next) where
+  -- in the manner and by the rules with which the scan began
+  module _ (rules : List Rule) (rules_are : now.running.items ≡ rules) (s : IsSeen (grammars (manner_of begun)) rules x) where
+    own_results : IsExactly reported_cmp (IsResultIn (grammars (manner_of now)) now.running.items (file_of x)) results
     own_results =
-        let P : R → List Rule → List Reported → Type 0 = λ r rs l. IsExactly reported_cmp (IsResultIn (grammars r) rs (file_of x)) l in
-        let A : List Reported → Type 0 = λ l. P begun.reader.now rules l in
-        let B : List Rule → Type 0 = λ rs. P begun.reader.now rs results in
-        let C : R → Type 0 = λ r. P r now.running.items results in
+        let P : R × Bool → List Rule → List Reported → Type 0 = λ r rs l. IsExactly reported_cmp (IsResultIn (grammars r) rs (file_of x)) l in
+        let A : List Reported → Type 0 = λ l. P (manner_of begun) rules l in
+        let B : List Rule → Type 0 = λ rs. P (manner_of begun) rs results in
+        let C : R × Bool → Type 0 = λ r. P r now.running.items results in
         subst C (sym still) (subst B (sym rules_are) (subst A (sym results_are) s.results))
 
-    own_notices : (n : Notice) → Among notices n ↔ IsNoticeIn (grammars now.reader.now) now.running.items (file_of x) n
+    own_notices : (n : Notice) → Among notices n ↔ IsNoticeIn (grammars (manner_of now)) now.running.items (file_of x) n
     own_notices =
-        let P : R → List Rule → List Notice → Type 0 = λ r rs l. (n : Notice) → Among l n ↔ IsNoticeIn (grammars r) rs (file_of x) n in
-        let A : List Notice → Type 0 = λ l. P begun.reader.now rules l in
-        let B : List Rule → Type 0 = λ rs. P begun.reader.now rs notices in
-        let C : R → Type 0 = λ r. P r now.running.items notices in
+        let P : R × Bool → List Rule → List Notice → Type 0 = λ r rs l. (n : Notice) → Among l n ↔ IsNoticeIn (grammars r) rs (file_of x) n in
+        let A : List Notice → Type 0 = λ l. P (manner_of begun) rules l in
+        let B : List Rule → Type 0 = λ rs. P (manner_of begun) rs notices in
+        let C : R × Bool → Type 0 = λ r. P r now.running.items notices in
         subst C (sym still) (subst B (sym rules_are) (subst A (sym notices_are) s.notices))
 
-    own_scan : Scans (grammars begun.reader.now) (file_of x ∷ []) now next
-    own_scan = let P : R → Type 0 = λ r. Scans (grammars r) (file_of x ∷ []) now next in subst P still (adds (file_of x) own_results own_notices)
+    own_scan : Scans (grammars (manner_of begun)) (file_of x ∷ []) now next
+    own_scan = let P : R × Bool → Type 0 = λ r. Scans (grammars r) (file_of x ∷ []) now next in subst P still (adds (file_of x) own_results own_notices)
 
   there : Among seen.files x
   there = let P : List SeenFile → Type 0 = λ l. Among l x in subst P are (let Q : SeenFile → Type 0 = λ y. Among items y in subst Q (sym is) (among_items items i d lt))
@@ -72,11 +83,11 @@ module _ {R : Type 0} (grammars : R → Grammars) (seen : SeenFiles) (begun now 
       sym files_are ∙ ap (map file_of) (sym are) ∙ ap (map file_of) (sym (take-append-drop (i + 1) items)) ∙ map-append file_of (take (i + 1) items) (drop (i + 1) items) in
       subst P (sym joined) (ascends_front file_cmp (map file_of (take (i + 1) items)) (map file_of (drop (i + 1) items)) (subst P whole up))
 
-  pub added_more : HasAdded (grammars begun.reader.now) seen begun (map file_of (take i items)) now → HasAdded (grammars begun.reader.now) seen begun (map file_of (take (i + 1) items)) next
+  pub added_more : HasAdded (grammars (manner_of begun)) seen begun (map file_of (take i items)) now → HasAdded (grammars (manner_of begun)) seen begun (map file_of (take (i + 1) items)) next
   added_more far refused rules most files has sees =
       let done = map file_of (take i items) in
       let so_far = far refused rules most files has sees in
-      let P : List File → Type 0 = λ fs. HasScanned (grammars begun.reader.now) refused rules most fs next in
+      let P : List File → Type 0 = λ fs. HasScanned (grammars (manner_of begun)) refused rules most fs next in
       subst P joined (own_scan (running refused rules) so_far.rules (sees.all x there) refused rules most done (in_order files sees.files_are sees.ordered) so_far)
 
 -- all files
@@ -86,7 +97,7 @@ added_all grammars seen begun now items are i end far refused rules most files h
     let P : List File → Type 0 = λ fs. HasScanned grammars refused rules most fs now in
     subst P (ap (map file_of) (take_all i items end ∙ are) ∙ sees.files_are) (far refused rules most files has sees)
 
--- what is said after a scan by its own reader is said by that with which it began
-pub after_all : {R : Type 0} (grammars : R → Grammars) (begun scanned : Scanner R) → scanned.reader.now ≡ begun.reader.now → (refused : List (List ℕ)) (rules : List RuleFile) (most : ℕ) (files : List File) → HasScanned (grammars begun.reader.now) refused rules most files scanned
-    → (P : Grammars → List (List ℕ) → List RuleFile → ℕ → List File → Type 0) → AfterScan (grammars scanned.reader.now) scanned P → P (grammars begun.reader.now) refused rules most files
-after_all {R} grammars begun scanned still refused rules most files has P h = let Q : R → Type 0 = λ r. AfterScan (grammars r) scanned P in subst Q still h refused rules most files has
+-- what is said after a scan in its own manner is said in that in which it began
+pub after_all : {R : Type 0} (grammars : R × Bool → Grammars) (begun scanned : Scanner R) → manner_of scanned ≡ manner_of begun → (refused : List (List ℕ)) (rules : List RuleFile) (most : ℕ) (files : List File) → HasScanned (grammars (manner_of begun)) refused rules most files scanned
+    → (P : Grammars → List (List ℕ) → List RuleFile → ℕ → List File → Type 0) → AfterScan (grammars (manner_of scanned)) scanned P → P (grammars (manner_of begun)) refused rules most files
+after_all {R} grammars begun scanned still refused rules most files has P h = let Q : R × Bool → Type 0 = λ r. AfterScan (grammars r) scanned P in subst Q still h refused rules most files has

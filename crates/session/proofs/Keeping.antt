@@ -67,11 +67,11 @@ first_undecided old new gained g undecided text a =
     let P : List (List ℕ) → Type 0 = λ ts. Among ts text in
     undecided text (subst P (sym g.parts) (among_left g.first g.rest text a))
 
-module _ {R : Type 0} (grammars : R → Grammars) (writes : R → Writes) (used reader : R) (same : used ≡ reader)
+module _ {R : Type 0} (grammars : R → Bool → Grammars) (traced : Bool) (writes : R → Writes) (used reader : R) (same : used ≡ reader)
     (rules : Files) (contents : List RuleFile) (are : AreRuleFiles (writes reader) rules contents) (one : (others : List RuleFile) → AreRuleFiles (writes reader) rules others → others ≡ contents)
     (old new : Decisions) (gained : List (List ℕ)) (grows : Grows old new gained) (undecided : AreUndecided old gained) (decided : AreDecided new (texts_of (stated contents)))
-    (same_rules : Bool) (was : SeenFiles) (up : IsUpToDate (grammars reader) (writes reader) rules old was same_rules)
-    (most : ℕ) (scanner : Scanner R) (begun : HasScanned (grammars used) new.refused contents most [] scanner) (running : List Rule) (running_is : running ≡ scanner.running.items) where
+    (same_rules : Bool) (was : SeenFiles) (up : IsUpToDate (grammars reader traced) (writes reader) rules old was same_rules)
+    (most : ℕ) (scanner : Scanner R) (begun : HasScanned (grammars used traced) new.refused contents most [] scanner) (running : List Rule) (running_is : running ≡ scanner.running.items) where
   rules_are : running ≡ rules_of new.refused contents
   rules_are = running_is ∙ begun.rules
 
@@ -87,25 +87,25 @@ module _ {R : Type 0} (grammars : R → Grammars) (writes : R → Writes) (used 
   pub all_decided : AreAllDecided (writes reader) rules new
   all_decided others text they among = let P : List RuleFile → Type 0 = λ cs. Among (texts_of (stated cs)) text in decided text (subst P (one others they) among)
 
-  module _ (files : Files) (seen : SeenFiles) (sees : AfterSeen (grammars used) same_rules running was (λ before files_before. HasSeen (grammars used) running files seen)) where
-    has_seen : HasSeen (grammars reader) (rules_of new.refused contents) files seen
+  module _ (files : Files) (seen : SeenFiles) (sees : AfterSeen (grammars used traced) same_rules running was (λ before files_before. HasSeen (grammars used traced) running files seen)) where
+    has_seen : HasSeen (grammars reader traced) (rules_of new.refused contents) files seen
     has_seen =
-        let F : R → Type 0 = λ r. AfterSeen (grammars r) same_rules running was (λ before files_before. HasSeen (grammars r) running files seen) in
-        let P : List Rule → Type 0 = λ rs. HasSeen (grammars reader) rs files seen in
+        let F : R → Type 0 = λ r. AfterSeen (grammars r traced) same_rules running was (λ before files_before. HasSeen (grammars r traced) running files seen) in
+        let P : List Rule → Type 0 = λ rs. HasSeen (grammars reader traced) rs files seen in
         subst P rules_are (subst F same sees up.rules_before up.files_before up.has_seen still apart)
 
-    pub up_to_date : (seen' : SeenFiles) → seen' ≡ seen → IsUpToDate (grammars reader) (writes reader) rules new seen' true
+    pub up_to_date : (seen' : SeenFiles) → seen' ≡ seen → IsUpToDate (grammars reader traced) (writes reader) rules new seen' true
     up_to_date seen' e = record {
       rules_before = rules_of new.refused contents;
       files_before = files;
-      has_seen = let F : SeenFiles → Type 0 = λ s. HasSeen (grammars reader) (rules_of new.refused contents) files s in subst F (sym e) has_seen;
+      has_seen = let F : SeenFiles → Type 0 = λ s. HasSeen (grammars reader traced) (rules_of new.refused contents) files s in subst F (sym e) has_seen;
       same = λ t others they. (ap (rules_of new.refused) (one others they), let P : List RuleFile → Type 0 = λ cs. AreDecided new (texts_of (stated cs)) in subst P (sym (one others they)) decided);
     }
 
-    pub works : (before after : ℕ) → AfterSeen (grammars used) same_rules running was (λ rules_before files_before. Spends files_before files (IsNeeded rules_before was.files) (IsNeeded running seen.files) before after)
-        → Works (record { grammars = grammars reader; writes = writes reader }) new.refused files rules was seen before after
+    pub works : (before after : ℕ) → AfterSeen (grammars used traced) same_rules running was (λ rules_before files_before. Spends files_before files (IsNeeded rules_before was.files) (IsNeeded running seen.files) before after)
+        → Works (record { grammars = grammars reader traced; writes = writes reader }) new.refused files rules was seen before after
     works before after spent =
-        let F : R → Type 0 = λ r. AfterSeen (grammars r) same_rules running was (λ rules_before files_before. Spends files_before files (IsNeeded rules_before was.files) (IsNeeded running seen.files) before after) in
+        let F : R → Type 0 = λ r. AfterSeen (grammars r traced) same_rules running was (λ rules_before files_before. Spends files_before files (IsNeeded rules_before was.files) (IsNeeded running seen.files) before after) in
         let P : List Rule → Type 0 = λ rs. Spends up.files_before files (IsNeeded up.rules_before was.files) (IsNeeded rs seen.files) before after in
         record {
           contents = contents;
@@ -117,12 +117,14 @@ module _ {R : Type 0} (grammars : R → Grammars) (writes : R → Writes) (used 
           spends = subst P rules_are (subst F same spent up.rules_before up.files_before up.has_seen still apart);
         }
 
-    -- whatever is said of the report by the reader of the scan is said by that of the rules
-    pub answers : (r : Result Report ScanFault) → scanner.reader.now ≡ used
-        → ((refused : List (List ℕ)) (cs : List RuleFile) (n : ℕ) (fs : List File) → HasScanned (grammars scanner.reader.now) refused cs n [] scanner → HasSeen (grammars scanner.reader.now) (rules_of refused cs) fs seen → TellsReport (grammars scanner.reader.now) refused cs n fs r)
-        → (others : List RuleFile) → AreRuleFiles (writes reader) rules others → TellsReport (grammars reader) new.refused others most files r
-    answers r its_own told others they =
-        let F : R → Type 0 = λ x. (refused : List (List ℕ)) (cs : List RuleFile) (n : ℕ) (fs : List File) → HasScanned (grammars x) refused cs n [] scanner → HasSeen (grammars x) (rules_of refused cs) fs seen → TellsReport (grammars x) refused cs n fs r in
-        let H : R → Type 0 = λ x. HasScanned (grammars x) new.refused contents most [] scanner in
-        let P : List RuleFile → Type 0 = λ cs. TellsReport (grammars reader) new.refused cs most files r in
-        subst P (sym (one others they)) (subst F (its_own ∙ same) told new.refused contents most files (subst H same begun) has_seen)
+    -- whatever is said of the report by the scan's reader and its flag is said by those of the rules
+    pub answers : (r : Result Report ScanFault) → scanner.reader.now ≡ used → scanner.traced ≡ traced
+        → ((refused : List (List ℕ)) (cs : List RuleFile) (n : ℕ) (fs : List File) → HasScanned (grammars scanner.reader.now scanner.traced) refused cs n [] scanner → HasSeen (grammars scanner.reader.now scanner.traced) (rules_of refused cs) fs seen → TellsReport (grammars scanner.reader.now scanner.traced) refused cs n fs r)
+        → (others : List RuleFile) → AreRuleFiles (writes reader) rules others → TellsReport (grammars reader traced) new.refused others most files r
+    answers r its_own its_flag told others they =
+        let T : R → Bool → Type 0 = λ x b. (refused : List (List ℕ)) (cs : List RuleFile) (n : ℕ) (fs : List File) → HasScanned (grammars x b) refused cs n [] scanner → HasSeen (grammars x b) (rules_of refused cs) fs seen → TellsReport (grammars x b) refused cs n fs r in
+        let F : R → Type 0 = λ x. T x traced in
+        let G : Bool → Type 0 = λ b. T scanner.reader.now b in
+        let H : R → Type 0 = λ x. HasScanned (grammars x traced) new.refused contents most [] scanner in
+        let P : List RuleFile → Type 0 = λ cs. TellsReport (grammars reader traced) new.refused cs most files r in
+        subst P (sym (one others they)) (subst F (its_own ∙ same) (subst G its_flag told) new.refused contents most files (subst H same begun) has_seen)

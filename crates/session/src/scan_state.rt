@@ -32,11 +32,12 @@ use std::alloc::Global;
 use std::marker::Model;
 use std::sync::ledger::Ledger;
 
-/// The rule files of a session, which texts of regular expressions were decided, and what the last scan saw. Contracts see these
-/// three.
+/// The rule files of a session, whether findings have their traces, which texts of regular expressions were decided, and what the
+/// last scan saw. Contracts see these four.
 #[derive(Drop)]
 pub struct ScanState<'r, R: TreeReader + CommentReader + PatternReader> {
     rules: RuleMap<'r, R>,
+    traced: bool,
     decided: DecidedTexts,
     seen: SeenFiles,
     // Whether the rules that run are those by which the files were seen.
@@ -53,21 +54,23 @@ impl<'r, R: TreeReader + CommentReader + PatternReader> Model for ScanState<'r, 
 
     ghost coded = { scanned_code R.code decisions.the_row.coded seens.the_row.coded };
 
-    ghost view = { λ s. record { rules = s.rules; decided = s.decided; seen = s.seen } };
+    ghost view = { λ s. record { rules = s.rules; traced = s.traced; decided = s.decided; seen = s.seen } };
 
-    ghost invariant = { λ s. IsUpToDate (grammars_of (R.spells s.rules.reader) (R.knows s.rules.reader) (R.comments s.rules.reader)) (R.writes s.rules.reader) s.rules.files s.decided s.seen s.same_rules };
+    ghost invariant = { λ s. IsUpToDate (grammars_of (R.spells s.rules.reader) (R.knows s.rules.reader) (R.comments s.rules.reader) s.traced) (R.writes s.rules.reader) s.rules.files s.decided s.seen s.same_rules };
 }
 
 impl<'r, R: TreeReader + CommentReader + PatternReader> ScanState<'r, R> {
-    /// No rules, and nothing was seen. It takes no memory.
-    pub fn new(alloc: Global, reader: &'r R) -> ScanState<'r, R>
+    /// No rules, and nothing was seen. Findings will have their traces if `traced` says so. It takes no memory.
+    pub fn new(alloc: Global, reader: &'r R, traced: bool) -> ScanState<'r, R>
         ensures reader { result.rules.reader ≡ reader.now }
+        ensures traced { result.traced ≡ traced }
         ensures rules { result.rules.files ≡ [] }
         ensures decided { result.decided ≡ record { refused = []; built = [] } }
         ensures seen { HasSeenNone result.seen }
     {
         ScanState {
             rules: RuleMap::new(alloc, reader),
+            traced,
             decided: DecidedTexts::new(alloc),
             seen: SeenFiles::new(alloc),
             same_rules: false,
@@ -77,6 +80,7 @@ impl<'r, R: TreeReader + CommentReader + PatternReader> ScanState<'r, R> {
     /// Reads a rule file and puts it, with all its bytes.
     pub fn put_rules(&mut self, name: &str, bytes: &[u8]) -> Result<(), PutFault>
         ensures reader { self.new.rules.reader ≡ self.old.rules.reader }
+        ensures traced { self.new.traced ≡ self.old.traced }
         ensures put { OnOk result (self.new.rules.files ≡ with_file self.old.rules.files (name.now, bytes.now)) }
         ensures ends { TellsEnd (PutRuleEnds (R.writes self.old.rules.reader) self.old.rules.files (name.now, bytes.now)) result }
         ensures only { (over : option (a_kind × ℕ)) → PutRuleEnds (R.writes self.old.rules.reader) self.old.rules.files (name.now, bytes.now) over → TellsEnd (λ told. told ≡ over) result }
@@ -91,6 +95,7 @@ impl<'r, R: TreeReader + CommentReader + PatternReader> ScanState<'r, R> {
     /// Removes the rule file of that name, and says whether there was one.
     pub fn del_rules(&mut self, name: &str) -> bool
         ensures reader { self.new.rules.reader ≡ self.old.rules.reader }
+        ensures traced { self.new.traced ≡ self.old.traced }
         ensures removed { self.new.rules.files ≡ without_file name.now self.old.rules.files }
         ensures was_there { result ≡ is_some (bytes_at name.now self.old.rules.files) }
         ensures decided { self.new.decided ≡ self.old.decided }
@@ -111,10 +116,11 @@ impl<'r, R: TreeReader + CommentReader + PatternReader> ScanState<'r, R> {
         steps: &mut Steps<L>,
     ) -> Result<Report, ScanFault>
         ensures report { (contents : list a_rule_file) → AreRuleFiles (R.writes self.old.rules.reader) self.old.rules.files contents
-            → TellsReport (grammars_of (R.spells self.old.rules.reader) (R.knows self.old.rules.reader) (R.comments self.old.rules.reader)) self.new.decided.refused contents most files.now result }
-        ensures work { (result ≡ Err faults.Memory → ⊥) → Works (readings_of (R.spells self.old.rules.reader) (R.knows self.old.rules.reader) (R.comments self.old.rules.reader) (R.writes self.old.rules.reader)) self.new.decided.refused files.now self.old.rules.files self.old.seen self.new.seen steps.old steps.new }
+            → TellsReport (grammars_of (R.spells self.old.rules.reader) (R.knows self.old.rules.reader) (R.comments self.old.rules.reader) self.old.traced) self.new.decided.refused contents most files.now result }
+        ensures work { (result ≡ Err faults.Memory → ⊥) → Works (readings_of (R.spells self.old.rules.reader) (R.knows self.old.rules.reader) (R.comments self.old.rules.reader) (R.writes self.old.rules.reader) self.old.traced) self.new.decided.refused files.now self.old.rules.files self.old.seen self.new.seen steps.old steps.new }
         ensures forgotten { result ≡ Err faults.Memory → HasSeenNone self.new.seen ⊎ (self.new.seen ≡ self.old.seen) }
         ensures same_rules { self.new.rules ≡ self.old.rules }
+        ensures traced { self.new.traced ≡ self.old.traced }
         ensures grows { Gains (P.refusals patterns.old) (P.refusals patterns.new) }
         ensures asked { AreAsked (R.writes self.old.rules.reader) self.old.rules.files self.old.decided (gained (P.refusals patterns.old) (P.refusals patterns.new)) }
         ensures kept { Grows self.old.decided self.new.decided (gained (P.refusals patterns.old) (P.refusals patterns.new)) }
@@ -125,9 +131,24 @@ impl<'r, R: TreeReader + CommentReader + PatternReader> ScanState<'r, R> {
         self.same_rules = false;
         let reader = self.rules.reader();
         let rules = self.rules.contents();
-        let scanner = Scanner::of(alloc, reader, rules, most, &mut self.decided, patterns)?;
-        self.seen
-            .see(alloc, reader, files, scanner.running(), same_rules, steps)?;
+        let scanner = Scanner::of(
+            alloc,
+            reader,
+            rules,
+            most,
+            self.traced,
+            &mut self.decided,
+            patterns,
+        )?;
+        self.seen.see(
+            alloc,
+            reader,
+            files,
+            scanner.running(),
+            same_rules,
+            self.traced,
+            steps,
+        )?;
         let report = report_of(alloc, &self.seen, scanner);
         if let Err(ScanFault::Memory) = report {
             self.seen = SeenFiles::new(alloc);

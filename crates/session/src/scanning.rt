@@ -25,10 +25,11 @@ fn add_all<R: TreeReader + CommentReader>(
     scanner: &mut Scanner<'_, R>,
 ) -> Result<(), Memory>
     ensures scanned { (refused : list (list ℕ)) (rules : list a_rule_file) (most : ℕ) (files : list a_file)
-        → HasScanned (grammars_of (R.spells scanner.old.reader.now) (R.knows scanner.old.reader.now) (R.comments scanner.old.reader.now)) refused rules most [] scanner.old
-        → HasSeen (grammars_of (R.spells scanner.old.reader.now) (R.knows scanner.old.reader.now) (R.comments scanner.old.reader.now)) (running refused rules) files seen.now
-        → OnOk result (HasScanned (grammars_of (R.spells scanner.old.reader.now) (R.knows scanner.old.reader.now) (R.comments scanner.old.reader.now)) refused rules most files scanner.new) }
+        → HasScanned (grammars_of (R.spells scanner.old.reader.now) (R.knows scanner.old.reader.now) (R.comments scanner.old.reader.now) scanner.old.traced) refused rules most [] scanner.old
+        → HasSeen (grammars_of (R.spells scanner.old.reader.now) (R.knows scanner.old.reader.now) (R.comments scanner.old.reader.now) scanner.old.traced) (running refused rules) files seen.now
+        → OnOk result (HasScanned (grammars_of (R.spells scanner.old.reader.now) (R.knows scanner.old.reader.now) (R.comments scanner.old.reader.now) scanner.old.traced) refused rules most files scanner.new) }
     ensures same_reader { scanner.new.reader.now ≡ scanner.old.reader.now }
+    ensures same_traced { scanner.new.traced ≡ scanner.old.traced }
 {
     for file in seen.files() {
         let results = copy_results(alloc, file.results().as_slice())?;
@@ -45,9 +46,9 @@ pub fn report_of<R: TreeReader + CommentReader>(
     mut scanner: Scanner<'_, R>,
 ) -> Result<Report, ScanFault>
     ensures report { (refused : list (list ℕ)) (rules : list a_rule_file) (most : ℕ) (files : list a_file)
-        → HasScanned (grammars_of (R.spells scanner.entry.reader.now) (R.knows scanner.entry.reader.now) (R.comments scanner.entry.reader.now)) refused rules most [] scanner.entry
-        → HasSeen (grammars_of (R.spells scanner.entry.reader.now) (R.knows scanner.entry.reader.now) (R.comments scanner.entry.reader.now)) (running refused rules) files seen.now
-        → TellsReport (grammars_of (R.spells scanner.entry.reader.now) (R.knows scanner.entry.reader.now) (R.comments scanner.entry.reader.now)) refused rules most files result }
+        → HasScanned (grammars_of (R.spells scanner.entry.reader.now) (R.knows scanner.entry.reader.now) (R.comments scanner.entry.reader.now) scanner.entry.traced) refused rules most [] scanner.entry
+        → HasSeen (grammars_of (R.spells scanner.entry.reader.now) (R.knows scanner.entry.reader.now) (R.comments scanner.entry.reader.now) scanner.entry.traced) (running refused rules) files seen.now
+        → TellsReport (grammars_of (R.spells scanner.entry.reader.now) (R.knows scanner.entry.reader.now) (R.comments scanner.entry.reader.now) scanner.entry.traced) refused rules most files result }
 {
     add_all(alloc, seen, &mut scanner)?;
     scanner.report(alloc)

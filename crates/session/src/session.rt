@@ -29,30 +29,33 @@ pub struct Session<'r, R: TreeReader + CommentReader + PatternReader> {
 }
 
 impl<'r, R: TreeReader + CommentReader + PatternReader> Session<'r, R> {
-    /// Neither files nor rules, which are read by the reader. A report may have at most so many findings. It takes no memory.
-    pub fn new(alloc: Global, reader: &'r R, most: u64) -> Session<'r, R>
+    /// Neither files nor rules, which are read by the reader. A report may have at most so many findings, with their traces if
+    /// `traced` says so. It takes no memory.
+    pub fn new(alloc: Global, reader: &'r R, most: u64, traced: bool) -> Session<'r, R>
         ensures new { state_of result ≡ record { files = []; rules = []; decided = record { refused = []; built = [] }; most = most } }
         ensures reader { result.scans.rules.reader ≡ reader.now }
+        ensures traced { result.scans.traced ≡ traced }
         ensures unseen { HasSeenNone result.scans.seen }
     {
         Session {
             alloc,
             files: FileMap::new(alloc),
-            scans: ScanState::new(alloc, reader),
+            scans: ScanState::new(alloc, reader, traced),
             most,
         }
     }
 }
 
 impl<'r, R: TreeReader + CommentReader + PatternReader> Workspace for Session<'r, R> {
-    type Reader = R;
+    // What reads texts, and whether findings have their traces.
+    type Reader = (R, bool);
 
     ghost use Rattle.session.specs.Sessions.{state_of};
     ghost use Rattle.workspace.specs.Reports.{readings_of};
 
-    ghost reader = { λ s. s.scans.rules.reader };
+    ghost reader = { λ s. (s.scans.rules.reader, s.scans.traced) };
 
-    ghost readings = { λ r. readings_of (R.spells r) (R.knows r) (R.comments r) (R.writes r) };
+    ghost readings = { λ r. readings_of (R.spells r.0) (R.knows r.0) (R.comments r.0) (R.writes r.0) r.1 };
 
     ghost state = { state_of };
 

@@ -1,5 +1,5 @@
 -- What a scan of a workspace reports.
-use Rattle.std.specs.Prelude.{◌≡◌, ℕ, List, ◌++◌, true, false}
+use Rattle.std.specs.Prelude.{◌≡◌, ℕ, Bool, List, ◌++◌, true, false}
 use Rattle.scan_world.specs.Files.{Files}
 use Rattle.rule_entries.specs.Finds.{Writes}
 use Rattle.rule_files.specs.declared.rule_file.RuleFile.{RuleFile}
@@ -15,7 +15,7 @@ use Rattle.file_open.specs.Naming.{Knows}
 use Rattle.scan_session.specs.Quieted.{Comments, Grammars, grammars_of}
 use Rattle.scan_session.specs.Fresh.{IsResult, IsFresh}
 
--- which trees, comments and members files have, and which patterns texts of rules write
+-- which trees, comments and members files have, whether findings have traces, and which patterns texts of rules write
 pub record Readings : Type 1 where
   pub grammars : Grammars
   pub writes : Writes
@@ -55,6 +55,6 @@ pub record GainsSome (old new : Decisions) (texts : List (List ℕ)) : Type 0 wh
   pub is : new.refused ≡ old.refused ++ more
   pub among : (text : List ℕ) → Among more text → Among texts text
 
--- those of what reads trees, known names, comments and patterns so
-abbrev pub readings_of : Spells → Knows → Comments → Writes → Readings
-readings_of spells knows comments writes = record { grammars = grammars_of spells knows comments; writes = writes }
+-- those of what reads trees, known names, comments and patterns so, with traces or without
+abbrev pub readings_of : Spells → Knows → Comments → Writes → Bool → Readings
+readings_of spells knows comments writes traced = record { grammars = grammars_of spells knows comments traced; writes = writes }

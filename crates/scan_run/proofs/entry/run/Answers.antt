@@ -1,12 +1,13 @@
 use Rattle.std.proofs.Common.{◌≡◌, ℕ, List, map, string_bytes, subst, inl, inr, refl}
 use Rattle.wire_words.specs.declared.command.Command.{Command}
-use Rattle.wire_words.specs.Commands.{Task, Request, Scanning, Fixing, Serving, Drilling, request, task_of}
+use Rattle.wire_words.specs.Commands.{Task, Request, Matching, Checking, Scanning, Fixing, Serving, Drilling, request, task_of}
 use Rattle.run_status.specs.declared.status.Status.{Status}
 use Rattle.run_status.specs.declared.status.Status.TheVariants as statuses
 use Rattle.scan_run.specs.Status.{IsOfInput}
 use Rattle.scan_run.proofs.Files.{keeps_self}
-use Rattle.scan_run.specs.Run.{Asks}
-use Rattle.scan_run.proofs.Requests.{ends_usage, only_usage, ends_match, only_match, front_match, some_match, ends_check, only_check, front_check, ends_scan, only_scan, front_scan, only_other, ends_fix, front_fix, ends_session, front_session, some_session, commands_session, ends_drill, front_drill, fix_asked, scans_something, no_match_in_check, no_match_in_scan, no_read_in_scan, no_match_in_fix, no_read_in_fix, no_session_in_fix, no_match_in_session, no_read_in_session, no_fix_in_session, no_fix_in_match, no_session_in_match, no_fix_in_check, no_session_in_check, no_fix_in_scan, no_session_in_scan, no_match_in_drill, no_read_in_drill, no_fix_in_drill, no_session_in_drill}
+use Rattle.decided_texts.specs.Refused.{gained}
+use Rattle.scan_run.specs.Run.{Asks, TakesFor}
+use Rattle.scan_run.proofs.Requests.{ends_usage, only_usage, ends_match, only_match, front_match, some_match, ends_check, only_check, front_check, ends_scan, only_scan, front_scan, only_other, ends_fix, front_fix, ends_session, front_session, some_session, commands_session, ends_drill, front_drill, as_asked, fix_asked, scans_something, no_match_in_check, no_match_in_scan, no_read_in_scan, no_match_in_fix, no_read_in_fix, no_session_in_fix, no_match_in_session, no_read_in_session, no_fix_in_session, no_fix_in_match, no_session_in_match, no_fix_in_check, no_session_in_check, no_fix_in_scan, no_session_in_scan, no_match_in_drill, no_read_in_drill, no_fix_in_drill, no_session_in_drill}
 use Rattle.scan_run.proofs.Leaving.{kept_unless_written, cut_by_memory}
 use Rattle.folder_run.specs.Written.{Wrote, Leaves}
 use Rattle.scan_run.specs.Serving.{setting}
@@ -33,6 +34,9 @@ returns-in-None-clause-files_kept g c nay = keeps_self (g.T.Tree.files c.args.tr
 
 pub returns-in-None-clause-work : goal.returns-in-None-clause-work
 returns-in-None-clause-work g c (lang, text, is) = absurd (c.in-None.ensures.only _ is)
+
+pub returns-in-None-clause-session_work : goal.returns-in-None-clause-session_work
+returns-in-None-clause-session_work g c a r is = absurd (c.in-None.ensures.only r is)
 
 pub returns-in-None-clause-nothing_written : goal.returns-in-None-clause-nothing_written
 returns-in-None-clause-nothing_written g c nay e = refl
@@ -76,6 +80,13 @@ returns-in-Some-Match-clause-whole_lines g c e =
 
 pub returns-in-Some-Match-clause-work : goal.returns-in-Some-Match-clause-work
 returns-in-Some-Match-clause-work g c asked = c.run_match.ensures.work
+
+pub returns-in-Some-Match-clause-session_work : goal.returns-in-Some-Match-clause-session_work
+returns-in-Some-Match-clause-session_work g c a =
+    let is = asks (map string_bytes c.args.words.now.items) _ _ c.in-Some-Match.field-0-is c.in-Some-Match.ensures.read in
+    as_asked (map string_bytes c.args.words.now.items) (Matching c.in-Some-Match.lang c.in-Some-Match.text.now) (only_asks (map string_bytes c.args.words.now.items) _ _ c.in-Some-Match.field-0-is c.in-Some-Match.ensures.only) is
+    (λ (r : Request). TakesFor r (g.S.Source.left c.args.input.now) (g.T.Tree.files c.args.tree.now) (gained (g.P.Patterns.refusals c.args.patterns.now) (g.P.Patterns.refusals c.args.patterns.now)) (g.K.Sink.written c.args.out.now) (g.K.Sink.written c.run_match.new.out) c.run_match.result c.args.steps.now c.run_match.new.steps)
+    tt
 
 pub returns-in-Some-Match-clause-no_work : goal.returns-in-Some-Match-clause-no_work
 returns-in-Some-Match-clause-no_work g c nay =
@@ -122,6 +133,13 @@ returns-in-Some-Check-clause-work g c asked =
     let words = map string_bytes c.args.words.now.items in
     absurd (no_match_in_check words (only_asks words _ _ c.in-Some-Check.field-0-is c.in-Some-Check.ensures.only) asked)
 
+pub returns-in-Some-Check-clause-session_work : goal.returns-in-Some-Check-clause-session_work
+returns-in-Some-Check-clause-session_work g c a =
+    let is = asks (map string_bytes c.args.words.now.items) _ _ c.in-Some-Check.field-0-is c.in-Some-Check.ensures.read in
+    as_asked (map string_bytes c.args.words.now.items) (Checking) (only_asks (map string_bytes c.args.words.now.items) _ _ c.in-Some-Check.field-0-is c.in-Some-Check.ensures.only) is
+    (λ (r : Request). TakesFor r (g.S.Source.left c.args.input.now) (g.T.Tree.files c.args.tree.now) (gained (g.P.Patterns.refusals c.args.patterns.now) (g.P.Patterns.refusals c.args.patterns.now)) (g.K.Sink.written c.args.out.now) (g.K.Sink.written c.run_check.new.out) c.run_check.result c.args.steps.now c.args.steps.now)
+    tt
+
 pub returns-in-Some-Check-clause-no_work : goal.returns-in-Some-Check-clause-no_work
 returns-in-Some-Check-clause-no_work g c nay = refl
 
@@ -159,6 +177,13 @@ pub returns-in-Some-Scan-clause-work : goal.returns-in-Some-Scan-clause-work
 returns-in-Some-Scan-clause-work g c asked =
     let words = map string_bytes c.args.words.now.items in
     absurd (no_match_in_scan words (task_of c.in-Some-Scan.job) (only_asks words _ _ c.in-Some-Scan.field-0-is c.in-Some-Scan.ensures.only) asked)
+
+pub returns-in-Some-Scan-clause-session_work : goal.returns-in-Some-Scan-clause-session_work
+returns-in-Some-Scan-clause-session_work g c a =
+    let is = asks (map string_bytes c.args.words.now.items) _ _ c.in-Some-Scan.field-0-is c.in-Some-Scan.ensures.read in
+    as_asked (map string_bytes c.args.words.now.items) (Scanning (task_of c.in-Some-Scan.job)) (only_asks (map string_bytes c.args.words.now.items) _ _ c.in-Some-Scan.field-0-is c.in-Some-Scan.ensures.only) is
+    (λ (r : Request). TakesFor r (g.S.Source.left c.args.input.now) (g.T.Tree.files c.args.tree.now) (gained (g.P.Patterns.refusals c.args.patterns.now) (g.P.Patterns.refusals c.run_scan.new.patterns)) (g.K.Sink.written c.args.out.now) (g.K.Sink.written c.run_scan.new.out) c.run_scan.result c.args.steps.now c.run_scan.new.steps)
+    tt
 
 pub returns-in-Some-Scan-clause-no_work : goal.returns-in-Some-Scan-clause-no_work
 returns-in-Some-Scan-clause-no_work g c nay =
@@ -223,15 +248,15 @@ returns-in-Some-Fix-clause-read_to_its_end g c ask =
 pub returns-in-Some-Fix-clause-files_kept : goal.returns-in-Some-Fix-clause-files_kept
 returns-in-Some-Fix-clause-files_kept g c nay =
     let is = asks (map string_bytes c.args.words.now.items) _ _ c.in-Some-Fix.field-0-is c.in-Some-Fix.ensures.read in
-    kept_unless_written (setting (task_of c.in-Some-Fix.job).most (g.T.Tree.files c.args.tree.now) _) (task_of c.in-Some-Fix.job) _ (λ e. nay (task_of c.in-Some-Fix.job, is, e)) c.run_fix.ensures.left
+    kept_unless_written (setting (task_of c.in-Some-Fix.job).most (task_of c.in-Some-Fix.job).trace (g.T.Tree.files c.args.tree.now) _) (task_of c.in-Some-Fix.job) _ (λ e. nay (task_of c.in-Some-Fix.job, is, e)) c.run_fix.ensures.left
 
 pub returns-in-Some-Fix-clause-files_fixed : goal.returns-in-Some-Fix-clause-files_fixed
 returns-in-Some-Fix-clause-files_fixed g c a =
-    fix_asked (map string_bytes c.args.words.now.items) (task_of c.in-Some-Fix.job) (only_asks (map string_bytes c.args.words.now.items) _ _ c.in-Some-Fix.field-0-is c.in-Some-Fix.ensures.only) (λ (t : Task). Wrote (setting t.most (g.T.Tree.files c.args.tree.now) _) t _ c.run_fix.result) (c.run_fix.ensures.wrote a)
+    fix_asked (map string_bytes c.args.words.now.items) (task_of c.in-Some-Fix.job) (only_asks (map string_bytes c.args.words.now.items) _ _ c.in-Some-Fix.field-0-is c.in-Some-Fix.ensures.only) (λ (t : Task). Wrote (setting t.most t.trace (g.T.Tree.files c.args.tree.now) _) t _ c.run_fix.result) (c.run_fix.ensures.wrote a)
 
 pub returns-in-Some-Fix-clause-files_left : goal.returns-in-Some-Fix-clause-files_left
 returns-in-Some-Fix-clause-files_left g c =
-    fix_asked (map string_bytes c.args.words.now.items) (task_of c.in-Some-Fix.job) (only_asks (map string_bytes c.args.words.now.items) _ _ c.in-Some-Fix.field-0-is c.in-Some-Fix.ensures.only) (λ (t : Task). Leaves (setting t.most (g.T.Tree.files c.args.tree.now) _) t _) c.run_fix.ensures.left
+    fix_asked (map string_bytes c.args.words.now.items) (task_of c.in-Some-Fix.job) (only_asks (map string_bytes c.args.words.now.items) _ _ c.in-Some-Fix.field-0-is c.in-Some-Fix.ensures.only) (λ (t : Task). Leaves (setting t.most t.trace (g.T.Tree.files c.args.tree.now) _) t _) c.run_fix.ensures.left
 
 pub returns-in-Some-Fix-clause-input_fault : goal.returns-in-Some-Fix-clause-input_fault
 returns-in-Some-Fix-clause-input_fault g c e =
@@ -258,6 +283,13 @@ pub returns-in-Some-Fix-clause-work : goal.returns-in-Some-Fix-clause-work
 returns-in-Some-Fix-clause-work g c asked =
     absurd (no_match_in_fix (map string_bytes c.args.words.now.items) (task_of c.in-Some-Fix.job) (only_asks (map string_bytes c.args.words.now.items) _ _ c.in-Some-Fix.field-0-is c.in-Some-Fix.ensures.only) asked)
 
+pub returns-in-Some-Fix-clause-session_work : goal.returns-in-Some-Fix-clause-session_work
+returns-in-Some-Fix-clause-session_work g c a =
+    let is = asks (map string_bytes c.args.words.now.items) _ _ c.in-Some-Fix.field-0-is c.in-Some-Fix.ensures.read in
+    as_asked (map string_bytes c.args.words.now.items) (Fixing (task_of c.in-Some-Fix.job)) (only_asks (map string_bytes c.args.words.now.items) _ _ c.in-Some-Fix.field-0-is c.in-Some-Fix.ensures.only) is
+    (λ (r : Request). TakesFor r (g.S.Source.left c.args.input.now) (g.T.Tree.files c.args.tree.now) (gained (g.P.Patterns.refusals c.args.patterns.now) (g.P.Patterns.refusals c.run_fix.new.patterns)) (g.K.Sink.written c.args.out.now) (g.K.Sink.written c.run_fix.new.out) c.run_fix.result c.args.steps.now c.run_fix.new.steps)
+    (c.run_fix.ensures.work a)
+
 pub returns-in-Some-Fix-clause-no_work : goal.returns-in-Some-Fix-clause-no_work
 returns-in-Some-Fix-clause-no_work g c nay =
     let is = asks (map string_bytes c.args.words.now.items) _ _ c.in-Some-Fix.field-0-is c.in-Some-Fix.ensures.read in
@@ -271,44 +303,44 @@ returns-in-Some-Fix-clause-patterns_kept g c nay =
 pub returns-in-Some-Session-clause-ends : goal.returns-in-Some-Session-clause-ends
 returns-in-Some-Session-clause-ends g c a =
     let is = asks (map string_bytes c.args.words.now.items) _ _ c.in-Some-Session.field-0-is c.in-Some-Session.ensures.read in
-    ends_session (map string_bytes c.args.words.now.items) (g.S.Source.left c.args.input.now) (g.T.Tree.files c.args.tree.now) _ (g.K.Sink.written c.args.out.now) (g.K.Sink.written c.run_session.new.out) c.in-Some-Session.most c.in-Some-Session._trace is c.run_session.result (c.run_session.ensures.ends a)
+    ends_session (map string_bytes c.args.words.now.items) (g.S.Source.left c.args.input.now) (g.T.Tree.files c.args.tree.now) _ (g.K.Sink.written c.args.out.now) (g.K.Sink.written c.run_session.new.out) c.in-Some-Session.most c.in-Some-Session.trace is c.run_session.result (c.run_session.ensures.ends a)
 
 pub returns-in-Some-Session-clause-only : goal.returns-in-Some-Session-clause-only
 returns-in-Some-Session-clause-only g c a told =
     let is = asks (map string_bytes c.args.words.now.items) _ _ c.in-Some-Session.field-0-is c.in-Some-Session.ensures.read in
-    only_other (map string_bytes c.args.words.now.items) (g.S.Source.left c.args.input.now) (g.T.Tree.files c.args.tree.now) _ (g.K.Sink.written c.args.out.now) (g.K.Sink.written c.run_session.new.out) (Serving c.in-Some-Session.most c.in-Some-Session._trace) is (λ x. x) c.run_session.result told
+    only_other (map string_bytes c.args.words.now.items) (g.S.Source.left c.args.input.now) (g.T.Tree.files c.args.tree.now) _ (g.K.Sink.written c.args.out.now) (g.K.Sink.written c.run_session.new.out) (Serving c.in-Some-Session.most c.in-Some-Session.trace) is (λ x. x) c.run_session.result told
 
 pub returns-in-Some-Session-clause-read_to_its_end : goal.returns-in-Some-Session-clause-read_to_its_end
 returns-in-Some-Session-clause-read_to_its_end g c ask =
-    absurd (no_read_in_session (map string_bytes c.args.words.now.items) c.in-Some-Session.most c.in-Some-Session._trace (only_asks (map string_bytes c.args.words.now.items) _ _ c.in-Some-Session.field-0-is c.in-Some-Session.ensures.only) ask)
+    absurd (no_read_in_session (map string_bytes c.args.words.now.items) c.in-Some-Session.most c.in-Some-Session.trace (only_asks (map string_bytes c.args.words.now.items) _ _ c.in-Some-Session.field-0-is c.in-Some-Session.ensures.only) ask)
 
 pub returns-in-Some-Session-clause-files_fixed : goal.returns-in-Some-Session-clause-files_fixed
 returns-in-Some-Session-clause-files_fixed g c a task is =
-    absurd (no_fix_in_session (map string_bytes c.args.words.now.items) c.in-Some-Session.most c.in-Some-Session._trace (only_asks (map string_bytes c.args.words.now.items) _ _ c.in-Some-Session.field-0-is c.in-Some-Session.ensures.only) task is)
+    absurd (no_fix_in_session (map string_bytes c.args.words.now.items) c.in-Some-Session.most c.in-Some-Session.trace (only_asks (map string_bytes c.args.words.now.items) _ _ c.in-Some-Session.field-0-is c.in-Some-Session.ensures.only) task is)
 
 pub returns-in-Some-Session-clause-files_left : goal.returns-in-Some-Session-clause-files_left
 returns-in-Some-Session-clause-files_left g c task is =
-    absurd (no_fix_in_session (map string_bytes c.args.words.now.items) c.in-Some-Session.most c.in-Some-Session._trace (only_asks (map string_bytes c.args.words.now.items) _ _ c.in-Some-Session.field-0-is c.in-Some-Session.ensures.only) task is)
+    absurd (no_fix_in_session (map string_bytes c.args.words.now.items) c.in-Some-Session.most c.in-Some-Session.trace (only_asks (map string_bytes c.args.words.now.items) _ _ c.in-Some-Session.field-0-is c.in-Some-Session.ensures.only) task is)
 
 pub returns-in-Some-Session-clause-nothing_written : goal.returns-in-Some-Session-clause-nothing_written
 returns-in-Some-Session-clause-nothing_written g c nay h =
     let is = asks (map string_bytes c.args.words.now.items) _ _ c.in-Some-Session.field-0-is c.in-Some-Session.ensures.read in
-    absurd (nay (c.in-Some-Session.most, c.in-Some-Session._trace, is))
+    absurd (nay (c.in-Some-Session.most, c.in-Some-Session.trace, is))
 
 pub returns-in-Some-Session-clause-commands_written : goal.returns-in-Some-Session-clause-commands_written
 returns-in-Some-Session-clause-commands_written g c ask cut =
     let is = asks (map string_bytes c.args.words.now.items) _ _ c.in-Some-Session.field-0-is c.in-Some-Session.ensures.read in
-    commands_session (map string_bytes c.args.words.now.items) (g.S.Source.left c.args.input.now) (g.T.Tree.files c.args.tree.now) _ (g.K.Sink.written c.args.out.now) (g.K.Sink.written c.run_session.new.out) c.in-Some-Session.most c.in-Some-Session._trace is (c.run_session.ensures.commands_written cut)
+    commands_session (map string_bytes c.args.words.now.items) (g.S.Source.left c.args.input.now) (g.T.Tree.files c.args.tree.now) _ (g.K.Sink.written c.args.out.now) (g.K.Sink.written c.run_session.new.out) c.in-Some-Session.most c.in-Some-Session.trace is (c.run_session.ensures.commands_written cut)
 
 pub returns-in-Some-Session-clause-front_written : goal.returns-in-Some-Session-clause-front_written
 returns-in-Some-Session-clause-front_written g c e =
     let is = asks (map string_bytes c.args.words.now.items) _ _ c.in-Some-Session.field-0-is c.in-Some-Session.ensures.read in
-    front_session (map string_bytes c.args.words.now.items) (g.S.Source.left c.args.input.now) (g.T.Tree.files c.args.tree.now) _ (g.K.Sink.written c.args.out.now) (g.K.Sink.written c.run_session.new.out) c.in-Some-Session.most c.in-Some-Session._trace is (c.run_session.ensures.front_written e)
+    front_session (map string_bytes c.args.words.now.items) (g.S.Source.left c.args.input.now) (g.T.Tree.files c.args.tree.now) _ (g.K.Sink.written c.args.out.now) (g.K.Sink.written c.run_session.new.out) c.in-Some-Session.most c.in-Some-Session.trace is (c.run_session.ensures.front_written e)
 
 pub returns-in-Some-Session-clause-whole_lines : goal.returns-in-Some-Session-clause-whole_lines
 returns-in-Some-Session-clause-whole_lines g c e =
     let is = asks (map string_bytes c.args.words.now.items) _ _ c.in-Some-Session.field-0-is c.in-Some-Session.ensures.read in
-    inr (some_session (map string_bytes c.args.words.now.items) (g.S.Source.left c.args.input.now) (g.T.Tree.files c.args.tree.now) _ (g.K.Sink.written c.args.out.now) (g.K.Sink.written c.run_session.new.out) c.in-Some-Session.most c.in-Some-Session._trace is (c.run_session.ensures.commands_written (cut_by_memory c.run_session.result e)))
+    inr (some_session (map string_bytes c.args.words.now.items) (g.S.Source.left c.args.input.now) (g.T.Tree.files c.args.tree.now) _ (g.K.Sink.written c.args.out.now) (g.K.Sink.written c.run_session.new.out) c.in-Some-Session.most c.in-Some-Session.trace is (c.run_session.ensures.commands_written (cut_by_memory c.run_session.result e)))
 
 pub returns-in-Some-Session-clause-absent : goal.returns-in-Some-Session-clause-absent
 returns-in-Some-Session-clause-absent g c e =
@@ -316,17 +348,24 @@ returns-in-Some-Session-clause-absent g c e =
 
 pub returns-in-Some-Session-clause-work : goal.returns-in-Some-Session-clause-work
 returns-in-Some-Session-clause-work g c asked =
-    absurd (no_match_in_session (map string_bytes c.args.words.now.items) c.in-Some-Session.most c.in-Some-Session._trace (only_asks (map string_bytes c.args.words.now.items) _ _ c.in-Some-Session.field-0-is c.in-Some-Session.ensures.only) asked)
+    absurd (no_match_in_session (map string_bytes c.args.words.now.items) c.in-Some-Session.most c.in-Some-Session.trace (only_asks (map string_bytes c.args.words.now.items) _ _ c.in-Some-Session.field-0-is c.in-Some-Session.ensures.only) asked)
+
+pub returns-in-Some-Session-clause-session_work : goal.returns-in-Some-Session-clause-session_work
+returns-in-Some-Session-clause-session_work g c a =
+    let is = asks (map string_bytes c.args.words.now.items) _ _ c.in-Some-Session.field-0-is c.in-Some-Session.ensures.read in
+    as_asked (map string_bytes c.args.words.now.items) (Serving c.in-Some-Session.most c.in-Some-Session.trace) (only_asks (map string_bytes c.args.words.now.items) _ _ c.in-Some-Session.field-0-is c.in-Some-Session.ensures.only) is
+    (λ (r : Request). TakesFor r (g.S.Source.left c.args.input.now) (g.T.Tree.files c.args.tree.now) (gained (g.P.Patterns.refusals c.args.patterns.now) (g.P.Patterns.refusals c.run_session.new.patterns)) (g.K.Sink.written c.args.out.now) (g.K.Sink.written c.run_session.new.out) c.run_session.result c.args.steps.now c.run_session.new.steps)
+    (c.run_session.ensures.work a)
 
 pub returns-in-Some-Session-clause-no_work : goal.returns-in-Some-Session-clause-no_work
 returns-in-Some-Session-clause-no_work g c nay =
     let is = asks (map string_bytes c.args.words.now.items) _ _ c.in-Some-Session.field-0-is c.in-Some-Session.ensures.read in
-    absurd (scans_something (map string_bytes c.args.words.now.items) (Serving c.in-Some-Session.most c.in-Some-Session._trace) (only_asks (map string_bytes c.args.words.now.items) _ _ c.in-Some-Session.field-0-is c.in-Some-Session.ensures.only) is (λ x. x) nay.0)
+    absurd (scans_something (map string_bytes c.args.words.now.items) (Serving c.in-Some-Session.most c.in-Some-Session.trace) (only_asks (map string_bytes c.args.words.now.items) _ _ c.in-Some-Session.field-0-is c.in-Some-Session.ensures.only) is (λ x. x) nay.0)
 
 pub returns-in-Some-Session-clause-patterns_kept : goal.returns-in-Some-Session-clause-patterns_kept
 returns-in-Some-Session-clause-patterns_kept g c nay =
     let is = asks (map string_bytes c.args.words.now.items) _ _ c.in-Some-Session.field-0-is c.in-Some-Session.ensures.read in
-    absurd (scans_something (map string_bytes c.args.words.now.items) (Serving c.in-Some-Session.most c.in-Some-Session._trace) (only_asks (map string_bytes c.args.words.now.items) _ _ c.in-Some-Session.field-0-is c.in-Some-Session.ensures.only) is (λ x. x) nay)
+    absurd (scans_something (map string_bytes c.args.words.now.items) (Serving c.in-Some-Session.most c.in-Some-Session.trace) (only_asks (map string_bytes c.args.words.now.items) _ _ c.in-Some-Session.field-0-is c.in-Some-Session.ensures.only) is (λ x. x) nay)
 
 pub returns-in-Some-Drill-clause-ends : goal.returns-in-Some-Drill-clause-ends
 returns-in-Some-Drill-clause-ends g c a =
@@ -378,6 +417,13 @@ returns-in-Some-Drill-clause-absent g c e =
 pub returns-in-Some-Drill-clause-work : goal.returns-in-Some-Drill-clause-work
 returns-in-Some-Drill-clause-work g c asked =
     absurd (no_match_in_drill (map string_bytes c.args.words.now.items) c.in-Some-Drill.count (only_asks (map string_bytes c.args.words.now.items) _ _ c.in-Some-Drill.field-0-is c.in-Some-Drill.ensures.only) asked)
+
+pub returns-in-Some-Drill-clause-session_work : goal.returns-in-Some-Drill-clause-session_work
+returns-in-Some-Drill-clause-session_work g c a =
+    let is = asks (map string_bytes c.args.words.now.items) _ _ c.in-Some-Drill.field-0-is c.in-Some-Drill.ensures.read in
+    as_asked (map string_bytes c.args.words.now.items) (Drilling c.in-Some-Drill.count) (only_asks (map string_bytes c.args.words.now.items) _ _ c.in-Some-Drill.field-0-is c.in-Some-Drill.ensures.only) is
+    (λ (r : Request). TakesFor r (g.S.Source.left c.args.input.now) (g.T.Tree.files c.args.tree.now) (gained (g.P.Patterns.refusals c.args.patterns.now) (g.P.Patterns.refusals c.run_drill.new.patterns)) (g.K.Sink.written c.args.out.now) (g.K.Sink.written c.run_drill.new.out) c.run_drill.result c.args.steps.now c.run_drill.new.steps)
+    (c.run_drill.ensures.work a)
 
 pub returns-in-Some-Drill-clause-no_work : goal.returns-in-Some-Drill-clause-no_work
 returns-in-Some-Drill-clause-no_work g c nay =

@@ -9,6 +9,6 @@ use Rattle.scan_run.proofs.scan.begin.Goals as goal
 pub returns-clause-begun : goal.returns-clause-begun
 returns-clause-begun g c =
     let more = gained (g.P.Patterns.refusals c.args.patterns.now) (g.P.Patterns.refusals c.of.new.patterns) in
-    let P : List (List ℕ) → Type 0 = λ refused. HasScanned grammars refused c.args.rules.now c.args.most [] c.in_ok-scanner.scanner in
-    let Q : List RuleFile → Type 0 = λ rules. HasScanned grammars c.of.new.decided.refused rules c.args.most [] c.in_ok-scanner.scanner in
+    let P : List (List ℕ) → Type 0 = λ refused. HasScanned (grammars c.args.traced) refused c.args.rules.now c.args.most [] c.in_ok-scanner.scanner in
+    let Q : List RuleFile → Type 0 = λ rules. HasScanned (grammars c.args.traced) c.of.new.decided.refused rules c.args.most [] c.in_ok-scanner.scanner in
     subst P (c.in_ok-scanner.ensures.refused ∙ ap (λ (d : Decisions). d.refused ++ more) c.new-decided.ensures) (subst Q c.as_slice-rules.ensures c.in_ok-scanner.ensures.begun)

@@ -1,3 +1,4 @@
+use Rattle.std.proofs.Common.{◌∙◌}
 use Rattle.wire_words.specs.Commands.{task_of}
 use Rattle.run_status.specs.declared.status.Status.TheVariants as statuses
 use Rattle.scan_run.proofs.Files.{files_before, end_before}
@@ -44,20 +45,23 @@ pub returns-in-Ok-scan_files-clause-ends : goal.returns-in-Ok-scan_files-clause-
 returns-in-Ok-scan_files-clause-ends g c a =
     let rules = c.in-Ok.rules in
     let h = c.in-Ok-scan_files.ensures.scanned in
-    ends_by_report (task_of c.args.job.now) _ _ rules c.in-Ok.ensures.rules h.files (files_before (g.T.Tree.files c.args.tree.now) (g.T.Tree.files c.read_config.new.tree) c.args.job.now.prefix.now h.files c.in-Ok.ensures.kept h.are) h.within _ _ _
-    (c.print_report.ensures.ends a _ rules c.args.job.now.most h.files (has_scanned _ rules c.in-Ok-one_file.all c.args.job.now.most _ _ _ _ h c.in-Ok-one_file.ensures c.in-Ok-begin.ensures.begun))
+    let still = h.same_traced ∙ c.in-Ok-begin.ensures.traced in
+    ends_by_report (task_of c.args.job.now) _ _ rules c.in-Ok.ensures.rules h.files (files_before (g.T.Tree.files c.args.tree.now) (g.T.Tree.files c.read_config.new.tree) c.args.job.now.prefix.now h.files c.in-Ok.ensures.kept h.are) h.within _ still _ _ _
+    (c.print_report.ensures.ends a _ rules c.args.job.now.most h.files (has_scanned _ rules c.in-Ok-one_file.all c.args.job.now.most c.args.job.now.trace _ _ _ _ h c.in-Ok-begin.ensures.traced c.in-Ok-one_file.ensures c.in-Ok-begin.ensures.begun))
 
 pub returns-in-Ok-scan_files-clause-only : goal.returns-in-Ok-scan_files-clause-only
 returns-in-Ok-scan_files-clause-only g c a some =
     let rules = c.in-Ok.rules in
     let h = c.in-Ok-scan_files.ensures.scanned in
-    let seen = has_scanned _ rules c.in-Ok-one_file.all c.args.job.now.most _ _ _ _ h c.in-Ok-one_file.ensures c.in-Ok-begin.ensures.begun in
-    only_report (task_of c.args.job.now) _ _ rules c.in-Ok.ensures.rules h.files (files_before (g.T.Tree.files c.args.tree.now) (g.T.Tree.files c.read_config.new.tree) c.args.job.now.prefix.now h.files c.in-Ok.ensures.kept h.are) h.within _ _ _
+    let still = h.same_traced ∙ c.in-Ok-begin.ensures.traced in
+    let seen = has_scanned _ rules c.in-Ok-one_file.all c.args.job.now.most c.args.job.now.trace _ _ _ _ h c.in-Ok-begin.ensures.traced c.in-Ok-one_file.ensures c.in-Ok-begin.ensures.begun in
+    only_report (task_of c.args.job.now) _ _ rules c.in-Ok.ensures.rules h.files (files_before (g.T.Tree.files c.args.tree.now) (g.T.Tree.files c.read_config.new.tree) c.args.job.now.prefix.now h.files c.in-Ok.ensures.kept h.are) h.within _ still _ _ _
     (λ f. c.print_report.ensures.one_report f _ rules c.args.job.now.most h.files seen) (c.print_report.ensures.ends a _ rules c.args.job.now.most h.files seen) some
 
 pub returns-in-Ok-scan_files-clause-front_written : goal.returns-in-Ok-scan_files-clause-front_written
 returns-in-Ok-scan_files-clause-front_written g c e =
     let rules = c.in-Ok.rules in
     let h = c.in-Ok-scan_files.ensures.scanned in
-    front_of_report (task_of c.args.job.now) _ _ rules c.in-Ok.ensures.rules h.files (files_before (g.T.Tree.files c.args.tree.now) (g.T.Tree.files c.read_config.new.tree) c.args.job.now.prefix.now h.files c.in-Ok.ensures.kept h.are) h.within _ _
-    (c.print_report.ensures.front_written e _ rules c.args.job.now.most h.files (has_scanned _ rules c.in-Ok-one_file.all c.args.job.now.most _ _ _ _ h c.in-Ok-one_file.ensures c.in-Ok-begin.ensures.begun))
+    let still = h.same_traced ∙ c.in-Ok-begin.ensures.traced in
+    front_of_report (task_of c.args.job.now) _ _ rules c.in-Ok.ensures.rules h.files (files_before (g.T.Tree.files c.args.tree.now) (g.T.Tree.files c.read_config.new.tree) c.args.job.now.prefix.now h.files c.in-Ok.ensures.kept h.are) h.within _ still _ _
+    (c.print_report.ensures.front_written e _ rules c.args.job.now.most h.files (has_scanned _ rules c.in-Ok-one_file.all c.args.job.now.most c.args.job.now.trace _ _ _ _ h c.in-Ok-begin.ensures.traced c.in-Ok-one_file.ensures c.in-Ok-begin.ensures.begun))

@@ -1,25 +1,31 @@
 use Rattle.run_status.specs.Ways.{Printed}
 use Rattle.stream_run.specs.Doing.{Setting}
 use Rattle.stream_run.specs.Playing.{PrintsEnd, PrintsFirst, PrintsFront}
+use Rattle.stream_run.specs.Costs.{EndsAfter}
 use Rattle.scan_run.proofs.Settings.{is_new, of_setting, printed_of, first_lines, no_absence}
 use Rattle.scan_run.proofs.serving.run_session.Goals as goal
 
 pub serve-requires : goal.serve-requires
-serve-requires g c = is_new c.args.most _ c.new-session.ensures.new
+serve-requires g c = record { new = is_new c.args.most _ c.new-session.ensures.new; unseen = c.new-session.ensures.unseen }
 
 pub returns-clause-ends : goal.returns-clause-ends
 returns-clause-ends g c a =
     printed_of _ _ _ _ c.serve.result
-    (of_setting (g.T.Tree.files c.args.tree.now) _ c.args.most _ c.new-session.ensures.new (λ (s : Setting). PrintsEnd s (g.S.Source.left c.args.input.now) (g.K.Sink.written c.args.out.now) (g.K.Sink.written c.serve.new.out) c.serve.result) (c.serve.ensures.ends a))
+    (of_setting (g.T.Tree.files c.args.tree.now) _ c.args.most c.args.traced _ _ c.new-session.ensures.new c.new-session.ensures.traced (λ (s : Setting). PrintsEnd s (g.S.Source.left c.args.input.now) (g.K.Sink.written c.args.out.now) (g.K.Sink.written c.serve.new.out) c.serve.result) (c.serve.ensures.ends a))
+
+pub returns-clause-work : goal.returns-clause-work
+returns-clause-work g c a =
+    of_setting (g.T.Tree.files c.args.tree.now) _ c.args.most c.args.traced _ _ c.new-session.ensures.new c.new-session.ensures.traced
+    (λ (s : Setting). EndsAfter s (g.S.Source.left c.args.input.now) (g.K.Sink.written c.args.out.now) (g.K.Sink.written c.serve.new.out) c.serve.result c.args.steps.now c.serve.new.steps) (c.serve.ensures.work a)
 
 pub returns-clause-commands_written : goal.returns-clause-commands_written
 returns-clause-commands_written g c cut =
-    of_setting (g.T.Tree.files c.args.tree.now) _ c.args.most _ c.new-session.ensures.new (λ (s : Setting). PrintsFirst s (g.S.Source.left c.args.input.now) (g.K.Sink.written c.args.out.now) (g.K.Sink.written c.serve.new.out))
+    of_setting (g.T.Tree.files c.args.tree.now) _ c.args.most c.args.traced _ _ c.new-session.ensures.new c.new-session.ensures.traced (λ (s : Setting). PrintsFirst s (g.S.Source.left c.args.input.now) (g.K.Sink.written c.args.out.now) (g.K.Sink.written c.serve.new.out))
     (first_lines _ _ _ _ _ c.serve.result c.serve.ensures.first_lines c.serve.ensures.whole_lines cut)
 
 pub returns-clause-front_written : goal.returns-clause-front_written
 returns-clause-front_written g c e =
-    of_setting (g.T.Tree.files c.args.tree.now) _ c.args.most _ c.new-session.ensures.new (λ (s : Setting). PrintsFront s (g.S.Source.left c.args.input.now) (g.K.Sink.written c.args.out.now) (g.K.Sink.written c.serve.new.out)) (c.serve.ensures.front e)
+    of_setting (g.T.Tree.files c.args.tree.now) _ c.args.most c.args.traced _ _ c.new-session.ensures.new c.new-session.ensures.traced (λ (s : Setting). PrintsFront s (g.S.Source.left c.args.input.now) (g.K.Sink.written c.args.out.now) (g.K.Sink.written c.serve.new.out)) (c.serve.ensures.front e)
 
 pub returns-clause-there : goal.returns-clause-there
 returns-clause-there g c e = no_absence _ _ _ _ c.serve.result c.serve.ensures.ends e

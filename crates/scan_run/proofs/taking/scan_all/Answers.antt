@@ -34,7 +34,7 @@ loop-path-preserved g c =
     let w = c.in_ok-total.ensures.within in
     record {
       far = far_read (g.T.Tree.files c.args.tree.now) (g.T.Tree.files c.loop-path.tree) h.kept c.as_slice-path-items.result.now c.loop-path.files c.loop-path.total c.args.scanner.now c.loop-path.scanner c.loop-path.path-index c.path-item.result c.as_str-name.result.now
-          c.loop-path-test.true c.path-item.is h.far c.as_str-name.ensures c.in-Ok.bytes c.in-Ok.ensures.bound c.in-Ok.ensures.front c.len.result c.in_ok-total.total c.scan.new.self c.len.ensures w.0 w.1 w.2 c.in_ok-scan.ensures.scanned;
+          c.loop-path-test.true c.path-item.is h.far c.as_str-name.ensures c.in-Ok.bytes c.in-Ok.ensures.bound c.in-Ok.ensures.front c.len.result c.in_ok-total.total c.scan.new.self c.len.ensures w.0 w.1 w.2 c.in_ok-scan.ensures.scanned c.scan.ensures.same_traced;
       kept = keeps_on (g.T.Tree.files c.args.tree.now) (g.T.Tree.files c.loop-path.tree) (g.T.Tree.files c.read.new.self) h.kept c.in-Ok.ensures.kept;
       faults = c.in-Ok.ensures.cause.0 ∙ h.faults;
     }

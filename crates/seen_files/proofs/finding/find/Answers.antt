@@ -15,7 +15,7 @@ pub returns-in-TooLarge-clause-seen : goal.returns-in-TooLarge-clause-seen
 returns-in-TooLarge-clause-seen g c so apart =
     let spells = g.R.TreeReader.spells c.args.reader.now in
     let P : Opened → Type 0 = λ o. IsOpenedSo spells (c.args.path.now, c.args.bytes.value) o in
-    if_large (grammars_of spells (g.R.TreeReader.knows c.args.reader.now) (g.R.CommentReader.comments c.args.reader.now)) c.args.running.now c.args.path.now c.args.bytes.value c.unseen.result
+    if_large (grammars_of spells (g.R.TreeReader.knows c.args.reader.now) (g.R.CommentReader.comments c.args.reader.now) c.args.traced) c.args.running.now c.args.path.now c.args.bytes.value c.unseen.result
     c.unseen.ensures.file c.unseen.ensures.opened c.unseen.ensures.results c.unseen.ensures.notices (subst P c.in-TooLarge.is so)
 
 pub returns-in-TooLarge-clause-kept : goal.returns-in-TooLarge-clause-kept
@@ -25,7 +25,7 @@ pub returns-in-NotUtf8-clause-seen : goal.returns-in-NotUtf8-clause-seen
 returns-in-NotUtf8-clause-seen g c so apart =
     let spells = g.R.TreeReader.spells c.args.reader.now in
     let P : Opened → Type 0 = λ o. IsOpenedSo spells (c.args.path.now, c.args.bytes.value) o in
-    if_odd (grammars_of spells (g.R.TreeReader.knows c.args.reader.now) (g.R.CommentReader.comments c.args.reader.now)) c.args.running.now c.args.path.now c.args.bytes.value c.unseen-in-NotUtf8.result
+    if_odd (grammars_of spells (g.R.TreeReader.knows c.args.reader.now) (g.R.CommentReader.comments c.args.reader.now) c.args.traced) c.args.running.now c.args.path.now c.args.bytes.value c.unseen-in-NotUtf8.result
     c.unseen-in-NotUtf8.ensures.file c.unseen-in-NotUtf8.ensures.opened c.unseen-in-NotUtf8.ensures.results c.unseen-in-NotUtf8.ensures.notices (subst P c.in-NotUtf8.is so)
 
 pub returns-in-NotUtf8-clause-kept : goal.returns-in-NotUtf8-clause-kept
@@ -35,7 +35,7 @@ returns-in-NotUtf8-clause-kept g c =
 pub returns-in_ok-found-in-NoTree-clause-seen : goal.returns-in_ok-found-in-NoTree-clause-seen
 returns-in_ok-found-in-NoTree-clause-seen g c so apart =
     let spells = g.R.TreeReader.spells c.args.reader.now in
-    let grammars = grammars_of spells (g.R.TreeReader.knows c.args.reader.now) (g.R.CommentReader.comments c.args.reader.now) in
+    let grammars = grammars_of spells (g.R.TreeReader.knows c.args.reader.now) (g.R.CommentReader.comments c.args.reader.now) c.args.traced in
     let P : Opened → Type 0 = λ o. IsOpenedSo spells (c.args.path.now, c.args.bytes.value) o in
     let start = c.in_ok-add_notice-in-NoTree.ensures ∙ ap (λ (ns : List Notice). ns ++ notice c.args.path.now [] kinds.NoTree [] ∷ []) c.new-notices.ensures.items in
     if_plain grammars c.args.running.now c.args.path.now c.args.bytes.value c.seen_as.result c.seen_as.ensures.file c.in-NoTree.view c.in_ok-found-in-NoTree.found.0 c.in_ok-found-in-NoTree.ensures.same c.in_ok-found-in-NoTree.found.1 (c.in_ok-found-in-NoTree.ensures.results apart)
@@ -49,7 +49,7 @@ returns-in_ok-found-in-NoTree-clause-kept g c =
 pub returns-in_ok-found-in-Read-clause-seen : goal.returns-in_ok-found-in-Read-clause-seen
 returns-in_ok-found-in-Read-clause-seen g c so apart =
     let spells = g.R.TreeReader.spells c.args.reader.now in
-    let grammars = grammars_of spells (g.R.TreeReader.knows c.args.reader.now) (g.R.CommentReader.comments c.args.reader.now) in
+    let grammars = grammars_of spells (g.R.TreeReader.knows c.args.reader.now) (g.R.CommentReader.comments c.args.reader.now) c.args.traced in
     let P : Opened → Type 0 = λ o. IsOpenedSo spells (c.args.path.now, c.args.bytes.value) o in
     if_read grammars c.args.running.now c.args.path.now c.args.bytes.value c.seen_as-in-Read.result c.seen_as-in-Read.ensures.file c.in-Read.view c.in_ok-found-in-Read.found.0 c.in_ok-found-in-Read.ensures.same c.in_ok-found-in-Read.found.1 (c.in_ok-found-in-Read.ensures.results apart)
     c.new-notices-in-Read.result.items c.look_with_names-in-Read.new.notices.items c.in_ok-found-in-Read.ensures.notices c.seen_as-in-Read.ensures.results c.seen_as-in-Read.ensures.notices c.new-notices-in-Read.ensures.items c.seen_as-in-Read.ensures.opened (subst P c.in-Read.is so)

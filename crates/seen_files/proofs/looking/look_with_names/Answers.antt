@@ -7,7 +7,7 @@ returns-clause-results g c apart =
     let v = c.args.view in
     let w = c.in_ok-named.named in
     let same : IsSameFile v w = record { lang = c.in_ok-named.ensures.lang; bytes = c.in_ok-named.ensures.bytes; tree = c.in_ok-named.ensures.tree } in
-    shown_by (g.R.TreeReader.knows c.args.reader.now) c.args.running.now c.args.path.now v w same c.in_ok-named.ensures.serves (g.R.CommentReader.comments c.args.reader.now) c.in_ok-results.results (c.in_ok-results.ensures.results apart)
+    shown_by (g.R.TreeReader.knows c.args.reader.now) c.args.running.now c.args.path.now v w same c.in_ok-named.ensures.serves (g.R.CommentReader.comments c.args.reader.now) c.args.traced c.in_ok-results.results (c.in_ok-results.ensures.results apart)
 
 pub returns-clause-notices : goal.returns-clause-notices
 returns-clause-notices g c =

@@ -8,7 +8,7 @@ use Rattle.seen_files.proofs.seeing.see_all.Goals as goal
 
 pub loop-path-init : goal.loop-path-init
 loop-path-init g c before old has same apart = (
-  walk_start (grammars_of (g.R.TreeReader.spells c.args.reader.now) (g.R.TreeReader.knows c.args.reader.now) (g.R.CommentReader.comments c.args.reader.now)) c.args.running.now old (map_of c.args.kept.now) c.args.steps.now c.new-seen.result c.new-seen.ensures,
+  walk_start (grammars_of (g.R.TreeReader.spells c.args.reader.now) (g.R.TreeReader.knows c.args.reader.now) (g.R.CommentReader.comments c.args.reader.now) c.args.traced) c.args.running.now old (map_of c.args.kept.now) c.args.steps.now c.new-seen.result c.new-seen.ensures,
   passed_start c.args.left c.args.left refl,
 )
 
@@ -17,7 +17,7 @@ see_file-requires g c = taken_at c.loop-path-item.result.0.now c.loop-path.left 
 
 pub loop-path-preserved : goal.loop-path-preserved
 loop-path-preserved g c before old has same apart =
-    let grammars = grammars_of (g.R.TreeReader.spells c.args.reader.now) (g.R.TreeReader.knows c.args.reader.now) (g.R.CommentReader.comments c.args.reader.now) in
+    let grammars = grammars_of (g.R.TreeReader.spells c.args.reader.now) (g.R.TreeReader.knows c.args.reader.now) (g.R.CommentReader.comments c.args.reader.now) c.args.traced in
     let items = c.as_slice-path-items.result.now in
     let x = c.loop-path-item.result in
     let far = c.loop-path.invariant before old has same apart in
@@ -28,7 +28,7 @@ loop-path-preserved g c before old has same apart =
 
 pub returns-clause-walked : goal.returns-clause-walked
 returns-clause-walked g c before old has same apart =
-    let grammars = grammars_of (g.R.TreeReader.spells c.args.reader.now) (g.R.TreeReader.knows c.args.reader.now) (g.R.CommentReader.comments c.args.reader.now) in
+    let grammars = grammars_of (g.R.TreeReader.spells c.args.reader.now) (g.R.TreeReader.knows c.args.reader.now) (g.R.CommentReader.comments c.args.reader.now) c.args.traced in
     let far = c.loop-path.invariant before old has same apart in
     walk_end lent c.as_slice-path-items.result.now c.loop-path.path-index c.args.files.now c.loop-path-test.false (ap (map lent) c.as_slice-path-items.ensures ∙ c.in_ok-entries.ensures.files)
     grammars c.args.running.now old (map_of c.args.kept.now) c.args.steps.now (map_of c.loop-path.kept) c.loop-path.steps c.loop-path.seen far.0

@@ -8,6 +8,6 @@ use Rattle.seen_files.proofs.seeing.see_all.Given as goal
 
 abbrev pub invariant-loop-path : goal.invariant-loop-path
 invariant-loop-path g l =
-    AfterSeen (grammars_of (g.R.TreeReader.spells l.reader) (g.R.TreeReader.knows l.reader) (g.R.CommentReader.comments l.reader)) l.same_rules l.running (turned l.initial.left l.initial.kept) (λ before old.
-    HasWalked (grammars_of (g.R.TreeReader.spells l.reader) (g.R.TreeReader.knows l.reader) (g.R.CommentReader.comments l.reader)) l.running old (map lent (take l.path-index l.path-items)) (map_of l.initial.kept) l.initial.steps (map_of l.kept) l.steps l.seen
+    AfterSeen (grammars_of (g.R.TreeReader.spells l.reader) (g.R.TreeReader.knows l.reader) (g.R.CommentReader.comments l.reader) l.traced) l.same_rules l.running (turned l.initial.left l.initial.kept) (λ before old.
+    HasWalked (grammars_of (g.R.TreeReader.spells l.reader) (g.R.TreeReader.knows l.reader) (g.R.CommentReader.comments l.reader) l.traced) l.running old (map lent (take l.path-index l.path-items)) (map_of l.initial.kept) l.initial.steps (map_of l.kept) l.steps l.seen
     × HasPassed (map lent (take l.path-index l.path-items)) l.initial.left l.left)

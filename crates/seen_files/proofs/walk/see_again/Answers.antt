@@ -26,7 +26,7 @@ returns-then-same_rules-clause-file g c =
 
 pub returns-then-same_rules-clause-seen : goal.returns-then-same_rules-clause-seen
 returns-then-same_rules-clause-seen g c before same apart seen =
-    let P : List Rule → Type 0 = λ rs. IsSeen (grammars_of (g.R.TreeReader.spells c.args.reader.now) (g.R.TreeReader.knows c.args.reader.now) (g.R.CommentReader.comments c.args.reader.now)) rs c.args.was in
+    let P : List Rule → Type 0 = λ rs. IsSeen (grammars_of (g.R.TreeReader.spells c.args.reader.now) (g.R.TreeReader.knows c.args.reader.now) (g.R.CommentReader.comments c.args.reader.now) c.args.traced) rs c.args.was in
     subst P (sym (same c.if-same_rules.true)) seen
 
 pub returns-then-same_rules-clause-kept : goal.returns-then-same_rules-clause-kept

@@ -23,7 +23,7 @@ see_again-requires g c = let P : Option SeenFile → Type 0 = λ o. IfSome o (λ
 
 pub returns-in-Some-clause-seen : goal.returns-in-Some-clause-seen
 returns-in-Some-clause-seen g c before same apart seen =
-    let P : Option SeenFile → Type 0 = λ o. IfSome o (IsSeen (grammars_of (g.R.TreeReader.spells c.args.reader.now) (g.R.TreeReader.knows c.args.reader.now) (g.R.CommentReader.comments c.args.reader.now)) before) in
+    let P : Option SeenFile → Type 0 = λ o. IfSome o (IsSeen (grammars_of (g.R.TreeReader.spells c.args.reader.now) (g.R.TreeReader.knows c.args.reader.now) (g.R.CommentReader.comments c.args.reader.now) c.args.traced) before) in
     c.see_again.ensures.seen before same apart (subst P c.in-Some.is seen)
 
 pub returns-in-Some-clause-kept : goal.returns-in-Some-clause-kept

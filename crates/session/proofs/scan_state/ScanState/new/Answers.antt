@@ -6,4 +6,4 @@ use Rattle.session.proofs.scan_state.ScanState.new.Goals as goal
 pub invariant_of-result : goal.invariant_of-result
 invariant_of-result g c =
     let r = c.new.result.reader in
-    none_seen (grammars_of (g.R.TreeReader.spells r) (g.R.TreeReader.knows r) (g.R.CommentReader.comments r)) (g.R.PatternReader.writes r) c.new.result.files c.new-2.result c.new-3.result false refl c.new-3.ensures
+    none_seen (grammars_of (g.R.TreeReader.spells r) (g.R.TreeReader.knows r) (g.R.CommentReader.comments r) c.args.traced) (g.R.PatternReader.writes r) c.new.result.files c.new-2.result c.new-3.result false refl c.new-3.ensures

@@ -15,7 +15,7 @@ use Rattle.session.proofs.session.SessionWorkspace.fix.Goals as goal
 pub returns-in-Err-TooMany-clause-too_many : goal.returns-in-Err-TooMany-clause-too_many
 returns-in-Err-TooMany-clause-too_many g c n e =
     let r = c.args.self.now.scans.rules.reader in
-    let P : ℕ → Type 0 = λ m. (m ≡ c.args.self.now.most) × HasMoreResults (readings_of (g.R.TreeReader.spells r) (g.R.TreeReader.knows r) (g.R.CommentReader.comments r) (g.R.PatternReader.writes r)) c.scan.new.self.scans.decided.refused c.args.self.now.files c.args.self.now.scans.rules.files m in
+    let P : ℕ → Type 0 = λ m. (m ≡ c.args.self.now.most) × HasMoreResults (readings_of (g.R.TreeReader.spells r) (g.R.TreeReader.knows r) (g.R.CommentReader.comments r) (g.R.PatternReader.writes r) c.args.self.now.scans.traced) c.scan.new.self.scans.decided.refused c.args.self.now.files c.args.self.now.scans.rules.files m in
     subst P (ap most_of e) (c.in-Err-TooMany.ensures.too_many c.in-Err-TooMany.most (ap Err c.in-Err-TooMany.field-0-is))
 
 pub fixed_files-requires : goal.fixed_files-requires
@@ -35,7 +35,7 @@ pub returns-in-Ok-replace_all-clause-only : goal.returns-in-Ok-replace_all-claus
 returns-in-Ok-replace_all-clause-only g c =
     let r = c.args.self.now.scans.rules.reader in
     let F : Files → Type 0 = λ fs. AreFixed c.in-Ok.report.results fs c.in_ok-files.files in
-    only_fixed (readings_of (g.R.TreeReader.spells r) (g.R.TreeReader.knows r) (g.R.CommentReader.comments r) (g.R.PatternReader.writes r)) c.scan.new.self.scans.decided.refused c.args.self.now.files c.args.self.now.scans.rules.files c.in-Ok.report c.in_ok-files.files c.in-Ok.ensures.only
+    only_fixed (readings_of (g.R.TreeReader.spells r) (g.R.TreeReader.knows r) (g.R.CommentReader.comments r) (g.R.PatternReader.writes r) c.args.self.now.scans.traced) c.scan.new.self.scans.decided.refused c.args.self.now.files c.args.self.now.scans.rules.files c.in-Ok.report c.in_ok-files.files c.in-Ok.ensures.only
     (subst F (ap (λ (s : State). s.files) c.in-Ok.ensures.same) c.in_ok-files.ensures)
 
 pub returns-clause-over : goal.returns-clause-over
