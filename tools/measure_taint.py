@@ -1,10 +1,10 @@
 #!/usr/bin/env python3
-"""Measures what a rule that follows data adds to a scan.
+"""Measures what a rule that follows data adds to a scan, and what traces add to that.
 
     tools/measure_taint.py [PROGRAM]
 
 PROGRAM is the program as `./semscan` built it, if none is given. It scans one generated file by a rule for calls that the file lacks, and by a
-rule that follows data from `src(...)` to `sink(...)`; processor times of whole runs, each the least of three.
+rule that follows data from `src(...)` to `sink(...)`, without `--trace` and with it; processor times of whole runs, each the least of three.
 """
 import json
 import os
@@ -65,9 +65,10 @@ def main():
                     f.write(text(size))
                 plain, _ = took([program, 'scan', '--config', 'plain.yaml', 'src'], folder)
                 taint, line = took([program, 'scan', '--config', 'taint.yaml', 'src'], folder)
+                traced, _ = took([program, 'scan', '--trace', '--config', 'taint.yaml', 'src'], folder)
                 report = json.loads(line)
-                print('%6d %-42s plain %6.1f ms, taint %6.1f ms, ratio %.2f; %d findings, %d notices' % (
-                    size, name + ':', 1e3 * plain, 1e3 * taint, taint / plain, len(report['results']), len(report['notices'])))
+                print('%6d %-42s plain %6.1f ms, taint %6.1f ms, ratio %.2f, traced %6.1f ms; %d findings, %d notices' % (
+                    size, name + ':', 1e3 * plain, 1e3 * taint, taint / plain, 1e3 * traced, len(report['results']), len(report['notices'])))
 
 
 if __name__ == '__main__':
