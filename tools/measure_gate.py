@@ -4,9 +4,10 @@
     python3 tools/measure_gate.py [WORDS]
 
 runs `rt ci` with these words (a kit that keeps what it proved wants `--anew`) at the repository's top, prints what it prints, and then a table: for each crate the processor
-minutes of its own proof, of its tests' proofs and of its must-fail edits (the seed that they begin with among them), and the
-most memory that one process of them held. It looks at the processes once a second, so what ends between two looks is lost:
-the sums are a little too small. It ends with the status of `rt ci`.
+minutes of its own proof, of its tests' proofs and of its must-fail edits (the seed that they begin with among them), when its
+proof ended, in minutes after the start, and the most memory that one process of them held. The row `rt` is what `rt` itself
+computed. It looks at the processes once a second, so what ends between two looks is lost: the sums are a little too small. It
+ends with the status of `rt ci`.
 """
 import os
 import subprocess
@@ -44,45 +45,47 @@ def crate_and_kind(pid):
     return name, 'tests' if '--test' in words else 'proof'
 
 
-def look(session, seconds, most):
-    """Notes what each process of the session has taken so far."""
+def look(session, seconds, most, last):
+    """Notes what each process of the session has taken so far, and when each kind of work was seen last."""
     for pid in (name for name in os.listdir('/proc') if name.isdigit()):
         try:
             of, time_taken, held = spent(pid)
-            work = crate_and_kind(pid) if of == session else None
+            work = of == session and (('rt', 'proof') if int(pid) == session else crate_and_kind(pid))
         except OSError:
             continue
         if work:
             seconds[pid, work] = time_taken
             most[work] = max(most.get(work, 0), held)
+            last[work] = time.time()
 
 
-def table(seconds, most):
+def table(seconds, most, last, begun):
     """The lines of the table, the dearest crate first."""
     sums = {}
     for (_, work), time_taken in seconds.items():
         sums[work] = sums.get(work, 0) + time_taken
     total = {kind: sum(taken for (_, of), taken in sums.items() if of == kind) for kind in KINDS}
-    yield '| Crate | Proof | Tests | Edits | Most memory |'
-    yield '|---|---|---|---|---|'
-    yield '| all | ' + ' | '.join(f'{total[kind] / 60:.1f}' for kind in KINDS) + ' | |'
+    yield '| Crate | Proof | Tests | Edits | Proved after | Most memory |'
+    yield '|---|---|---|---|---|---|'
+    yield '| all | ' + ' | '.join(f'{total[kind] / 60:.1f}' for kind in KINDS) + ' | | |'
     crates = {name: sum(sums.get((name, kind), 0) for kind in KINDS) for name, _ in sums}
     for name in sorted(crates, key=lambda it: -crates[it]):
         cells = [f'{sums.get((name, kind), 0) / 60:.1f}' for kind in KINDS]
         memory = max(most.get((name, kind), 0) for kind in KINDS)
-        yield f'| `{name}` | ' + ' | '.join(cells) + f' | {memory / 1e9:.1f} GB |'
+        ended = (last.get((name, 'proof'), begun) - begun) / 60
+        yield f'| `{name}` | ' + ' | '.join(cells) + f' | {ended:.0f} | {memory / 1e9:.1f} GB |'
 
 
 def main():
     begun, load = time.time(), os.getloadavg()[0]
     run = subprocess.Popen(['rt', 'ci', *sys.argv[1:]], cwd=TOP, start_new_session=True)
-    seconds, most = {}, {}
+    seconds, most, last = {}, {}, {}
     while run.poll() is None:
-        look(run.pid, seconds, most)
+        look(run.pid, seconds, most, last)
         time.sleep(1)
     minutes = (time.time() - begun) / 60
     print(f'\n{minutes:.1f} minutes by the clock on {os.cpu_count()} processors, whose load was {load:.1f} when it began\n')
-    print('\n'.join(table(seconds, most)))
+    print('\n'.join(table(seconds, most, last, begun)))
     sys.exit(run.returncode)
 
 
