@@ -42,7 +42,7 @@ def written_edits(value: Any, report: Report) -> dict[str, list[Edit]]:
         path = member(file, 'path', str, where)
         before = 0
         for entry in member(file, 'ranges', list, where):
-            if type(entry) is not list or (path, *entry) not in offered or entry[0] < before:
+            if type(entry) is not list or [type(part) for part in entry] != [int, int, str] or (path, *entry) not in offered or entry[0] < before:
                 raise bad('%s has a range that is no fix of a result, or stands out of order' % where)
             edits.setdefault(path, []).append(Edit(*entry))
             before = entry[1]

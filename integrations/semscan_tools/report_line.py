@@ -83,7 +83,7 @@ def source_of(extra: dict, where: str) -> Optional[tuple[int, int]]:
 def trace_of(extra: dict, where: str) -> tuple[tuple[int, str], ...]:
     """The points on the way from a source to a sink, if the report says them."""
     points = []
-    for point in extra.get('trace', []):
+    for point in member(extra, 'trace', list, where) if 'trace' in extra else ():
         if type(point) is not list or [type(part) for part in point] != [int, str] or point[0] < 0:
             raise bad('%s has a trace with a point that is none' % where)
         points.append((point[0], point[1]))

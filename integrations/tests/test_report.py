@@ -1,10 +1,21 @@
 """semscan-report: the text for people, colours, words and bad input."""
+import json
 import os
 import pty
 import subprocess
 import sys
 
 from .support import INTEGRATIONS, InFolder, line, needs_program, notice, put, result, run
+
+from semscan_tools.fix_diff import diff_lines
+from semscan_tools.fixes import read_edits
+from semscan_tools.gitlab import gitlab_of
+from semscan_tools.refusal import Refusal
+from semscan_tools.report_line import read_report
+from semscan_tools.sarif import sarif_of
+from semscan_tools.screen import Pen
+from semscan_tools.sources import read_sources
+from semscan_tools.text_report import report_lines
 
 PYTHON = b'def show(terms):\n    return eval(terms)\n'
 WIDE = 'x = "\u6f22\u5b57"; \tf(1)\n'.encode()
@@ -66,6 +77,14 @@ a.py:1:1: error: m [r]
      9 |     pass
        |     ^^^^
 """
+
+
+def places_of(value):
+    """All places inside a value of JSON: a list or an object, and the index or key of one of its items."""
+    for key in value if isinstance(value, dict) else range(len(value)):
+        yield value, key
+        if isinstance(value[key], (dict, list)):
+            yield from places_of(value[key])
 
 
 class Texts(InFolder):
@@ -192,8 +211,6 @@ class BadInput(InFolder):
         self.ends(run('semscan-report', cwd=self.folder, stdin=given), 2, said)
 
     def test_line_that_is_cut_off(self):
-        from semscan_tools.refusal import Refusal
-        from semscan_tools.report_line import read_report
         whole = line([result(PYTHON, b'eval', fix='\u00e9')], [notice('NoTree', 'a.py')])
         read_report(whole)
         for end in range(len(whole) - 1):
@@ -213,7 +230,29 @@ class BadInput(InFolder):
         self.refuses(b'{"notices":[],"results":[{"check_id":"\\ud800"}]}', b"can't be read")
         self.refuses(line([result(b'f', b'f', path='../a.py')]), b'has the path')
         self.refuses(line([result(b'f', b'f', trace=[['x']])]), b'a trace with a point that is none')
+        self.refuses(line([result(b'f', b'f', trace=None)]), b'result 1 has no trace')
         self.refuses(line([result(b'f', b'f', source=[2, 1])]), b'a source that is no range')
+
+    def test_values_of_other_kinds(self):
+        """Whatever stands in the place of one value of a report, it is read or refused."""
+        self.put('a.py', FLOW)
+        start = FLOW.index(b'run(t)')
+        whole = json.loads(line([result(FLOW, b'run(t)', source=[17, 23], trace=[[13, 'Head']], fix='x')], [notice('NoTree', 'a.py')]))
+        whole['fixed'] = [{'path': 'a.py', 'ranges': [[start, start + 6, 'x']]}]
+        read_edits(json.dumps(whole).encode())
+        for holder, key in list(places_of(whole)):
+            before = holder[key]
+            for value in (None, True, -1, 10**30, 1.5, '', [], [[1]], {}, [float(start), start + 6, 'x'], [start, start + 6, ['x']]):
+                holder[key] = value
+                try:
+                    report, edits = read_edits(json.dumps(whole).encode())
+                    sources = read_sources(self.folder, report)
+                    written = [*report_lines(report, sources, Pen(False)), sarif_of(report, sources), gitlab_of(report, sources)]
+                    written += [list(diff_lines(path, sources[path], edits[path])) for path in edits]
+                    self.assertTrue(written)
+                except Refusal as refusal:
+                    self.assertEqual(refusal.status, 2)
+            holder[key] = before
 
     def test_file_that_is_not_there(self):
         self.ends(run('semscan-report', 'none', cwd=self.folder), 2, b"none can't be read: No such file")
@@ -234,6 +273,27 @@ class BadInput(InFolder):
         content = '\u00e9f(1)'.encode()
         self.put('a.py', content)
         self.refuses(line([result(b'xxf(1)', b'xf(1)')]), b'no text from byte')
+
+    def test_output_that_cannot_be_written(self):
+        """It is no finding, so the status is another one than 1, and it is told."""
+        self.put('a.py', PYTHON)
+        self.put('report', line([result(PYTHON, b'eval', fix='parse')]))
+        self.put('rules.yaml', RULES)
+        for words in ('semscan-report report', 'semscan-report --sarif report', 'semscan-report --gitlab report', 'semscan-fix report',
+                      'semscan-rules join rules.yaml'):
+            for target, said in (('/dev/full', b'No space left on device'), ('&-', b'Bad file descriptor')):
+                found = self.in_shell('%s >%s' % (words, target))
+                self.assertEqual((found.returncode, found.stderr.count(b'\n')), (5, 1), found.stderr)
+                self.assertIn(b"standard output can't be written: " + said, found.stderr)
+
+    def in_shell(self, words):
+        """A run of a program of this folder by a shell."""
+        return subprocess.run(['sh', '-c', '%s %s/%s' % (sys.executable, INTEGRATIONS, words)], cwd=self.folder, capture_output=True, check=False)
+
+    def test_streams_that_are_closed(self):
+        for words in ('semscan-report', 'semscan-fix'):
+            self.ends(self.in_shell(words + ' <&-'), 2, b'the scan printed nothing')
+            self.assertEqual(self.in_shell(words + ' none 2>&-').returncode, 2)
 
     def test_place_to_save_that_cannot_be_written(self):
         self.ends(run('semscan-report', '--save', 'none/report', cwd=self.folder, stdin=line()), 2, b"can't be written")
