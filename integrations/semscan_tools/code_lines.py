@@ -14,22 +14,28 @@ def gutter(number: str, sign: str = '|') -> str:
     return '%6s %s ' % (number, sign)
 
 
-def window(length: int, first: int, last: int) -> tuple[int, int]:
-    """The part of a long line that is shown: where it begins and ends, so that the range from first to last can be seen."""
+def window(length: int, first: int) -> tuple[int, int]:
+    """The part of a long line that is shown: where it begins and ends, so that a range that begins at first can be seen."""
     if length <= MOST_WIDTH:
         return 0, length
     start = max(0, min(first - BEFORE, length - MOST_WIDTH))
     return start, min(length, start + MOST_WIDTH)
 
 
+def shown_part(text: str, at: int) -> str:
+    """A line as it is shown; of a long one the part around a character."""
+    start, end = window(len(text), at)
+    return ('...' if start else '') + plain(text[start:end]) + ('...' if end < len(text) else '')
+
+
 def line_with_carets(number: int, text: str, first: int, last: int, pen: Pen, colour: str) -> Iterator[str]:
     """A line and its carets, under the characters from first to last, at least one."""
-    cells = laid_out(text)
-    start, end = window(len(cells), first, last)
-    head, tail = '...' if start else '', '...' if end < len(cells) else ''
-    yield (pen.paint(gutter(str(number)), 'faint') + head + ''.join(piece for piece, _ in cells[start:end]) + tail).rstrip(' ')
-    before = len(head) + sum(cells_of for _, cells_of in cells[start:first])
-    under = sum(cells_of for _, cells_of in cells[max(start, first):min(end, last)])
+    start, end = window(len(text), first)
+    cells = laid_out(text[start:end])
+    head, tail = '...' if start else '', '...' if end < len(text) else ''
+    yield (pen.paint(gutter(str(number)), 'faint') + head + ''.join(piece for piece, _ in cells) + tail).rstrip(' ')
+    before = len(head) + sum(cells_of for _, cells_of in cells[:first - start])
+    under = sum(cells_of for _, cells_of in cells[first - start:last - start])
     yield pen.paint(gutter(''), 'faint') + ' ' * before + pen.paint('^' * max(1, under), colour)
 
 
@@ -73,9 +79,9 @@ def lines_of_fix(source: SourceFile, finding: Finding) -> tuple[list[str], list[
 
 
 def diff_of(source: SourceFile, finding: Finding, pen: Pen) -> Iterator[str]:
-    """The fix as a small diff: lines that stay are left out."""
+    """The fix as a small diff: lines that stay are left out, and of long ones what is far from the fix."""
     old, new = lines_of_fix(source, finding)
-    line = finding.start.line
+    line, column = finding.start.line, source.column(finding.start.offset)
     while old and new and old[0] == new[0]:
         old, new, line = old[1:], new[1:], line + 1
     while old and new and old[-1] == new[-1]:
@@ -85,5 +91,6 @@ def diff_of(source: SourceFile, finding: Finding, pen: Pen) -> Iterator[str]:
         return
     yield '  fix:'
     for sign, lines, colour in (('-', old, 'minus'), ('+', new, 'plus')):
-        for place, text in enumerate(lines):
-            yield pen.paint(gutter(str(line + place), sign) + plain(text), colour)
+        for place, text in enumerate(lines, line):
+            at = column - 1 if place == finding.start.line else 0
+            yield pen.paint(gutter(str(place), sign) + shown_part(text, at), colour)

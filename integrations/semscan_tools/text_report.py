@@ -2,7 +2,7 @@
 from collections import Counter
 from typing import Iterable, Iterator
 
-from .code_lines import code_of, diff_of, gutter
+from .code_lines import code_of, diff_of, gutter, shown_part
 from .report_line import SEVERITIES, Finding, Notice, Report
 from .screen import OF_SEVERITY, Pen, plain
 from .sources import SourceFile, by_path
@@ -42,10 +42,10 @@ def steps_lines(source: SourceFile, finding: Finding, pen: Pen) -> Iterator[str]
     for count, step in enumerate(steps_of(finding), 1):
         if count == 1:
             yield '  data flows:'
-        line = source.line_at(step.start)
+        line, column = source.line_at(step.start), source.column(step.start)
         yield '%s%s:%d:%d: %s: %s' % (
-            pen.paint(gutter(str(count)), 'faint'), plain(finding.path), line, source.column(step.start),
-            step.label, plain(source.line_text(line).strip()))
+            pen.paint(gutter(str(count)), 'faint'), plain(finding.path), line, column,
+            step.label, shown_part(source.line_text(line), column - 1).strip())
 
 
 def finding_lines(source: SourceFile, finding: Finding, pen: Pen) -> Iterator[str]:

@@ -4,6 +4,7 @@ import os
 import pty
 import subprocess
 import sys
+import time
 
 from .support import INTEGRATIONS, InFolder, line, needs_program, notice, put, result, run
 
@@ -14,7 +15,7 @@ from semscan_tools.refusal import Refusal
 from semscan_tools.report_line import read_report
 from semscan_tools.sarif import sarif_of
 from semscan_tools.screen import Pen
-from semscan_tools.sources import read_sources
+from semscan_tools.sources import SourceFile, read_sources
 from semscan_tools.text_report import report_lines
 
 PYTHON = b'def show(terms):\n    return eval(terms)\n'
@@ -131,6 +132,24 @@ class Texts(InFolder):
         code, carets = text.split('\n')[3:5]
         self.assertLess(len(code), 200)
         self.assertEqual(code[carets.index('^'):carets.rindex('^') + 1], 'f(1)')
+
+    def test_many_findings_in_one_long_line(self):
+        """Of a line of a megabyte, as programs write JSON, only what is near a finding is looked at and shown."""
+        unit = b'{"a": "\xc3\xa9"},\t'
+        content = unit * (900_000 // len(unit))
+        found = [result(content, b'"a"', fix='"b"', source=[at, at + 1], trace=[[at, 'Head']], at=at)
+                 for at in range(1_000 * len(unit), 50_000 * len(unit), 1_000 * len(unit))]
+        source = SourceFile(content)
+        begin = time.process_time()
+        lines = list(report_lines(read_report(line(found)), {'a.py': source}, Pen(False)))
+        self.assertLess(time.process_time() - begin, 15)
+        self.assertLess(max(map(len, lines)), 250)
+        carets = [at for at, text in enumerate(lines) if '^' in text]
+        self.assertEqual(len(carets), 49)
+        for at in carets:
+            self.assertEqual(lines[at - 1][lines[at].index('^'):].partition(':')[0], '"a"')
+            self.assertIn('"a"', lines[at + 2])
+            self.assertIn('"b"', lines[at + 3])
 
     def test_text_cannot_steer_the_terminal(self):
         content = 'f("\x1b[2J\u202e")\n'.encode()
