@@ -49,6 +49,8 @@ class Board:
         self.say = say
         self.log = log
         self.encoding = 'utf-16'
+        self.with_steps = False
+        self.complaint = ''
         self.lock = threading.Lock()
         self.results: dict[str, list[dict[str, Any]]] = {}
         self.behind: set[str] = set()
@@ -57,18 +59,24 @@ class Board:
 
     def take(self, wanted: Wanted, changed: set[str], value: dict[str, Any]) -> set[str]:
         """Shows a report. Which files aren't as the session knows them comes back."""
+        self.behind |= changed
         if 'too_many' in value:
-            self.behind |= changed
-            self.say(1, 'there are more than %s findings, so none of this scan are shown; the setting max says how many may be' % value['too_many'])
+            self.complain('there are more than %s findings, so none of this scan are shown; the setting max says how many may be' % value['too_many'])
             return set()
         try:
-            stale = self.show_results(wanted, changed | self.behind, by_path(value['results']))
+            stale = self.show_results(wanted, self.behind, by_path(value['results']))
             self.show_notices(value['notices'])
         except (KeyError, TypeError, Refusal) as error:
-            self.say(1, "a report of semscan can't be read: %s" % error)
+            self.complain("a report of semscan can't be read: %s" % error)
             return set()
-        self.behind = set()
+        self.behind, self.complaint = set(), ''
         return stale
+
+    def complain(self, words: str) -> None:
+        """Tells why a report isn't shown: once, until one is shown again, since a scan follows each change."""
+        if words != self.complaint:
+            self.say(1, words)
+        self.complaint = words
 
     def show_results(self, wanted: Wanted, changed: set[str], results: dict[str, list[dict[str, Any]]]) -> set[str]:
         stale = set()
@@ -87,7 +95,7 @@ class Board:
         uri = document.uri if document else wanted.workspace.uri_of(path)
         text = document.text if document else (wanted.workspace.text(path, self.encoding) if findings else Text(b''))
         here = [finding for finding in findings if has_place(finding, text)]
-        shown = Shown(text, here, [diagnostic(finding, text, uri) for finding in here], uri)
+        shown = Shown(text, here, [diagnostic(finding, text, uri, self.with_steps) for finding in here], uri)
         with self.lock:
             before = self.files.pop(path, None)
             if here:

@@ -17,10 +17,11 @@ def related(finding: Finding, text: Text, uri: str) -> list[dict[str, Any]]:
             for step in steps_of(finding)[:-1]]
 
 
-def diagnostic(finding: Finding, text: Text, uri: str) -> dict[str, Any]:
+def diagnostic(finding: Finding, text: Text, uri: str, with_steps: bool) -> dict[str, Any]:
+    """A finding as a diagnostic, with its steps where the editor takes them."""
     found = {'range': text.range(finding.start.offset, finding.end.offset), 'severity': LEVELS.get(finding.severity, 1),
              'code': finding.rule, 'source': 'semscan', 'message': finding.message.strip() or finding.rule}
-    steps = related(finding, text, uri)
+    steps = related(finding, text, uri) if with_steps else []
     return {**found, 'relatedInformation': steps} if steps else found
 
 
@@ -47,16 +48,16 @@ def is_wanted(kind: str, only: Optional[list[str]]) -> bool:
     return only is None or any(kind == wanted or kind.startswith(wanted + '.') or not wanted for wanted in only)
 
 
-def actions(document: Document, findings: list[Finding], start: int, end: int, only: Optional[list[str]],
+def actions(document: Document, shown: list[tuple[Finding, dict[str, Any]]], start: int, end: int, only: Optional[list[str]],
             with_versions: bool) -> Iterator[dict[str, Any]]:
-    """An action for the fix of each finding that touches the range, and one for all fixes of the document."""
+    """Of findings with their diagnostics: an action for the fix of each that touches the range, and one for all fixes of the document."""
     if is_wanted(ONE, only):
-        for finding in findings:
+        for finding, said in shown:
             if finding.fix is not None and finding.start.offset <= end and start <= finding.end.offset:
                 edit = Edit(finding.start.offset, finding.end.offset, finding.fix)
-                yield {'title': 'Fix %s' % finding.rule, 'kind': ONE, 'diagnostics': [diagnostic(finding, document.text, document.uri)],
+                yield {'title': 'Fix %s' % finding.rule, 'kind': ONE, 'diagnostics': [said],
                        'edit': workspace_edit(document, [edit], with_versions)}
-    edits = chosen_edits(findings)
+    edits = chosen_edits(finding for finding, _ in shown)
     if edits and is_wanted(ALL, only):
         yield {'title': 'Fix all findings of semscan in this file (%d)' % len(edits), 'kind': ALL,
                'edit': workspace_edit(document, edits, with_versions)}

@@ -140,6 +140,7 @@ class Server:
             raise ValueError('%s is no folder' % self.folder)
         encodings = has(self.client, 'general', 'positionEncodings') or []
         self.board.encoding = UTF_8 if 'utf-8' in encodings else UTF_16
+        self.board.with_steps = has(self.client, 'textDocument', 'publishDiagnostics', 'relatedInformation') is True
         self.take_settings(params.get('initializationOptions'))
         if not named:
             self.say(2, 'the editor named no folder, so nothing is scanned: open a folder')
@@ -249,4 +250,4 @@ class Server:
         start, end = (document.text.offset(params['range'][key]) for key in ('start', 'end'))
         only = (params.get('context') or {}).get('only')
         with_versions = bool(has(self.client, 'workspace', 'workspaceEdit', 'documentChanges'))
-        return list(actions(document, shown.findings, start, end, only, with_versions))
+        return list(actions(document, list(zip(shown.findings, shown.diagnostics)), start, end, only, with_versions))

@@ -1,8 +1,8 @@
 #!/usr/bin/env python3
 """A stand-in for the program in tests of what stands around it: it has the words `session`, and `fix --dryrun`, for rules of regular expressions.
 
-It finds what `pattern-regex` of each rule finds in the bytes of each file, tells a rule without one and a file of Python that
-can't be read, and keeps to the protocol of the session: the commands, their output, the limits and how a run ends.
+It finds what `pattern-regex` of each rule finds in the bytes of each file, for a rule with `pattern-sinks` a flow, tells a rule
+without either and a file of Python that can't be read, and keeps to the protocol of the session: the commands, their output, the limits and how a run ends.
 
 Files in the folder that FAKE names steer it: `die` ends it with status 3 at a scan, once; `die always` at every scan; `log` gets each command.
 """
@@ -85,6 +85,17 @@ def results_of(rule, path, content):
         yield {'check_id': rule['id'], 'end': place(content, found.end()), 'extra': extra, 'path': path, 'start': place(content, found.start())}
 
 
+def flows_of(rule, path, content, with_traces):
+    """The results of a rule that follows data, whatever it says: from the first read() of a file without blocks to each run(..) below."""
+    source = re.search(rb'read\(\)', content)
+    for found in re.finditer(rb'^run\(\w*\)', content, re.MULTILINE):
+        if source and source.end() < found.start():
+            extra = {'message': rule['message'], 'metavars': {}, 'severity': rule['severity'], 'source': [source.start(), source.end()]}
+            if with_traces:
+                extra['trace'] = [[start.start(), 'Head'] for start in re.finditer(rb'^', content[:found.end()], re.MULTILINE)]
+            yield {'check_id': rule['id'], 'end': place(content, found.end()), 'extra': extra, 'path': path, 'start': place(content, found.start())}
+
+
 def fault_of(path, content):
     if len(content) > 1_000_000:
         return 'TooLarge'
@@ -98,12 +109,12 @@ def fault_of(path, content):
         return 'NoTree'
 
 
-def report(files, rules):
+def report(files, rules, with_traces):
     """The report of a scan as a value."""
     notices, results, good = [], [], []
     for name in sorted(rules):
         for at, rule in enumerate(entries(rules[name])):
-            if 'pattern-regex' in rule:
+            if 'pattern-regex' in rule or 'pattern-sinks' in rule:
                 good.append(rule)
             else:
                 notices.append({'detail': 'rules.%d' % at, 'kind': 'MissingKey', 'path': name, 'rule': rule['id']})
@@ -112,7 +123,8 @@ def report(files, rules):
         if kind:
             notices.append({'detail': '', 'kind': kind, 'path': path, 'rule': ''})
         if kind not in ('TooLarge', 'NotUtf8'):
-            found = [result for rule in good for result in results_of(rule, path, files[path])]
+            found = [result for rule in good for result in (
+                results_of(rule, path, files[path]) if 'pattern-regex' in rule else flows_of(rule, path, files[path], with_traces))]
             results += sorted(found, key=lambda result: (result['start']['offset'], result['end']['offset'], result['check_id']))
     return {'notices': sorted(notices, key=lambda notice: (notice['path'], notice['rule'])), 'results': results}
 
@@ -176,7 +188,7 @@ def over(count, most):
         end(8, 'over limit %d' % count)
 
 
-def session(most):
+def session(most, with_traces):
     """Runs the commands of a stream."""
     stream, files, rules = Stream(), {}, {}
     while True:
@@ -203,7 +215,7 @@ def session(most):
                 over(len(files), 10_000)
         else:
             steered()
-            value = report(files, rules)
+            value = report(files, rules, with_traces)
             too_many = len(value['results']) > most
             answer({'too_many': most} if too_many else value if word == 'scan' else fixed(value, files))
 
@@ -213,13 +225,14 @@ def fix(words):
     config, prefix = words[words.index('--config') + 1], words[-1]
     files = dict(listed(prefix))
     with open(config, 'rb') as file:
-        answer(fixed(report(files, {config: file.read()}), files))
+        answer(fixed(report(files, {config: file.read()}, '--trace' in words), files))
 
 
 def main():
     words = sys.argv[1:]
-    if words[:1] == ['session'] and (len(words) == 1 or words[1] == '--max'):
-        session(int(words[2]) if len(words) > 1 else 50_000)
+    options = [word for word in words[1:] if word != '--trace']
+    if words[:1] == ['session'] and options[:1] in ([], ['--max']):
+        session(int(options[1]) if options else 50_000, '--trace' in words)
     elif words[:1] == ['fix'] and '--dryrun' in words:
         fix(words)
     else:

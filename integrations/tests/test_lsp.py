@@ -40,6 +40,17 @@ BAD_RULE = """\
   severity: ERROR
   message: nothing.
 """
+FLOW_RULE = """\
+- id: flow
+  mode: taint
+  languages: [python]
+  severity: ERROR
+  message: data runs.
+  pattern-sources:
+  - pattern: read()
+  pattern-sinks:
+  - pattern: run($X)
+"""
 WIDE = 'a = "\U0001f600\u00e9\u6f22"; eval(x)\n'
 
 
@@ -142,6 +153,31 @@ class Conversations:
         edit, = editor.actions('a.py', 0, only=['quickfix'])[0]['edit']['changes'][editor.uri('a.py')]
         editor.change('a.py', 2, {'range': edit['range'], 'text': 'print'})
         self.assertEqual(editor.diagnostics('a.py', 1), [('no-print', (0, 17), (0, 22))])
+
+    def steps(self, accepts, **settings):
+        """The steps that an editor is shown of a finding of tainted data: message, begin and end; None where it is shown none."""
+        self.put('.semscan/rules.yaml', RULES + FLOW_RULE)
+        editor = self.editor()
+        editor.begin({**CAPABILITIES, 'textDocument': {'codeAction': {}, **accepts}}, initializationOptions=settings)
+        editor.open('a.py', 's = "\U0001f600" + read()\nrun(s)\n')
+        self.assertEqual(editor.diagnostics('a.py', 1), [('flow', (1, 0), (1, 6))])
+        found, = editor.shown[editor.uri('a.py')]
+        for step in found.get('relatedInformation', []):
+            self.assertEqual(step['location']['uri'], editor.uri('a.py'))
+        editor.end()
+        if 'relatedInformation' not in found:
+            return None
+        return [(step['message'], *((step['location']['range'][end]['line'], step['location']['range'][end]['character']) for end in ('start', 'end')))
+                for step in found['relatedInformation']]
+
+    def test_steps_of_tainted_data(self):
+        """They go as related information to editors that say that they take it."""
+        accepts = {'publishDiagnostics': {'relatedInformation': True}}
+        source = ('source', (0, 11), (0, 17))
+        self.assertEqual(self.steps(accepts), [source])
+        self.assertEqual(self.steps(accepts, trace=True), [('runs', (0, 0), (0, 0)), source, ('runs', (1, 0), (1, 0))])
+        self.assertIsNone(self.steps({'publishDiagnostics': {'relatedInformation': False}}, trace=True))
+        self.assertIsNone(self.steps({}, trace=True))
 
     def test_bad_rule_that_is_mended(self):
         self.put('.semscan/rules.yaml', RULES + BAD_RULE)
@@ -360,6 +396,25 @@ class OverTheFake(Conversations, InFolder):
             editor.change('a.py', version, {'text': 'eval(x)\n' * version})
         self.assertEqual(len(editor.diagnostics('a.py', 11)), 11)
         self.assertEqual(self.commands(room).count('scan '), before + 1)
+
+    def test_too_many_findings_are_told_once(self):
+        """While one types on, and again once there were few enough."""
+        room = self.steering()
+        editor = self.editor('--max', '1', FAKE=room)
+        editor.begin()
+        editor.open('a.py', 'eval(x)\neval(x)\n')
+        editor.message('there are more than 1 findings')
+        before = self.commands(room).count('scan ')
+        editor.change('a.py', 2, {'text': 'eval(x)\n' * 3})
+        for _ in range(600):
+            if self.commands(room).count('scan ') > before:
+                break
+            time.sleep(0.05)
+        editor.change('a.py', 3, {'text': 'eval(x)\n'})
+        editor.diagnostics('a.py', 1)
+        self.assertFalse([message for message in editor.said if 'more than' in str(message)])
+        editor.change('a.py', 4, {'text': 'eval(x)\n' * 2})
+        editor.message('there are more than 1 findings')
 
     def test_stream_that_is_full(self):
         """A session's stream has a greatest length. Where it is reached, a new session goes on, and nobody notices."""
