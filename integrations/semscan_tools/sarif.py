@@ -19,6 +19,11 @@ def weaknesses(message: str) -> list[str]:
     return list(dict.fromkeys(re.findall(r'\bCWE-([0-9]{1,4})\b', message)))
 
 
+def message_of(text: str) -> dict:
+    """A text as a message. Braces stand for arguments there, so those of the text are doubled (SARIF 2.1.0, section 3.11.5)."""
+    return {'text': text.replace('{', '{{').replace('}', '}}')}
+
+
 def artifact(path: str) -> dict:
     return {'uri': quote(path, safe='/'), 'uriBaseId': '%SRCROOT%'}
 
@@ -35,7 +40,7 @@ def location(source: SourceFile, path: str, start: int, end: int, message: Optio
     until = end if end > start else max(end, source.line_end(source.line_at(end)))
     found: dict[str, Any] = {'physicalLocation': {'artifactLocation': artifact(path), 'region': region(source, start, until)}}
     if message is not None:
-        found['message'] = {'text': message}
+        found['message'] = message_of(message)
     return found
 
 
@@ -46,14 +51,14 @@ def code_flow(source: SourceFile, finding: Finding) -> dict:
 
 def fix(source: SourceFile, finding: Finding) -> dict:
     replacement = {'deletedRegion': region(source, finding.start.offset, finding.end.offset), 'insertedContent': {'text': finding.fix}}
-    return {'description': {'text': 'The fix of the rule %s' % finding.rule},
+    return {'description': message_of('The fix of the rule %s' % finding.rule),
             'artifactChanges': [{'artifactLocation': artifact(finding.path), 'replacements': [replacement]}]}
 
 
 def result(source: SourceFile, finding: Finding, rules: list[str]) -> dict:
     found = {
         'ruleId': finding.rule, 'ruleIndex': rules.index(finding.rule), 'level': LEVELS.get(finding.severity, 'error'),
-        'message': {'text': finding.message or finding.rule},
+        'message': message_of(finding.message or finding.rule),
         'locations': [location(source, finding.path, finding.start.offset, finding.end.offset)]}
     if steps_of(finding):
         found['codeFlows'] = [code_flow(source, finding)]
@@ -69,7 +74,7 @@ def rule(name: str, findings: Iterable[Finding]) -> dict:
     properties: dict[str, Any] = {'tags': ['security', *('external/cwe/cwe-%03d' % int(number) for number in numbers)] if numbers else []}
     if numbers:
         properties['security-severity'] = SCORES.get(findings[0].severity, '7.0')
-    return {'id': name, 'name': name, 'shortDescription': {'text': name},
+    return {'id': name, 'name': name, 'shortDescription': message_of(name),
             'defaultConfiguration': {'level': LEVELS.get(findings[0].severity, 'error')}, 'properties': properties}
 
 
@@ -78,7 +83,7 @@ def notification(notice: Notice) -> dict:
     said = [NOTICES.get(notice.kind, notice.kind), notice.detail and '(%s)' % notice.detail, notice.rule and 'rule %s' % notice.rule]
     found: dict[str, Any] = {
         'descriptor': {'id': notice.kind}, 'level': 'warning',
-        'message': {'text': '%s: %s' % (notice.path or 'scan', ' '.join(part for part in said if part))}}
+        'message': message_of('%s: %s' % (notice.path or 'scan', ' '.join(part for part in said if part)))}
     if notice.path:
         found['locations'] = [{'physicalLocation': {'artifactLocation': artifact(notice.path)}}]
     return found
@@ -101,6 +106,6 @@ def sarif_of(report: Report, sources: dict[str, SourceFile]) -> dict:
     driver = {'name': 'semscan', 'rules': [rule(name, findings[name]) for name in names]}
     run = {
         'tool': {'driver': driver}, 'columnKind': 'unicodeCodePoints', 'invocations': [invocation(report.notices)],
-        'originalUriBaseIds': {'%SRCROOT%': {'description': {'text': 'The folder that the scan was run in'}}},
+        'originalUriBaseIds': {'%SRCROOT%': {'description': message_of('The folder that the scan was run in')}},
         'results': [result(sources[finding.path], finding, names) for finding in report.findings]}
     return {'$schema': SCHEMA, 'version': '2.1.0', 'runs': [run]}

@@ -4,7 +4,12 @@ import re
 
 from .support import InFolder, line, notice, result, run
 
+from semscan_tools.report_line import read_report
+from semscan_tools.sarif import sarif_of
+from semscan_tools.sources import SourceFile
+
 CODE = '\ufefff("\u00e9\U0001f600", g(1))\nh(g(2))\n'.encode()
+TRACED = b'def f(req):\n    u = req.args.get("u")\n    if ok:\n        u = clean(u)\n    cur.execute(u)\n'
 
 # Of each object of SARIF 2.1.0 that is written: the properties that its schema requires, and the others that it allows and are used.
 SARIF = {
@@ -100,6 +105,26 @@ class Formats(InFolder):
         invocation = run_of_log['invocations'][0]
         self.assertEqual([notification['descriptor']['id'] for notification in invocation['toolExecutionNotifications']], ['NoTree'])
         self.assertEqual([notification['descriptor']['id'] for notification in invocation['toolConfigurationNotifications']], ['BadPattern'])
+
+    def test_sarif_of_a_path_of_data(self):
+        """The trace of docs/SCANS.md: each point of it is a step that goes to the end of its line, and the regions are those of the text."""
+        given = line([result(TRACED, b'cur.execute(u)', rule='sqli', source=[20, 37], trace=[[16, 'Head'], [42, 'Head'], [74, 'Head']])])
+        found, = sarif_of(read_report(given), {'a.py': SourceFile(TRACED)})['runs'][0]['results']
+        flow, = found['codeFlows']
+        thread, = flow['threadFlows']
+        regions = [step['location']['physicalLocation']['region'] for step in thread['locations']]
+        names = ('startLine', 'startColumn', 'endLine', 'endColumn', 'byteOffset', 'byteLength')
+        self.assertEqual([tuple(region[name] for name in names) for region in regions], [
+            (2, 5, 2, 26, 16, 21), (2, 9, 2, 26, 20, 17), (3, 5, 3, 11, 42, 6), (5, 5, 5, 19, 74, 14), (5, 5, 5, 19, 74, 14)])
+
+    def test_sarif_doubles_braces_in_messages(self):
+        """A brace of a message begins or ends a placeholder, and is doubled otherwise (section 3.11.5). The text of a fix is no message."""
+        given = line([result(b'f', b'f', message='no {"a": {0}}', fix='{0}')], [notice('Regex', 'r.yaml', 'r', 'a{2}')])
+        run_of_log = sarif_of(read_report(given), {'a.py': SourceFile(b'f')})['runs'][0]
+        found, = run_of_log['results']
+        self.assertEqual(found['message'], {'text': 'no {{"a": {{0}}}}'})
+        self.assertEqual(found['fixes'][0]['artifactChanges'][0]['replacements'][0]['insertedContent'], {'text': '{0}'})
+        self.assertIn('(a{{2}})', run_of_log['invocations'][0]['toolConfigurationNotifications'][0]['message']['text'])
 
     def test_gitlab_has_what_its_schema_requires(self):
         report = self.written('--gitlab')
