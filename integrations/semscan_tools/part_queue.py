@@ -36,6 +36,20 @@ def said(status: int, errors: bytes) -> str:
     return 'status %d, %s (%s)' % (status, words, MEANING.get(status, 'the program ended unexpectedly'))
 
 
+def kind_of(error: Exception) -> str:
+    return '%s: %s' % (type(error).__name__, error)
+
+
+def check_rules(job: Job, executor: Executor) -> None:
+    """Ends the run where the rule file ends it, as no file of the tree can change that."""
+    try:
+        status, _, errors = executor.submit(run_part, job.program, job.words, job.files).result()
+    except Exception:  # whatever a worker says: the parts will fail by the same cause, and are then tried again and told
+        return
+    if status in (2, 8, 10):
+        raise Refusal(said(status, errors), status)
+
+
 class Queue:
     """Parts that wait, parts that run, and what was found."""
 
@@ -51,7 +65,10 @@ class Queue:
         while self.waiting and len(self.running) < self.width:
             part = self.waiting.pop()
             files = files_of(self.job, part)
-            self.running[self.executor.submit(run_part, self.job.program, self.job.words, files)] = part
+            try:
+                self.running[self.executor.submit(run_part, self.job.program, self.job.words, files)] = part
+            except Exception as error:  # there is no thread to be had, or the scheduler went away
+                self.again(part, kind_of(error), PART_FAILED)
 
     def again(self, part: Part, reason: str, status: int) -> None:
         """Lets a part that failed run again, or tells that it failed for good."""
@@ -83,7 +100,7 @@ class Queue:
             try:
                 outcome = future.result()
             except Exception as error:  # whatever a worker says, the part must not be lost
-                self.again(part, '%s: %s' % (type(error).__name__, error), PART_FAILED)
+                self.again(part, kind_of(error), PART_FAILED)
             else:
                 self.take(part, *outcome)
 

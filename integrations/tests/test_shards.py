@@ -6,8 +6,14 @@ import socket
 import subprocess
 import time
 import unittest
+from concurrent.futures import Executor, Future
 
 from .support import INTEGRATIONS, PROGRAM, TOP, InFolder, line, needs_program, notice, result, run, scan
+
+from semscan_tools.merge import NoReport, line_of, pieces_of, union
+from semscan_tools.part_queue import Job, Queue, check_rules
+from semscan_tools.refusal import Refusal
+from semscan_tools.tree_parts import Entry, split
 
 RULES = """\
 rules:
@@ -53,7 +59,6 @@ class Merging(InFolder):
     """The pieces of reports, without the program."""
 
     def test_union_of_parts(self):
-        from semscan_tools.merge import NoReport, line_of, pieces_of, union
         rules = notice('Regex', 'm.yaml', 'bad', '(')
         first = line([result(b'f', b'f', 'b.py'), result(b'f', b'f', '\u00e4.py')], [notice('NoTree', 'a.py'), rules])
         second = line([result(b'f', b'f', 'a-b.py', message='"\\ \u2028')], [rules, notice('NoTree', 'z.py')])
@@ -69,11 +74,55 @@ class Merging(InFolder):
             pieces_of(first + first)
 
     def test_splitting(self):
-        from semscan_tools.tree_parts import Entry, split
         entries = [Entry('f%d' % k, size) for k, size in enumerate((5, 5, 9, 1, 1, 1, 20))]
         self.assertEqual([[entry.size for entry in part.entries] for part in split(entries, 3, 10)], [[5, 5], [9, 1], [1, 1], [20]])
         self.assertEqual([len(part.entries) for part in split(entries, 2, 100)], [2, 2, 2, 1])
         self.assertEqual([part.entries for part in split([], 2, 100)], [()])
+
+
+class Failing(Executor):
+    """Workers whose first runs fail, each by the next of these exceptions, and whose others print a report without findings. By an OSError a run
+    can't even be begun."""
+
+    def __init__(self, *failures):
+        self.failures = list(failures)
+        self.runs = 0
+
+    def submit(self, function, *words):
+        future = Future()
+        self.runs += 1
+        if self.failures and isinstance(self.failures[0], OSError):
+            raise self.failures.pop(0)
+        if self.failures:
+            future.set_exception(self.failures.pop(0))
+        else:
+            future.set_result((0, line(), b''))
+        return future
+
+
+class Workers(InFolder):
+    """Parts on workers that fail in ways of their own, as those of other machines do."""
+
+    def tries(self, *failures):
+        """A run of one part and of the rules before it: how many runs it took."""
+        executor = Failing(*failures)
+        job = Job('semscan', ['scan', '--config', 'rules.yaml', 'src'], {}, None, 3)
+        check_rules(job, executor)
+        pieces, = Queue(job, split([], 1, 1), executor, 2).run()
+        self.assertEqual(line_of(pieces), line())
+        return executor.runs
+
+    def test_failures_of_any_kind(self):
+        """A part that fails is run again, three times in all, and then told with the status of failed parts."""
+        died = [RuntimeError('worker %d died' % number) for number in range(5)]
+        self.assertEqual(self.tries(), 2)
+        self.assertEqual(self.tries(died[0]), 2)
+        self.assertEqual(self.tries(*died[:3]), 4)
+        self.assertEqual(self.tries(died[0], OSError('no scheduler'), died[1]), 4)
+        self.assertEqual(self.tries(OSError('no scheduler')), 2)
+        with self.assertRaises(Refusal) as refused:
+            self.tries(*died[:4])
+        self.assertEqual((refused.exception.status, str(refused.exception)), (70, 'the part without files failed 3 times: RuntimeError: worker 3 died'))
 
 
 class Tree(InFolder):
