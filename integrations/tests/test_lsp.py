@@ -16,7 +16,7 @@ from .support import INTEGRATIONS, NO_PROGRAM, PROGRAM, TESTS, TOP, InFolder, ge
 from semscan_tools import session_wire
 from semscan_tools.documents import Document, Text
 from semscan_tools.lsp_rules import read_rules
-from semscan_tools.lsp_settings import Settings
+from semscan_tools.lsp_settings import SHAPES, Settings, with_values
 from semscan_tools.session_keeper import Keeper
 
 FAKE = os.path.join(TESTS, 'fake_semscan.py')
@@ -542,6 +542,17 @@ class InEditors(InFolder):
         self.assertEqual(found, [
             '001-008 ' + text, '001-008 %s 019-026 %s' % (text, text), 'Fix all findings of semscan in this file (2)', '',
             'parse(x)|s = "\U0001f600\u00e9"; parse(x)|'])
+
+    def test_settings_of_vs_code(self):
+        """The extension offers all settings that the server takes, with the same defaults, and hands them on."""
+        room = os.path.join(INTEGRATIONS, 'editors', 'vscode')
+        properties = json.loads(get(room, 'package.json'))['contributes']['configuration']['properties']
+        self.assertEqual(properties.pop('semscan.command')['default'], 'semscan-lsp')
+        defaults = {name.removeprefix('semscan.'): property['default'] for name, property in properties.items()}
+        self.assertEqual(set(defaults), set(SHAPES))
+        self.assertEqual(with_values(Settings(), defaults), (Settings(), []))
+        names, = re.findall(r'^const NAMES = \[(.*)\];$', get(room, 'extension.js').decode(), re.MULTILINE)
+        self.assertEqual({name.strip(" '") for name in names.split(',')}, set(SHAPES))
 
     @needs_neovim
     def test_neovim_over_the_fake(self):

@@ -2,11 +2,12 @@
 const { workspace } = require('vscode');
 const { LanguageClient } = require('vscode-languageclient/node');
 
+const NAMES = ['config', 'paths', 'debounce', 'max', 'trace'];
 let client;
 
 function settings() {
   const chosen = workspace.getConfiguration('semscan');
-  return { config: chosen.get('config'), paths: chosen.get('paths') };
+  return Object.fromEntries(NAMES.map((name) => [name, chosen.get(name)]));
 }
 
 exports.activate = function () {
