@@ -14,7 +14,7 @@ ALL = 'source.fixAll.semscan'
 def related(finding: Finding, text: Text, uri: str) -> list[dict[str, Any]]:
     """The steps of tainted data before the sink."""
     return [{'location': {'uri': uri, 'range': text.range(step.start, step.end)}, 'message': step.label}
-            for step in steps_of(finding)[:-1]]
+            for step in steps_of(finding, text.content)[:-1]]
 
 
 def diagnostic(finding: Finding, text: Text, uri: str, with_steps: bool) -> dict[str, Any]:

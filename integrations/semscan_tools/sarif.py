@@ -5,7 +5,7 @@ from urllib.parse import quote
 
 from .report_line import Finding, Notice, Report
 from .sources import SourceFile
-from .steps import steps_of
+from .steps import Step, steps_of
 from .text_report import NOTICES
 
 SCHEMA = 'https://json.schemastore.org/sarif-2.1.0.json'
@@ -44,9 +44,9 @@ def location(source: SourceFile, path: str, start: int, end: int, message: Optio
     return found
 
 
-def code_flow(source: SourceFile, finding: Finding) -> dict:
+def code_flow(source: SourceFile, path: str, steps: Iterable[Step]) -> dict:
     return {'threadFlows': [{'locations': [
-        {'location': location(source, finding.path, step.start, step.end, step.label)} for step in steps_of(finding)]}]}
+        {'location': location(source, path, step.start, step.end, step.label)} for step in steps]}]}
 
 
 def fix(source: SourceFile, finding: Finding) -> dict:
@@ -60,8 +60,9 @@ def result(source: SourceFile, finding: Finding, rules: list[str]) -> dict:
         'ruleId': finding.rule, 'ruleIndex': rules.index(finding.rule), 'level': LEVELS.get(finding.severity, 'error'),
         'message': message_of(finding.message or finding.rule),
         'locations': [location(source, finding.path, finding.start.offset, finding.end.offset)]}
-    if steps_of(finding):
-        found['codeFlows'] = [code_flow(source, finding)]
+    steps = steps_of(finding, source.content)
+    if steps:
+        found['codeFlows'] = [code_flow(source, finding.path, steps)]
     if finding.fix is not None:
         found['fixes'] = [fix(source, finding)]
     return found

@@ -39,7 +39,7 @@ def message_lines(finding: Finding) -> list[str]:
 
 def steps_lines(source: SourceFile, finding: Finding, pen: Pen) -> Iterator[str]:
     """The way of tainted data, a line for each step."""
-    for count, step in enumerate(steps_of(finding), 1):
+    for count, step in enumerate(steps_of(finding, source.content), 1):
         if count == 1:
             yield '  data flows:'
         line, column = source.line_at(step.start), source.column(step.start)

@@ -22,6 +22,7 @@ PYTHON = b'def show(terms):\n    return eval(terms)\n'
 WIDE = 'x = "\u6f22\u5b57"; \tf(1)\n'.encode()
 MARKED = '\ufefff(1)\nf(\u00e9)\n'.encode()
 LINES = b'try:\n    a()\n    b()\n    c()\n    d()\n\n    e()\nexcept E:\n    pass\nlast()\n'
+LOOP = b'void f(void) {\n  char *s;\n  for (s = read(1); read(2); s = read(3))\n    run(s);\n}\n'
 FLOW = b'def f(q):\n    s = read()\n    t = s\n    run(t)\n'
 
 RULES = """\
@@ -167,6 +168,17 @@ class Texts(InFolder):
         self.shows(FLOW, [finding], FLOWS)
         without = '  data flows:\n     1 | a.py:2:9: source: s = read()\n     2 | a.py:4:5: sink: run(t)\n'
         self.shows(FLOW, [result(FLOW, b'run(t)', source=source)], without)
+
+    def test_source_in_a_part_of_a_loop(self):
+        """The parts of a loop of C begin at one place. The source stands behind the one in which it is."""
+        parts = [(LOOP.index(words), role) for words, role in (
+            (b'char', 'Head'), (b'for', 'Init'), (b'for', 'Test'), (b'run', 'Head'), (b'for', 'Step'), (b'for', 'Test'), (b'run', 'Head'))]
+        for words, trace, before in ((b'read(3)', parts, 5), (b'read(2)', parts[:4], 3), (b'read(1)', parts[:4], 2)):
+            start = LOOP.index(words)
+            text = self.shows(LOOP, [result(LOOP, b'run(s)', source=[start, start + 7], trace=trace)], '')
+            shown = [line.split(': ')[1] for line in text.split('  data flows:\n')[1].split('\n\n')[0].splitlines()]
+            roles = [{'Head': 'runs', 'Init': 'begins the loop', 'Test': 'tests', 'Step': 'steps the loop'}[role] for _, role in trace]
+            self.assertEqual(shown, [*roles[:before], 'source', *roles[before:], 'sink'])
 
     def test_counts_by_kind(self):
         findings = [result(b'f f', b'f', severity='INFO'), result(b'f f', b'f', at=1, severity='CRITICAL')]
