@@ -5,7 +5,7 @@ from collections import Counter
 from typing import Any
 
 from .report_line import Finding, Report
-from .sarif import weaknesses
+from .sarif import page_of, weaknesses
 from .sources import SourceFile
 
 VERSION = '15.0.0'
@@ -29,8 +29,7 @@ def identifiers(finding: Finding) -> list[dict]:
     """What a finding is an example of: its rule, and the weaknesses that its message names."""
     found = [{'type': 'semscan_rule', 'name': finding.rule, 'value': finding.rule}]
     for number in weaknesses(finding.message):
-        found.append({'type': 'cwe', 'name': 'CWE-%s' % number, 'value': number,
-                      'url': 'https://cwe.mitre.org/data/definitions/%d.html' % int(number)})
+        found.append({'type': 'cwe', 'name': 'CWE-%s' % number, 'value': number, 'url': page_of(number)})
     return found
 
 

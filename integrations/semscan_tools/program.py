@@ -2,7 +2,7 @@
 import os
 import shutil
 import subprocess
-from typing import Mapping, Optional
+from typing import Iterator, Mapping, Optional
 
 from .path_words import fault_of_path
 from .refusal import Refusal
@@ -34,18 +34,30 @@ def needed_program(environment: Mapping[str, str]) -> str:
     return program
 
 
-def check_words(words: list[str], folder: str) -> None:
-    """Says in one line how a path among the words of a scan must be written, where it is written otherwise."""
-    faults, before = [], ''
+def paths_among(words: list[str]) -> Iterator[tuple[str, bool]]:
+    """The paths among the words of a scan, and whether each is a prefix."""
+    before = ''
     for word in words:
         if before == '--config':
-            faults.append(fault_of_path(word, folder, False))
+            yield word, False
         elif before != '--max' and not word.startswith('--'):
-            faults.append(fault_of_path(word, folder, True))
+            yield word, True
         before = word if before not in ('--config', '--max') else ''
-    faults = [fault for fault in faults if fault]
-    if faults:
-        raise Refusal(faults[0])
+
+
+def check_words(words: list[str], folder: str) -> None:
+    """Says in one line how a path among the words of a scan must be written, where it is written otherwise."""
+    for word, is_prefix in paths_among(words):
+        fault = fault_of_path(word, folder, is_prefix)
+        if fault is not None:
+            raise Refusal(fault)
+
+
+def check_prefixes(words: list[str], folder: str) -> None:
+    """Refuses to scan what isn't there. The program's report of it is empty, so that a name that is written wrong would pass for good code."""
+    for word, is_prefix in paths_among(words):
+        if is_prefix and not os.path.lexists(os.path.join(folder, word)):
+            raise Refusal('there is no %s here, so nothing would be scanned' % word)
 
 
 def run_scan(program: str, words: list[str], folder: str, word: str = 'scan') -> subprocess.CompletedProcess:

@@ -19,6 +19,11 @@ def weaknesses(message: str) -> list[str]:
     return list(dict.fromkeys(re.findall(r'\bCWE-([0-9]{1,4})\b', message)))
 
 
+def page_of(number: str) -> str:
+    """The page about a weakness."""
+    return 'https://cwe.mitre.org/data/definitions/%d.html' % int(number)
+
+
 def message_of(text: str) -> dict:
     """A text as a message. Braces stand for arguments there, so those of the text are doubled (SARIF 2.1.0, section 3.11.5)."""
     return {'text': text.replace('{', '{{').replace('}', '}}')}
@@ -69,13 +74,15 @@ def result(source: SourceFile, finding: Finding, rules: list[str]) -> dict:
 
 
 def rule(name: str, findings: Iterable[Finding]) -> dict:
-    """What is known of a rule from its findings."""
+    """What is known of a rule from its findings, with the texts that GitHub asks for."""
     findings = list(findings)
     numbers = list(dict.fromkeys(number for finding in findings for number in weaknesses(finding.message)))
     properties: dict[str, Any] = {'tags': ['security', *('external/cwe/cwe-%03d' % int(number) for number in numbers)] if numbers else []}
     if numbers:
         properties['security-severity'] = SCORES.get(findings[0].severity, '7.0')
+    links = ''.join('; CWE-%s: %s' % (number, page_of(number)) for number in numbers)
     return {'id': name, 'name': name, 'shortDescription': message_of(name),
+            'fullDescription': message_of(findings[0].message or name), 'help': message_of('the rule %s%s' % (name, links)),
             'defaultConfiguration': {'level': LEVELS.get(findings[0].severity, 'error')}, 'properties': properties}
 
 

@@ -17,7 +17,7 @@ SARIF = {
     'run': ({'tool'}, {'columnKind', 'invocations', 'originalUriBaseIds', 'results'}),
     'tool': ({'driver'}, set()),
     'driver': ({'name'}, {'rules'}),
-    'rule': ({'id'}, {'name', 'shortDescription', 'defaultConfiguration', 'properties'}),
+    'rule': ({'id'}, {'name', 'shortDescription', 'fullDescription', 'help', 'defaultConfiguration', 'properties'}),
     'result': ({'message'}, {'ruleId', 'ruleIndex', 'level', 'locations', 'codeFlows', 'fixes'}),
     'message': ({'text'}, set()),
     'location': (set(), {'physicalLocation', 'message'}),
@@ -42,6 +42,7 @@ INSIDE = {
     'location': 'location', 'fixes': 'fix', 'artifactChanges': 'change', 'replacements': 'replacement', 'deletedRegion': 'region',
     'insertedContent': 'content', 'invocations': 'invocation', 'toolExecutionNotifications': 'notification',
     'toolConfigurationNotifications': 'notification', 'descriptor': 'reference', 'description': 'message', 'shortDescription': 'message',
+    'fullDescription': 'message', 'help': 'message',
 }
 
 
@@ -102,6 +103,8 @@ class Formats(InFolder):
         run_of_log = self.written('--sarif')['runs'][0]
         rule = run_of_log['tool']['driver']['rules'][0]
         self.assertEqual(rule['properties'], {'tags': ['security', 'external/cwe/cwe-079', 'external/cwe/cwe-1004'], 'security-severity': '5.0'})
+        for rule in run_of_log['tool']['driver']['rules']:  # what GitHub's page on SARIF requires of a rule
+            self.assertTrue(all(rule[key]['text'] for key in ('shortDescription', 'fullDescription', 'help')), rule)
         invocation = run_of_log['invocations'][0]
         self.assertEqual([notification['descriptor']['id'] for notification in invocation['toolExecutionNotifications']], ['NoTree'])
         self.assertEqual([notification['descriptor']['id'] for notification in invocation['toolConfigurationNotifications']], ['BadPattern'])

@@ -344,6 +344,14 @@ class Runner(InFolder):
             self.assertEqual(found.stderr.count(b'\n'), 1)
         self.ends(run('semscan-report', 'scan', '--config', './r.yaml', 'src', cwd=self.folder), 2, b'write r.yaml instead of ./r.yaml')
 
+    def test_prefix_that_is_not_there(self):
+        os.mkdir(os.path.join(self.folder, 'src'))
+        for program in ('semscan-report', 'semscan-fix'):
+            found = run(program, 'scan', '--max', '9', '--config', 'r.yaml', 'scr', cwd=self.folder)
+            self.ends(found, 2, program.encode() + b': there is no scr here, so nothing would be scanned\n')
+            found = run(program, '--folder', 'src', 'scan', '--config', 'r.yaml', 'src', cwd=self.folder)
+            self.ends(found, 2, b'there is no src here')
+
     def test_no_program(self):
         found = run('semscan-report', 'scan', '--config', 'r.yaml', '.', cwd=self.folder, SEMSCAN='/nowhere/semscan')
         self.ends(found, 127, b'there is no built program at /nowhere/semscan')
