@@ -13,6 +13,8 @@ from .report_line import Report, read_report
 
 MARK = re.compile(r'\b(not found|found): *([\w.-]+(?:, *[\w.-]+)*)')
 RULE = re.compile(r'^ *- id: *["\']?([^"\'\s#]+)', re.MULTILINE)
+DASH = re.compile(r'^( *)- ', re.MULTILINE)
+OTHER_KEY = re.compile(r'^([\w-]+):(?:\s|$)', re.MULTILINE)
 Place = tuple[str, int, str]
 
 
@@ -44,14 +46,24 @@ def ids_of(text: str) -> list[str]:
     return RULE.findall(text)
 
 
+def list_of(path: str, text: str) -> str:
+    """The list of rules of a file, with its dashes in the first column, so that the lists of several files can stand below each other."""
+    head, found, rest = text.partition('rules:\n')
+    if not found or any(line.strip() and not line.startswith('#') for line in head.splitlines()):
+        raise Refusal("%s doesn't begin with the line rules:" % path)
+    other = OTHER_KEY.search(rest)
+    if other is not None:
+        raise Refusal('%s has the key %s beside rules, which has no place among the rules of other files' % (path, other[1]))
+    dash = DASH.search(rest)
+    return re.sub('^ {0,%d}' % len(dash[1]), '', rest, flags=re.MULTILINE) if dash else rest
+
+
 def joined_rules(paths: Iterable[str]) -> str:
     """One rule file with the rules of all."""
     pieces, seen = ['rules:\n'], {}
     for path in paths:
         text = read_text(path)
-        head, found, rest = text.partition('rules:\n')
-        if not found or any(line.strip() and not line.startswith('#') for line in head.splitlines()):
-            raise Refusal("%s doesn't begin with the line rules:" % path)
+        rest = list_of(path, text)
         for name in ids_of(text):
             if name in seen:
                 raise Refusal('%s and %s have a rule with the id %s' % (seen[name], path, name))

@@ -3,7 +3,7 @@ import glob
 import os
 import re
 
-from .support import TOP, InFolder, needs_program, run
+from .support import NO_PROGRAM, TOP, InFolder, needs_program, run, scan
 
 RULES = os.path.join(TOP, 'rules')
 FILES = sorted(glob.glob(os.path.join(RULES, '*', '*.yaml')))
@@ -78,12 +78,27 @@ class Program(InFolder):
         self.assertEqual((found.returncode, found.stderr, found.stdout.count(b'- id: '), found.stdout.count(b'rules:\n')), (0, b'', 2, 1))
         self.ends(run('semscan-rules', 'join', 'a.yaml', 'a.yaml', cwd=self.folder), 2, b'have a rule with the id one')
 
+    def test_join_of_lists_with_and_without_indentation(self):
+        """Both forms are YAML, but not in one list. What a block scalar says stays the same."""
+        self.put('a.yaml', RULE)
+        self.put('b.yaml', 'rules:\n  # second\n  - id: two\n    languages: [regex]\n    severity: INFO\n    message: |\n      first\n\n        deeper\n'
+                           '    pattern-regex: x\n\n  - id: three\n    languages: [regex]\n    severity: INFO\n    message: m\n    pattern-regex: y\n')
+        expected = RULE + ('\n# second\n- id: two\n  languages: [regex]\n  severity: INFO\n  message: |\n    first\n\n      deeper\n'
+                           '  pattern-regex: x\n\n- id: three\n  languages: [regex]\n  severity: INFO\n  message: m\n  pattern-regex: y\n')
+        found = run('semscan-rules', 'join', 'a.yaml', 'b.yaml', cwd=self.folder)
+        self.assertEqual((found.returncode, found.stdout.decode()), (0, expected.replace('rules:\n', 'rules:\n\n', 1)))
+        if not NO_PROGRAM:
+            self.put('rules.yaml', found.stdout)
+            self.assertEqual(scan(self.folder, '--config', 'rules.yaml', 'none').stdout, b'{"notices":[],"results":[]}\n')
+
     def test_bad_input(self):
         self.ends(run('semscan-rules', 'join', 'none.yaml', cwd=self.folder), 2, b"none.yaml can't be read")
         self.put('a.yaml', b'\xff')
         self.ends(run('semscan-rules', 'join', 'a.yaml', cwd=self.folder), 2, b"a.yaml can't be read")
         self.put('a.yaml', 'rule: 1\n')
         self.ends(run('semscan-rules', 'join', 'a.yaml', cwd=self.folder), 2, b"doesn't begin with the line rules:")
+        self.put('a.yaml', RULE + 'version: 1\n')
+        self.ends(run('semscan-rules', 'join', 'a.yaml', cwd=self.folder), 2, b'a.yaml has the key version beside rules')
         self.ends(run('semscan-rules', 'test', '.', cwd=self.folder, SEMSCAN='/nowhere'), 127, b'no built program')
         os.mkdir(os.path.join(self.folder, 'empty'))
         self.ends(run('semscan-rules', 'join', 'empty', cwd=self.folder), 2, b'there are no rule files')
