@@ -55,7 +55,7 @@ def run_program(name: str, main: Callable[[], int]) -> NoReturn:
     except OSError as error:
         drop_output()
         if not isinstance(error, BrokenPipeError):
-            tell(name, "%s can't be written: %s" % (error.filename or 'standard output', error.strerror or error))
+            tell(name, '%s: %s' % (error.filename or "standard output can't be written", error.strerror or error))
         status = OUTPUT_FAILED
     except KeyboardInterrupt:
         status = 130

@@ -6,7 +6,7 @@ import subprocess
 import sys
 import time
 
-from .support import INTEGRATIONS, InFolder, line, needs_program, notice, put, result, run
+from .support import INTEGRATIONS, NO_PROGRAM, PROGRAM, InFolder, line, needs_program, notice, put, result, run
 
 from semscan_tools.fix_diff import diff_lines
 from semscan_tools.fixes import read_edits
@@ -63,6 +63,31 @@ a.py:4:5: high: m [r]
      3 | a.py:3:5: runs: t = s
      4 | a.py:4:5: runs: run(t)
      5 | a.py:4:5: sink: run(t)
+"""
+
+TAINT_RULE = """\
+rules:
+- id: sqli
+  mode: taint
+  languages: [python]
+  severity: ERROR
+  message: Tainted data reaches $DB.execute.
+  pattern-sources:
+  - pattern: $REQ.args.get(...)
+  pattern-sinks:
+  - pattern: $DB.execute(...)
+  pattern-sanitizers:
+  - pattern: clean(...)
+"""
+TRACED = b'def f(req):\n    u = req.args.get("u")\n    if ok:\n        u = clean(u)\n    cur.execute(u)\n'
+TRACE_SHOWN = """\
+     1 | a.py:2:5: runs: u = req.args.get("u")
+     2 | a.py:2:9: source: u = req.args.get("u")
+     3 | a.py:3:5: runs: if ok:
+     4 | a.py:5:5: runs: cur.execute(u)
+     5 | a.py:5:5: sink: cur.execute(u)
+
+1 finding in 1 file (1 ERROR), 0 notices
 """
 
 LONG = """\
@@ -365,6 +390,18 @@ class Runner(InFolder):
         self.ends(run('semscan-report', 'scan', '--config', 'r', '.', cwd=self.folder, SEMSCAN='./fake'), 137, b'nothing was said')
         self.put('fake', 'no program')
         self.ends(run('semscan-report', 'scan', '--config', 'r', '.', cwd=self.folder, SEMSCAN='./fake'), 127, b"can't be run")
+
+    def test_scan_with_traces(self):
+        """The example of docs/SCANS.md: the word --trace reaches the program, and its trace becomes steps. The stand-in prints the line of the page."""
+        self.put('rules.yaml', TAINT_RULE)
+        self.put('a.py', TRACED)
+        self.put('line', line([result(TRACED, b'cur.execute(u)', rule='sqli', source=[20, 37], trace=[[16, 'Head'], [42, 'Head'], [74, 'Head']])]))
+        self.put('fake', '#!/bin/sh\n[ "$1 $2" = "scan --trace" ] && exec cat line\n')
+        os.chmod(os.path.join(self.folder, 'fake'), 0o755)
+        for program in ['./fake'] + ([] if NO_PROGRAM else [PROGRAM]):
+            found = run('semscan-report', 'scan', '--trace', '--config', 'rules.yaml', 'a.py', cwd=self.folder, SEMSCAN=program)
+            self.assertEqual((found.returncode, found.stderr), (0, b''))
+            self.assertEqual(found.stdout.decode().split('  data flows:\n')[1], TRACE_SHOWN)
 
     @needs_program
     def test_scan(self):
