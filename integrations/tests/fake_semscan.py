@@ -1,5 +1,5 @@
 #!/usr/bin/env python3
-"""A stand-in for the program in tests of what stands around it: it has the words `session`, and `fix --dryrun`, for rules of regular expressions.
+"""A stand-in for the program in tests of what stands around it: it has the words `session`, `scan` and `fix --dryrun`, for rules of regular expressions.
 
 It finds what `pattern-regex` of each rule finds in the bytes of each file, for a rule with `pattern-sinks` a flow, tells a rule
 without either and a file of Python that can't be read, and keeps to the protocol of the session: the commands, their output, the limits and how a run ends.
@@ -228,11 +228,29 @@ def fix(words):
         answer(fixed(report(files, {config: file.read()}, '--trace' in words), files))
 
 
+def scan(words):
+    """Prints the report."""
+    config, prefix = words[words.index('--config') + 1], words[-1]
+    most = int(words[words.index('--max') + 1]) if '--max' in words else 50_000
+    if not os.path.isfile(config):
+        end(10, 'no config')
+    files = dict(listed(prefix))
+    over(len(files), 10_000)
+    with open(config, 'rb') as file:
+        value = report(files, {config: file.read()}, '--trace' in words)
+    if len(value['results']) > most:
+        end(9, 'more than %d' % most)
+    answer(value)
+    sys.exit(1 if '--error' in words and value['results'] else 0)
+
+
 def main():
     words = sys.argv[1:]
     options = [word for word in words[1:] if word != '--trace']
     if words[:1] == ['session'] and options[:1] in ([], ['--max']):
         session(int(options[1]) if options else 50_000, '--trace' in words)
+    elif words[:1] == ['scan'] and '--config' in words:
+        scan(words)
     elif words[:1] == ['fix'] and '--dryrun' in words:
         fix(words)
     else:

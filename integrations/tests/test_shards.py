@@ -8,7 +8,7 @@ import time
 import unittest
 from concurrent.futures import Executor, Future
 
-from .support import INTEGRATIONS, PROGRAM, TOP, InFolder, line, needs_program, notice, result, run, scan
+from .support import INTEGRATIONS, PROGRAM, TESTS, TOP, InFolder, line, needs_program, notice, result, run, scan
 
 from semscan_tools.merge import NoReport, line_of, pieces_of, union
 from semscan_tools.part_queue import Job, Queue, check_rules
@@ -45,6 +45,24 @@ rules:
   message: m
   pattern: x
 """
+FAKE_RULES = """\
+rules:
+- id: call
+  languages: [regex]
+  severity: INFO
+  message: called \u00e9.
+  pattern-regex: [a-z0-9]+\\([0-9]\\)
+- id: text
+  languages: [regex]
+  severity: ERROR
+  message: m
+  pattern-regex: id
+- id: empty
+  languages: [python]
+  severity: ERROR
+  message: nothing.
+"""
+FAKE = os.path.join(TESTS, 'fake_semscan.py')
 PYTHON = '/usr/bin/python3'
 SHARDS = os.path.join(INTEGRATIONS, 'semscan-shards')
 
@@ -243,6 +261,46 @@ class Parts(Tree):
         self.ends(run('semscan-shards', '--config', 'rules.yaml', 'src', cwd=self.folder, SEMSCAN='/nowhere'), 127, b'no built program')
         self.ends(run('semscan-shards', '--jobs', '0', '--config', 'rules.yaml', 'src', cwd=self.folder), 2, b'0 is too little')
         self.ends(run('semscan-shards', 'src', cwd=self.folder), 2, b'--config')
+
+
+class OverTheFake(Tree):
+    """Parts of the stand-in, which looks for regular expressions only."""
+
+    def setUp(self):
+        super().setUp()
+        self.put('rules.yaml', FAKE_RULES)
+
+    def one(self, *words):
+        return subprocess.run([FAKE, 'scan', *words], cwd=self.folder, stdin=subprocess.DEVNULL, capture_output=True, check=False)
+
+    def many(self, *words, program=FAKE):
+        return run('semscan-shards', *words, cwd=self.folder, SEMSCAN=program)
+
+    def test_same_line_as_one_scan(self):
+        for prefix, *words in (('src', '--files', '7', '--jobs', '3'), ('src', '--bytes', '100'), ('.', '--files', '9'), ('rules.yaml',), ('none',)):
+            one, many = self.one('--config', 'rules.yaml', prefix), self.many(*words, '--config', 'rules.yaml', prefix)
+            self.assertEqual((many.returncode, many.stderr, many.stdout), (0, b'', one.stdout), words)
+        said = self.one('--config', 'rules.yaml', '.').stdout
+        for words in (b'"NoTree"', b'"NotUtf8"', b'"TooLarge"', b'"MissingKey"', b'"check_id":"call"', b'"path":"rules.yaml"'):
+            self.assertIn(words, said)
+
+    def test_too_many_findings(self):
+        self.ends(self.many('--max', '2', '--files', '9', '--config', 'rules.yaml', 'src'), 9, b'more than 2')
+        self.ends(self.many('--config', 'none.yaml', 'src'), 10, b'no config')
+        self.assertEqual(self.many('--error', '--config', 'rules.yaml', 'src').returncode, 1)
+        few = self.fake('case "$*" in *"--max 50000"*) exec %s scan --max 30 "$4" "$5" "$6";; esac\nexec %s "$@"\n' % (FAKE, FAKE))
+        one, many = self.one('--config', 'rules.yaml', 'src'), self.many('--max', '60000', '--config', 'rules.yaml', 'src', program=few)
+        self.assertEqual((many.returncode, many.stderr, many.stdout), (0, b'', one.stdout))
+
+    def test_part_that_fails(self):
+        """Once, by a line that is cut off, and it is run again; for good, and it is told."""
+        cut = 'if [ -e src/bad.py ] && mkdir %s/once 2>/dev/null; then %s "$@" | head -c 99; exit 0; fi\nexec %s "$@"\n' % (self.folder, FAKE, FAKE)
+        words = ['--files', '7', '--config', 'rules.yaml', 'src']
+        one, many = self.one('--config', 'rules.yaml', 'src'), self.many(*words, program=self.fake(cut))
+        self.assertEqual((many.returncode, many.stderr, many.stdout), (0, b'', one.stdout))
+        self.assertTrue(os.path.isdir(os.path.join(self.folder, 'once')))
+        dies = self.fake('if [ -e src/bad.py ]; then echo "semscan: out of memory" >&2; exit 3; fi\nexec %s "$@"\n' % FAKE)
+        self.ends(self.many(*words, program=dies), 3, b'failed 3 times: status 3, semscan: out of memory')
 
 
 @unittest.skipUnless(has_dask(), "needs Dask (Debian's python3-distributed)")
