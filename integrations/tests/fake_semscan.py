@@ -237,7 +237,9 @@ def scan(words):
     files = dict(listed(prefix))
     over(len(files), 10_000)
     with open(config, 'rb') as file:
-        value = report(files, {config: file.read()}, '--trace' in words)
+        rules = file.read()
+    over(len(rules), 262_144)
+    value = report(files, {config: rules}, '--trace' in words)
     if len(value['results']) > most:
         end(9, 'more than %d' % most)
     answer(value)

@@ -1,4 +1,4 @@
-"""The files for build servers: what their jobs run, run here."""
+"""The files for build servers: what their jobs run, run here, over the built program or else over the stand-in."""
 import os
 import re
 import shutil
@@ -6,10 +6,10 @@ import stat
 import subprocess
 import unittest
 
-from .support import INTEGRATIONS, PROGRAM, InFolder, get, needs_program
+from .support import INTEGRATIONS, NO_PROGRAM, PROGRAM, TESTS, InFolder, get
 
 FOLDER = os.path.join(INTEGRATIONS, 'build-servers')
-RULES = 'rules:\n- id: no-eval\n  languages: [python]\n  severity: ERROR\n  message: eval runs $X (CWE-95).\n  pattern: eval($X)\n'
+RULES = 'rules:\n- id: no-eval\n  languages: [regex]\n  severity: ERROR\n  message: eval runs text (CWE-95).\n  pattern-regex: eval\\(x\\)\n'
 
 
 def scripts_of(text):
@@ -34,8 +34,7 @@ class Jobs(InFolder):
         super().setUp()
         os.mkdir(os.path.join(self.folder, '.semscan'))
         os.symlink(INTEGRATIONS, os.path.join(self.folder, '.semscan/integrations'))
-        if PROGRAM:
-            shutil.copy(PROGRAM, os.path.join(self.folder, '.semscan/semscan'))
+        shutil.copy(os.path.join(TESTS, 'fake_semscan.py') if NO_PROGRAM else PROGRAM, os.path.join(self.folder, '.semscan/semscan'))
         self.put('.semscan/rules.yaml', RULES)
         self.put('src/a.py', 'parse(x)\n')
 
@@ -63,7 +62,6 @@ class Jobs(InFolder):
         end = self.bash(last.replace('${{ steps.scan.outputs.status }}', status))
         return ran.stdout, end.returncode
 
-    @needs_program
     def test_gitlab(self):
         self.assertEqual(self.gitlab().returncode, 0)
         self.put('src/a.py', 'eval(x)\n')
@@ -75,13 +73,12 @@ class Jobs(InFolder):
         self.assertEqual((found.returncode, b'the scan failed (status 10)' in found.stdout), (10, True))
         self.assertEqual(self.gitlab(SEMSCAN='.semscan/none').returncode, 127)
 
-    @needs_program
     def test_github(self):
         self.assertEqual(self.github()[1], 0)
         self.put('src/a.py', 'eval(x)\n')
         said, status = self.github()
         self.assertEqual(status, 1)
-        self.assertIn(b'src/a.py:1:1: error: eval runs x (CWE-95). [no-eval]', said)
+        self.assertIn(b'src/a.py:1:1: error: eval runs text (CWE-95). [no-eval]', said)
         self.assertIn(b'::error::semscan: there are findings', said)
         self.assertIn(b'"external/cwe/cwe-095"', get(self.folder, 'semscan.sarif'))
         self.put('.semscan/rules.yaml', RULES + '#' * 262_144)
@@ -90,7 +87,6 @@ class Jobs(InFolder):
         said, status = self.github(SEMSCAN='.semscan/none')
         self.assertEqual((status, b'no built program at .semscan/none' in said), (127, True))
 
-    @needs_program
     @unittest.skipUnless(shutil.which('pre-commit'), "needs pre-commit (Debian's package of this name)")
     def test_pre_commit(self):
         shutil.copy(os.path.join(FOLDER, 'pre-commit-config.yaml'), os.path.join(self.folder, '.pre-commit-config.yaml'))
