@@ -210,11 +210,13 @@ class Server:
             self.keeper.close(path)
 
     def saved(self, params: dict[str, Any]) -> None:
-        """A rule file that was saved is read anew. Where the editor watches no files, all are looked at again, since others may have changed."""
+        """A rule file that was saved is read anew. Where the editor watches no files, all files and rules are looked at again, since others may have
+        changed."""
         uri = params['textDocument']['uri']
-        with_rules = self.is_rules(uri)
-        if with_rules or not self.watches:
-            self.keeper.look_again(set() if self.watches else {'.'}, with_rules)
+        if not self.watches:
+            self.keeper.look_again({'.'}, True)
+        elif self.is_rules(uri):
+            self.keeper.look_again(set(), True)
 
     def files_changed(self, params: dict[str, Any]) -> None:
         uris = [change['uri'] for change in params['changes']]

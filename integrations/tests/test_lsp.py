@@ -194,6 +194,19 @@ class Conversations:
         editor.message('empty: a key is missing')
         editor.diagnostics('a.py', 1)
 
+    def test_editor_that_watches_nothing(self):
+        """It tells only what is saved in it, as Neovim 0.7 does of files of code: then files and rules are read anew."""
+        self.put('b.py', 'x = 1\n')
+        editor = self.editor()
+        editor.begin({'textDocument': {'codeAction': {}}})
+        editor.open('a.py', 'eval(x); exec(x)\n')
+        self.assertEqual(editor.diagnostics('a.py', 1), [('no-eval', (0, 0), (0, 7))])
+        self.put('b.py', 'exec(x)\n')
+        self.put('.semscan/rules.yaml', RULES.replace('eval', 'exec'))
+        editor.notify('textDocument/didSave', textDocument={'uri': editor.uri('a.py')})
+        self.assertEqual(editor.diagnostics('b.py', 1), [('no-exec', (0, 0), (0, 7))])
+        self.assertEqual(editor.shown[editor.uri('a.py')][0]['code'], 'no-exec')
+
     def test_notices_are_told_once(self):
         self.put('bad.py', 'def def\n')
         editor = self.editor()
