@@ -16,7 +16,7 @@ class Refusal(Exception):
 
 
 def open_closed_streams() -> None:
-    """Of the standard streams that the run was started without, the input is empty, the output can't be written, and what goes to the error is lost."""
+    """Of the standard streams that the run was started without, the input is empty, the output can't be written, and standard error is lost."""
     for name, mode, flags in (('stdin', 'r', os.O_RDONLY), ('stdout', 'w', os.O_RDONLY), ('stderr', 'w', os.O_WRONLY)):
         if getattr(sys, name) is None:
             setattr(sys, name, open(os.open(os.devnull, flags), mode))
@@ -44,7 +44,8 @@ def tell(name: str, words: str) -> None:
 
 
 def run_program(name: str, main: Callable[[], int]) -> NoReturn:
-    """Runs a program: what it refuses is told on standard error, and so is a failure of the system. One whose reader went away, as `head` does, ends quietly."""
+    """Runs a program: what it refuses is told on standard error, and so is a failure of the system. Where the reader went away, as `head` does, it
+    ends quietly."""
     set_up_streams()
     try:
         status = main()
