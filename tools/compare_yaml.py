@@ -15,8 +15,8 @@ import sys
 
 import yaml
 
-BASES = ['node_tree', 'yaml_lines', 'yaml_read']
-CRATES = 'node_tree:\nyaml_lines: node_tree\nyaml_read: node_tree yaml_lines\nyaml_dump: node_tree yaml_lines yaml_read\n'
+BASES = ['node_tree', 'yaml_lines', 'yaml_cells', 'yaml_read']
+CRATES = 'node_tree:\nyaml_lines: node_tree\nyaml_cells: node_tree yaml_lines\nyaml_read: node_tree yaml_lines yaml_cells\nyaml_dump: node_tree yaml_lines yaml_read\n'
 MAIN = r"""
 //! Prints the values of the texts on standard input, each of which stands behind its length in four bytes.
 #![tactic(auto)]

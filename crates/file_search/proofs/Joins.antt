@@ -12,7 +12,7 @@ use Rattle.tree_match.specs.declared.leaf.Leaf.{Leaf}
 use Rattle.tree_match.specs.declared.leaf.Leaf.TheVariants.{Full}
 use Rattle.tree_match.specs.Leaf.{IsLeaf}
 use Rattle.tree_match.specs.Members.{Member, KnownTree, IsMember, known_tree}
-use Rattle.tree_match.specs.Trees.{known_in}
+use Rattle.file_match.specs.Trees.{known_in}
 use Rattle.place_join.specs.Joined.{IsJoined, Joined}
 use Rattle.import_names.specs.Resolved.{IsResolved, tree_in}
 use Rattle.file_parts.specs.Parts.{ResolvesToItself}

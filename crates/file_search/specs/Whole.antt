@@ -7,7 +7,7 @@ use Rattle.node_tree.specs.declared.view.Lang.{Lang}
 use Rattle.node_tree.specs.declared.view.Lang.TheVariants as langs
 use Rattle.node_tree.specs.declared.view.Pattern.{Pattern}
 use Rattle.tree_match.specs.declared.leaf.Leaf.TheVariants.{Full}
-use Rattle.tree_match.specs.Trees.{known_in}
+use Rattle.file_match.specs.Trees.{known_in}
 use Rattle.import_names.specs.Resolved.{IsResolved}
 use Rattle.file_parts.specs.Parts.{ResolvesToItself}
 use Rattle.file_parts.specs.Seen.{seen_leaf}

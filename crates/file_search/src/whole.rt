@@ -8,13 +8,14 @@ ghost use Rattle.file_parts.specs.Seen.{seen_leaf};
 ghost use Rattle.file_search.specs.Whole.{IsBeside, TakesSteps, HasNone};
 
 use crate::search::FileSearch;
+use file_match::{ReadyFile, match_ready};
 use file_parts::same_tree;
 use node_tree::{FileView, Lang, Memory, Pattern, Steps};
 use place_join::join_by_place;
 use std::alloc::Global;
 use std::marker::Model;
 use std::sync::ledger::Ledger;
-use tree_match::{Leaf, ReadyFile, match_ready};
+use tree_match::Leaf;
 
 /// A file that is searched as a whole, and in Python a second time with its names resolved, where that changes it. Contracts see
 /// the file.

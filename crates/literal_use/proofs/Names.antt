@@ -25,7 +25,7 @@ use Rattle.tree_match.specs.declared.leaf.Leaf.{Leaf}
 use Rattle.tree_match.specs.declared.leaf.Leaf.TheVariants.{Full, Crowded}
 use Rattle.tree_match.specs.Leaf.{IsLeaf}
 use Rattle.tree_match.specs.Members.{Member, MemberUnder, MemberOf, IsMember, kids_between}
-use Rattle.tree_match.proofs.Needed.{in_kid}
+use Rattle.file_match.proofs.Needed.{in_kid}
 use Rattle.literal_use.specs.Literals.{takes_names, has_literal, uses_literals, MembersNeedNoNames, LeavesNeedNoNames}
 
 -- ---- patterns without literals and `"..."`

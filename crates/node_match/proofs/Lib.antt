@@ -3,10 +3,6 @@ pub mod FrontLaws
 pub mod Arguments
 pub mod Inversion
 pub mod Choosing
-pub mod Calls
-pub mod SteadyLaws
-pub mod Counted
-pub mod Steps
 pub mod Parts
 pub mod Numbering
 pub mod Halving

@@ -1,19 +1,15 @@
 -- Kids and their numbers.
-use Rattle.std.proofs.Common.{◌≡◌, inl, inr, ℕ, zero, suc, ◌+◌, ◌<◌, ◌≤◌, List, [], ◌∷◌, length, take, drop, get_or, refl, sym, ap, ◌∙◌, arith, add-one, eq-eqb, Bool, true, false}
-use Rattle.std.specs.Prelude.{Option, None, Some, nat_eq, if◌then◌else◌}
+use Rattle.std.proofs.Common.{◌≡◌, inl, inr, ℕ, zero, suc, ◌+◌, ◌<◌, ◌≤◌, List, [], ◌∷◌, length, take, drop, get_or, refl, sym, ap, ◌∙◌, add-one, Bool}
+use Rattle.std.specs.Prelude.{Some, nat_eq, if◌then◌else◌}
 use Rattle.std.proofs.Math.Seq.{drop-cons}
-use Rattle.std.proofs.lemmas.Bool.Decides.{nat_tests}
 use Rattle.node_tree.specs.declared.known.Known.{Known}
-use Rattle.std.proofs.lemmas.List.{length-map, get_or-map, drop_all}
+use Rattle.std.proofs.lemmas.List.{length-map, get_or-map}
 use Rattle.node_tree.specs.declared.node.Node.{Node}
 use Rattle.node_tree.specs.Tree.{kids_of, pre_of}
 use Rattle.node_pool.specs.declared.spot.Spot.{Spot}
 use Rattle.node_tree.specs.Numbers.{Numbered, count_of, siblings, kids_at, pre_at, numbered}
 use Rattle.node_pool.specs.Spots.{seen, all_seen}
 use Rattle.node_match.specs.Sets.{Among}
-use Rattle.node_match.specs.declared.holder.Holder.{Holder}
-use Rattle.node_match.specs.States.{Line, line_of}
-use Rattle.node_match.specs.Kids.{AreKids, line}
 use Rattle.node_match.specs.Relation.{nodes_of, held_at}
 
 siblings_nodes : (at : ℕ) (ns : List Node) → nodes_of (siblings at ns) ≡ ns
@@ -54,10 +50,6 @@ kid_is h kids at s are lt is = ap seen is ∙ sym (get_or-map seen kids at s (se
 
 pub as_many : (h : Numbered) (kids : List Spot) → all_seen kids ≡ kids_at h → length kids ≡ length (kids_at h)
 as_many h kids are = sym (length-map kids seen) ∙ ap length are
-
--- the line of all kids
-pub whole_line : (holder : Holder) → AreKids holder.kids.now (seen holder.spot) → line holder ≡ line_of (seen holder.spot)
-whole_line holder kin = ap (λ (ks : List Numbered). record { holder = seen holder.spot; kids = ks }) kin.are
 
 numbered_many : (at : ℕ) (ns : List Node) → length (numbered at ns) ≡ length ns
 numbered_many at [] = refl

@@ -6,7 +6,4 @@ pub mod Relation
 pub mod Holding
 pub mod Refused
 pub mod Fronts
-pub mod States
-pub mod Kids
 pub mod Choices
-pub mod Steady

@@ -13,13 +13,14 @@ ghost use Rattle.piece_match.specs.Moved.{moved_leaf};
 ghost use Rattle.piece_match.specs.Pieces.{is_cut as cut, stands_alone, known_piece, IsPieceMember, IsMemberUnder};
 
 use crate::apart::{falls_apart, is_root};
+use file_match::{ReadyTree, match_own_runs, match_tree};
 use node_match::Constants;
 use node_tree::{Memory, Pattern, Shape, Steps};
 use piece_form::Piece;
 use std::alloc::Global;
 use std::marker::Model;
 use std::sync::ledger::Ledger;
-use tree_match::{Leaf, LeafSet, ReadyTree, match_own_runs, match_tree};
+use tree_match::{Leaf, LeafSet};
 
 /// A piece that is ready for the search of many patterns. Contracts see the piece.
 #[derive(Drop)]

@@ -5,7 +5,7 @@ use Rattle.std.specs.Option.{unwrap_or}
 use Rattle.std.specs.Str.{bytes_eq}
 use Rattle.std.proofs.lemmas.Grind.{flat_map-append}
 use Rattle.lexing.specs.WordList.{is_among}
-use Rattle.yaml_read.specs.declared.value.YValue.{YValue}
+use Rattle.yaml_cells.specs.declared.value.YValue.{YValue}
 use Rattle.rule_form.specs.declared.rule.Rule.{Rule}
 use Rattle.rule_keys.specs.declared.fault.RuleFaultKind.TheVariants.{DuplicateId}
 use Rattle.rule_keys.specs.declared.stop.Misfit.{Misfit}

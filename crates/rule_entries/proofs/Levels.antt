@@ -1,7 +1,7 @@
 -- Formulas in so many levels, of which there is one at least.
 use Rattle.std.proofs.Common.{◌≡◌, ℕ, zero, suc, ◌-◌, Bool, sym, subst, arith}
 use Rattle.std.specs.Prelude.{Result}
-use Rattle.yaml_read.specs.declared.value.YValue.{YValue}
+use Rattle.yaml_cells.specs.declared.value.YValue.{YValue}
 use Rattle.rule_form.specs.declared.formula.Formula.{Formula}
 use Rattle.rule_entries.specs.declared.found.Found.{Found}
 use Rattle.rule_keys.specs.declared.key.FormulaKey.{FormulaKey}

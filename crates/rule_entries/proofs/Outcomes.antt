@@ -11,7 +11,7 @@ use Rattle.std.proofs.lemmas.Map.Text.{is_eq-slice_cmp}
 use Rattle.std.proofs.Math.Seq.{drop-cons}
 use Rattle.lexing.specs.WordList.{is_among}
 use Rattle.node_tree.specs.declared.memory.Memory.{Memory}
-use Rattle.yaml_read.specs.declared.value.YValue.{YValue}
+use Rattle.yaml_cells.specs.declared.value.YValue.{YValue}
 use Rattle.rule_form.specs.declared.rule.Rule.{Rule}
 use Rattle.rule_keys.specs.declared.fault.RuleFaultKind.TheVariants.{WrongShape, DuplicateId}
 use Rattle.rule_entries.specs.declared.outcome.RuleOutcome.{RuleOutcome}

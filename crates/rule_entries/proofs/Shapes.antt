@@ -1,7 +1,7 @@
 -- The readings of formulas and their parts, step by step.
 use Rattle.std.proofs.Common.{◌≡◌, ℕ, Bool, true, false, List, sym, subst, Ok, Err, codes}
 use Rattle.std.specs.Prelude.{Result}
-use Rattle.yaml_read.specs.declared.value.YValue.{YValue}
+use Rattle.yaml_cells.specs.declared.value.YValue.{YValue}
 use Rattle.rule_form.specs.declared.comparison.Comparison.{Comparison}
 use Rattle.rule_form.specs.declared.formula.Formula.{Formula}
 use Rattle.rule_form.specs.declared.formula.Formula.TheVariants as formulas

@@ -9,7 +9,7 @@ use Rattle.std.specs.Cmp.Lexicographic.{slice_cmp}
 use Rattle.std.specs.BTreeSet.{BTreeSet, contains}
 use Rattle.node_tree.specs.declared.memory.Memory.{Memory}
 use Rattle.lexing.specs.WordList.{is_among}
-use Rattle.yaml_read.specs.declared.value.YValue.{YValue}
+use Rattle.yaml_cells.specs.declared.value.YValue.{YValue}
 use Rattle.rule_form.specs.declared.rule.Rule.{Rule}
 use Rattle.rule_form.specs.declared.rule.Severity.{Severity}
 use Rattle.rule_form.specs.declared.rule.Part.{Part}

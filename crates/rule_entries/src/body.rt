@@ -16,7 +16,7 @@ use rule_keys::stop::{Stop, within, within_item};
 use rule_keys::value::{Entry, is, items_of};
 use std::alloc::Global;
 use std::mem::replace;
-use yaml_read::YValue;
+use yaml_cells::YValue;
 
 /// How deep formulas are read. A value of fewer than 2^32 values has none that is deeper.
 pub const ROOM: u32 = 4_294_967_295;

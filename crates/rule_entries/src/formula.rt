@@ -18,7 +18,7 @@ use rule_keys::key::{ChildKey, FormulaKey, Role, map_of, one_of};
 use rule_keys::stop::{Stop, here, within, within_item};
 use rule_keys::value::{Entry, items_of, required_name, required_text, text_of, whole_text};
 use std::alloc::Global;
-use yaml_read::YValue;
+use yaml_cells::YValue;
 
 fn pattern<R: PatternReader>(
     alloc: Global,

@@ -23,7 +23,7 @@ use rule_keys::texts::Texts;
 use rule_keys::value::{Entry, entries_of, list_of, look, required_text};
 use std::alloc::Global;
 use std::collections::BTreeSet;
-use yaml_read::YValue;
+use yaml_cells::YValue;
 
 /// Nothing is found yet.
 fn nothing<'v>(alloc: Global) -> Found<'v>

@@ -3,7 +3,7 @@ use Rattle.std.specs.Prelude.{◌≡◌, ℕ, List, [], None, Err}
 use Rattle.yaml_lines.specs.declared.fault.Feature.{Feature}
 use Rattle.yaml_lines.specs.declared.fault.YFault.TheVariants as faults
 use Rattle.yaml_lines.specs.Lines.{lines_of}
-use Rattle.yaml_read.specs.declared.value.YValue.{YValue}
+use Rattle.yaml_cells.specs.declared.value.YValue.{YValue}
 use Rattle.yaml_read.specs.Value.{IsValueOf}
 use Rattle.rule_entries.specs.declared.outcome.RuleOutcome.{RuleOutcome}
 use Rattle.rule_entries.specs.Finds.{Writes}

@@ -9,8 +9,9 @@ use code_reader::PatternReader;
 use node_tree::{List, Memory, Text};
 use rule_entries::{RuleOutcome, RulesFault, read_entries};
 use std::alloc::Global;
+use yaml_cells::YValue;
 use yaml_lines::{Feature, YFault};
-use yaml_read::{YValue, read_yaml};
+use yaml_read::read_yaml;
 
 /// A rule file as it was read: its name, and its rules or why it has none.
 #[derive(Drop)]

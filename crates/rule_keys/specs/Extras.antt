@@ -1,7 +1,7 @@
 -- What a rule may say besides: its fix, its paths and its options.
 use Rattle.std.specs.Prelude.{ℕ, Bool, true, false, ◌||◌, not, List, [], ◌∷◌, codes, if◌then◌else◌, Option, Some, None, Result, Ok, Err}
 use Rattle.std.specs.Str.{bytes_eq}
-use Rattle.yaml_read.specs.declared.value.YValue.{YValue}
+use Rattle.yaml_cells.specs.declared.value.YValue.{YValue}
 use Rattle.rule_keys.specs.declared.extra.Paths.{Paths}
 use Rattle.rule_keys.specs.declared.fault.RuleFaultKind.TheVariants.{WrongShape}
 use Rattle.rule_keys.specs.declared.stop.Misfit.{Misfit}

@@ -1,7 +1,7 @@
 -- The names on which a rule focuses.
 use Rattle.std.specs.Prelude.{ℕ, ◌+◌, List, [], ◌∷◌, Option, Some, None, Result, Ok}
 use Rattle.std.specs.Fmt.{decimal}
-use Rattle.yaml_read.specs.declared.value.YValue.{YValue}
+use Rattle.yaml_cells.specs.declared.value.YValue.{YValue}
 use Rattle.rule_keys.specs.declared.stop.Misfit.{Misfit}
 use Rattle.rule_keys.specs.Misfits.{under}
 use Rattle.rule_keys.specs.Values.{whole_name, list_of, some_items, and_then}

@@ -6,7 +6,7 @@ use Rattle.std.specs.Fmt.{decimal}
 use Rattle.lexing.specs.WordList.{is_among}
 use Rattle.node_tree.specs.declared.view.Lang.{Lang}
 use Rattle.node_tree.specs.declared.view.Lang.TheVariants as langs
-use Rattle.yaml_read.specs.declared.value.YValue.{YValue}
+use Rattle.yaml_cells.specs.declared.value.YValue.{YValue}
 use Rattle.rule_form.specs.declared.rule.Severity.{Severity}
 use Rattle.rule_form.specs.declared.rule.Severity.TheVariants as severities
 use Rattle.rule_keys.specs.declared.fault.RuleFaultKind.TheVariants.{WrongShape, OutsideProfile}

@@ -11,7 +11,7 @@ use Rattle.rule_keys.specs.declared.key.ChildKey.{ChildKey}
 use Rattle.rule_keys.specs.declared.key.ChildKey.TheVariants as children
 use Rattle.rule_keys.specs.declared.key.Role.{Role}
 use Rattle.rule_keys.specs.declared.key.Role.TheVariants as roles
-use Rattle.yaml_read.specs.declared.value.YValue.{YValue}
+use Rattle.yaml_cells.specs.declared.value.YValue.{YValue}
 use Rattle.rule_keys.specs.declared.stop.Misfit.{Misfit}
 use Rattle.rule_keys.specs.Misfits.{here, at}
 use Rattle.rule_keys.specs.Values.{Entry, or_misfit, and_then, entries_of}

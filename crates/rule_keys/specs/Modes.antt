@@ -1,7 +1,7 @@
 -- What a rule does with its patterns, and the keys that it needs for that.
 use Rattle.std.specs.Prelude.{ℕ, List, codes, if◌then◌else◌, Option, Some, None, Result, Ok, Err}
 use Rattle.std.specs.Str.{bytes_eq}
-use Rattle.yaml_read.specs.declared.value.YValue.{YValue}
+use Rattle.yaml_cells.specs.declared.value.YValue.{YValue}
 use Rattle.rule_keys.specs.declared.fault.RuleFaultKind.TheVariants.{WrongShape, OutsideProfile}
 use Rattle.rule_keys.specs.declared.key.Role.TheVariants as roles
 use Rattle.rule_keys.specs.declared.mode.RuleMode.{RuleMode}

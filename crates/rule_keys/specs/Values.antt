@@ -1,8 +1,8 @@
 -- What values are: texts, names, and the entries of maps.
 use Rattle.std.specs.Prelude.{ℕ, List, [], ◌∷◌, if◌then◌else◌, Option, Some, None, Result, Ok, Err}
 use Rattle.std.specs.Str.{bytes_eq}
-use Rattle.yaml_read.specs.declared.value.YValue.{YValue, out-YValue}
-use Rattle.yaml_read.specs.declared.value.YValue.TheOpen as layers
+use Rattle.yaml_cells.specs.declared.value.YValue.{YValue, out-YValue}
+use Rattle.yaml_cells.specs.declared.value.YValue.TheOpen as layers
 use Rattle.rule_keys.specs.declared.fault.RuleFaultKind.TheVariants.{MissingKey, WrongShape}
 use Rattle.rule_keys.specs.declared.stop.Misfit.{Misfit}
 use Rattle.rule_keys.specs.Misfits.{here, at}

@@ -10,7 +10,7 @@ use crate::stop::{Stop, at, here, within};
 use crate::value::{Entry, entries_of, is, list_of, look, text_of, whole_text};
 use node_tree::{List, Memory, Text};
 use std::alloc::Global;
-use yaml_read::YValue;
+use yaml_cells::YValue;
 
 /// The fix, if there is one: a text. Else the value of `fix` is of a wrong form.
 pub fn fix(alloc: Global, entries: &[Entry]) -> Result<Option<Text>, Stop>

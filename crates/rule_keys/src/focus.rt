@@ -8,7 +8,7 @@ use crate::stop::{Stop, within_item};
 use crate::value::{list_of, some_items, whole_name};
 use node_tree::{List, Text};
 use std::alloc::Global;
-use yaml_read::YValue;
+use yaml_cells::YValue;
 
 /// The name that a value must be, as a text of its own.
 fn name(alloc: Global, value: &YValue) -> Result<Text, Stop>

@@ -11,7 +11,7 @@ use node_tree::{Lang, List, Memory};
 use rule_form::Severity;
 use std::alloc::Global;
 use std::collections::BTreeSet;
-use yaml_read::YValue;
+use yaml_cells::YValue;
 
 /// The id of an entry, which isn't empty.
 pub fn id(alloc: Global, entries: &[Entry]) -> Result<&str, Stop>

@@ -10,7 +10,7 @@ use crate::stop::{Stop, at, here};
 use crate::value::{Entry, entries_of, is};
 use lexing::is_among;
 use std::alloc::Global;
-use yaml_read::YValue;
+use yaml_cells::YValue;
 
 /// A key whose value is a formula.
 #[derive(Clone, Copy, Debug, PartialEq, Eq)]

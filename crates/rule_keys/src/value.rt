@@ -11,7 +11,7 @@ use crate::name::is_name;
 use crate::stop::{Stop, at, here};
 use node_tree::Text;
 use std::alloc::Global;
-use yaml_read::YValue;
+use yaml_cells::YValue;
 
 /// An entry of a map.
 pub type Entry = (Text, YValue);

@@ -10,7 +10,7 @@ use languages::Languages;
 use node_tree::List;
 use rule_entries::{RuleOutcome, RulesFault, read_entries};
 use std::alloc::Global;
-use yaml_read::YValue;
+use yaml_cells::YValue;
 
 /// Reads the rules of a value: one outcome for each entry of the list that its key `rules` holds. Fails where memory runs out,
 /// and with NoRules where there is no such list.

@@ -3,6 +3,7 @@
 ghost use Rattle.std.specs.Prelude.{◌≡◌, ◌<◌, All, IfOk};
 ghost use Rattle.tree_match.specs.Placed.{IsLeafPlaced};
 
+use file_match::match_leaf;
 use judge_file::{FoundNotice, Opened, judge, open_file};
 use node_tree::{Bytes, FileView, List, Memory, Pattern, Steps, Text};
 use rule_form::Rule;
@@ -15,7 +16,7 @@ use std::marker::Brand;
 use std::slice;
 use std::sync::ledger::{Blank, Ledger};
 use std::test::Fail;
-use tree_match::{Leaf, match_leaf};
+use tree_match::Leaf;
 use yaml_read::read_yaml;
 
 // A hundred characters.

@@ -11,7 +11,7 @@ use Rattle.scan_world.specs.declared.tree.TreeFault.{TreeFault}
 use Rattle.scan_world.specs.declared.tree.TreeFault.TheVariants.{Absent}
 use Rattle.languages.specs.declared.patterns.Languages.{Languages}
 use Rattle.scan_session.specs.declared.scanner.Scanner.{Scanner}
-use Rattle.scan_session.specs.Fresh.{file_cmp}
+use Rattle.scan_session.specs.Shown.{file_cmp}
 use Rattle.scan_session.specs.Scans.{Scans}
 use Rattle.scan_session.proofs.Scans.{scans_then}
 use Rattle.run_status.specs.declared.status.Status.{Status}

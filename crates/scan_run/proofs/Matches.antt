@@ -12,7 +12,7 @@ use Rattle.pattern_read.specs.Patterns.{IsPatternOf}
 use Rattle.tree_match.specs.declared.leaf.Leaf.{Leaf}
 use Rattle.tree_match.specs.declared.leaf.Leaf.TheVariants.{Full, Crowded}
 use Rattle.tree_match.specs.Members.{Member, IsMember}
-use Rattle.tree_match.specs.Trees.{known_in}
+use Rattle.file_match.specs.Trees.{known_in}
 use Rattle.tree_match.specs.Leaf.{IsLeaf}
 use Rattle.tree_match.proofs.Exclusion.{whole_once, few_or_more}
 use Rattle.file_open.specs.declared.opened.Opened.{Opened}

@@ -9,7 +9,7 @@ use Rattle.tree_match.specs.declared.leaf.Leaf.{Leaf}
 use Rattle.tree_match.specs.declared.leaf.Leaf.TheVariants.{Full, Crowded}
 use Rattle.tree_match.specs.Leaf.{IsLeaf}
 use Rattle.tree_match.specs.Members.{Member, IsMember}
-use Rattle.tree_match.specs.Trees.{known_in}
+use Rattle.file_match.specs.Trees.{known_in}
 use Rattle.file_open.specs.Naming.{AreJustKnown}
 use Rattle.languages.specs.Trees.{AreKnown}
 use Rattle.run_status.specs.declared.status.Status.{Status}

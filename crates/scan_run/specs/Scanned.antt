@@ -5,7 +5,7 @@ use Rattle.scan_world.specs.Files.{Files}
 use Rattle.languages.specs.declared.patterns.Languages.{Languages}
 use Rattle.rule_files.specs.declared.rule_file.RuleFile.{RuleFile}
 use Rattle.scan_session.specs.declared.scanner.Scanner.{Scanner}
-use Rattle.scan_session.specs.Fresh.{file_cmp}
+use Rattle.scan_session.specs.Shown.{file_cmp}
 use Rattle.scan_session.specs.Scans.{Scans, HasScanned}
 use Rattle.scan_run.specs.Scan.{grammars}
 use Rattle.scan_run.specs.Taking.{File, AreRead, AreFiles, limit_end}

@@ -11,6 +11,7 @@ ghost use Rattle.scan_run.specs.Steps.{TakesSteps};
 
 use crate::input::read_target;
 use crate::output::{OutputError, print_all};
+use file_match::match_leaf;
 use file_open::{Opened, open_file, with_names};
 use languages::Languages;
 use literal_use::uses_literals;
@@ -20,7 +21,7 @@ use run_status::Status;
 use scan_world::{Sink, Source};
 use std::alloc::Global;
 use std::sync::ledger::Ledger;
-use tree_match::{Leaf, match_leaf};
+use tree_match::Leaf;
 
 // The file with the names that are known in it, where the pattern may take them; else as it is.
 fn named_for(alloc: Global, pattern: &Pattern, file: FileView) -> Result<FileView, Memory>

@@ -13,7 +13,7 @@ use Rattle.sorted_sets.specs.Orders.{total_of}
 use Rattle.tree_match.specs.Ascending.{IsAscending}
 use Rattle.report_form.specs.declared.report.Reported.{Reported}
 use Rattle.fix_apply.specs.Order.{place_cmp, AreInOrder}
-use Rattle.scan_session.specs.Reports.{bound_cmp, reported_cmp}
+use Rattle.file_results.specs.Reports.{bound_cmp, reported_cmp}
 use Rattle.running_rules.specs.NoteOrder.{name_total}
 
 place_total : IsTotalOrder place_cmp

@@ -10,13 +10,14 @@ use Rattle.rule_files.specs.declared.rule_file.RuleFile.{RuleFile}
 use Rattle.node_match.specs.Sets.{Among}
 use Rattle.decided_texts.specs.Decided.{Decisions, AreDecided, AreUndecided}
 use Rattle.decided_texts.proofs.Later.{same_refused}
-use Rattle.scan_session.specs.Sets.{IsExactly}
+use Rattle.file_results.specs.Sets.{IsExactly}
 use Rattle.running_rules.specs.Notes.{notice, notice_cmp}
 use Rattle.running_rules.specs.Running.{Stated, stated, texts_of, is_taken, is_refused, has_refused, built, running, refused_notices, first_notices, repeat_notice, option_notice, file_notices, rule_notices}
 use Rattle.running_rules.specs.Taking.{firsts_after, notices_after}
-use Rattle.scan_session.specs.Reports.{reported_cmp}
-use Rattle.scan_session.specs.Quieted.{Grammars}
-use Rattle.scan_session.specs.Fresh.{File, IsResult, IsFileNotice, IsFresh}
+use Rattle.file_results.specs.Reports.{reported_cmp}
+use Rattle.file_results.specs.Quieted.{Grammars}
+use Rattle.scan_session.specs.Fresh.{IsResult, IsFileNotice, IsFresh}
+use Rattle.file_results.specs.Shown.{File}
 use Rattle.running_rules.proofs.Repeats.{firsts_are, notices_are}
 use Rattle.running_rules.proofs.Members.{among_left, among_right}
 

@@ -4,15 +4,16 @@ use Rattle.report_form.specs.declared.notice.Notice.{Notice}
 use Rattle.report_form.specs.declared.report.Reported.{Reported}
 use Rattle.report_form.specs.declared.report.Report.{Report}
 use Rattle.rule_files.specs.declared.rule_file.RuleFile.{RuleFile}
-use Rattle.scan_session.specs.Sets.{HasMore}
+use Rattle.file_results.specs.Sets.{HasMore}
 use Rattle.running_rules.specs.Notes.{notice_cmp}
 use Rattle.running_rules.specs.NoteOrder.{notice_total}
-use Rattle.scan_session.specs.Reports.{reported_cmp}
-use Rattle.scan_session.specs.HitOrder.{reported_total}
+use Rattle.file_results.specs.Reports.{reported_cmp}
+use Rattle.file_results.specs.HitOrder.{reported_total}
 use Rattle.running_rules.specs.Running.{running}
-use Rattle.scan_session.specs.Quieted.{Grammars}
-use Rattle.scan_session.specs.Fresh.{File, IsResult, IsFresh}
-use Rattle.scan_session.proofs.Orders.{exactly_once, few_or_more}
+use Rattle.file_results.specs.Quieted.{Grammars}
+use Rattle.scan_session.specs.Fresh.{IsResult, IsFresh}
+use Rattle.file_results.specs.Shown.{File}
+use Rattle.file_results.proofs.Orders.{exactly_once, few_or_more}
 
 -- two fresh reports are equal
 pub fresh_once : (grammars : Grammars) (refused : List (List ℕ)) (files : List File) (rule_files : List RuleFile) (r s : Report) → IsFresh grammars refused files rule_files r → IsFresh grammars refused files rule_files s → r ≡ s

@@ -1,13 +1,4 @@
-pub mod Orders
-pub mod Quieted
-pub mod Somes
-pub mod Views
-pub mod Asking
-pub mod Judged
-pub mod Traces
-pub mod Followed
-pub mod Hits
-pub mod Named
+pub use Rattle.file_results.proofs.Orders
 pub mod Scans
 pub mod Laws
 pub mod Later

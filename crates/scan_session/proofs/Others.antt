@@ -11,16 +11,17 @@ use Rattle.report_form.specs.declared.report.Report.{Report}
 use Rattle.report_form.specs.declared.report.Reported.{Reported}
 use Rattle.rule_files.specs.declared.rule_file.RuleFile.{RuleFile}
 use Rattle.rule_files.specs.RuleFiles.{outcomes_of}
-use Rattle.scan_session.specs.Sets.{IsExactly}
-use Rattle.scan_session.specs.Reports.{reported_cmp}
+use Rattle.file_results.specs.Sets.{IsExactly}
+use Rattle.file_results.specs.Reports.{reported_cmp}
 use Rattle.running_rules.specs.Running.{Stated, stated_at, stated_from, stated, is_taken, has_refused, firsts, built, running}
 use Rattle.running_rules.specs.Taking.{firsts_after}
 use Rattle.running_rules.proofs.Repeats.{firsts_are}
-use Rattle.scan_session.specs.Quieted.{Grammars}
-use Rattle.scan_session.specs.Fresh.{File, IsResultIn, IsResult, IsFresh}
-use Rattle.scan_session.specs.HitOrder.{reported_total}
+use Rattle.file_results.specs.Quieted.{Grammars}
+use Rattle.scan_session.specs.Fresh.{IsResult, IsFresh}
+use Rattle.file_results.specs.Shown.{File, IsResultIn}
+use Rattle.file_results.specs.HitOrder.{reported_total}
 use Rattle.scan_session.specs.Others.{file_of, KeepsOtherFiles, KeepsOtherRules}
-use Rattle.scan_session.proofs.Orders.{exactly_once}
+use Rattle.file_results.proofs.Orders.{exactly_once}
 use Rattle.scan_session.proofs.Scans.{path_of}
 
 -- ---- one file more

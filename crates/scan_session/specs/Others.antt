@@ -8,8 +8,9 @@ use Rattle.report_form.specs.declared.report.Report.{Report}
 use Rattle.report_form.specs.declared.report.Reported.{Reported}
 use Rattle.rule_files.specs.declared.rule_file.RuleContent.TheVariants.{Rules}
 use Rattle.rule_files.specs.declared.rule_file.RuleFile.{RuleFile}
-use Rattle.scan_session.specs.Quieted.{Grammars}
-use Rattle.scan_session.specs.Fresh.{File, IsFresh}
+use Rattle.file_results.specs.Quieted.{Grammars}
+use Rattle.scan_session.specs.Fresh.{IsFresh}
+use Rattle.file_results.specs.Shown.{File}
 
 -- Whatever a file holds, the findings in the others are those of a scan without it.
 abbrev pub KeepsOtherFiles : Grammars → List (List ℕ) → List File → List RuleFile → Report → Type 0

@@ -7,11 +7,12 @@ use Rattle.report_form.specs.declared.notice.Notice.{Notice}
 use Rattle.report_form.specs.declared.report.Reported.{Reported}
 use Rattle.rule_files.specs.declared.rule_file.RuleFile.{RuleFile}
 use Rattle.scan_session.specs.declared.scanner.Scanner.{Scanner}
-use Rattle.scan_session.specs.Sets.{IsExactly, HasMore}
-use Rattle.scan_session.specs.Reports.{reported_cmp}
+use Rattle.file_results.specs.Sets.{IsExactly, HasMore}
+use Rattle.file_results.specs.Reports.{reported_cmp}
 use Rattle.running_rules.specs.Running.{running, rule_notices}
-use Rattle.scan_session.specs.Quieted.{Grammars}
-use Rattle.scan_session.specs.Fresh.{File, file_cmp, IsResult, IsFileNotice}
+use Rattle.file_results.specs.Quieted.{Grammars}
+use Rattle.scan_session.specs.Fresh.{IsResult, IsFileNotice}
+use Rattle.file_results.specs.Shown.{File, file_cmp}
 
 -- the findings of the rules in the files, which are not too many, and the notices of the files after those before
 pub record AreAll (grammars : Grammars) (rules : List Rule) (before : List Notice) (most : ℕ) (files : List File) (results : List Reported) (notices : List Notice) : Type 0 where

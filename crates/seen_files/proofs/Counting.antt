@@ -5,7 +5,7 @@ use Rattle.std.specs.List.{list_any}
 use Rattle.std.specs.Str.{bytes_eq}
 use Rattle.std.proofs.lemmas.Slice.Eq.{bytes_eq-Decides}
 use Rattle.node_match.specs.Sets.{Among}
-use Rattle.scan_session.specs.Fresh.{File}
+use Rattle.file_results.specs.Shown.{File}
 use Rattle.seen_files.specs.declared.seen.SeenFile.{SeenFile}
 use Rattle.seen_files.specs.Seen.{file_of}
 use Rattle.seen_files.specs.Spends.{is_same, changed}

@@ -15,14 +15,14 @@ use Rattle.report_form.specs.declared.notice.Notice.{Notice}
 use Rattle.report_form.specs.declared.notice.NoticeKind.TheVariants as kinds
 use Rattle.report_form.specs.declared.report.Reported.{Reported}
 use Rattle.running_rules.specs.Notes.{notice}
-use Rattle.scan_session.specs.Sets.{IsExactly}
-use Rattle.scan_session.specs.Reports.{reported_cmp}
-use Rattle.scan_session.specs.Looking.{named_leaf, own_leaf}
-use Rattle.scan_session.specs.Needing.{ServesRules}
-use Rattle.scan_session.specs.Quieted.{Comments, Grammars}
-use Rattle.scan_session.specs.Fresh.{File, lang_at, Shows, opened_notices, IsShownIn, IsNotedIn, IsResultIn, IsNoticeIn}
-use Rattle.scan_session.proofs.Named.{shown_served, noted_served}
-use Rattle.scan_session.proofs.Scans.{no_results, own_notices, seen_results, seen_notices}
+use Rattle.file_results.specs.Sets.{IsExactly}
+use Rattle.file_results.specs.Reports.{reported_cmp}
+use Rattle.file_results.specs.Looking.{named_leaf, own_leaf}
+use Rattle.file_results.specs.Needing.{ServesRules}
+use Rattle.file_results.specs.Quieted.{Comments, Grammars}
+use Rattle.file_results.specs.Shown.{File, lang_at, Shows, opened_notices, IsShownIn, IsNotedIn, IsResultIn, IsNoticeIn}
+use Rattle.file_results.proofs.Named.{shown_served, noted_served}
+use Rattle.file_results.proofs.OneFile.{no_results, own_notices, seen_results, seen_notices}
 use Rattle.seen_files.specs.declared.seen.SeenFile.{SeenFile}
 use Rattle.seen_files.specs.Seen.{file_of, IsSameFile, AreAlike, IsOpenedSo, IsSeen}
 

@@ -26,8 +26,8 @@ use Rattle.kept_leaves.specs.Ready.{pair_of, pairs_of}
 use Rattle.kept_leaves.proofs.Asking.{asks_for_meets}
 use Rattle.kept_leaves.proofs.Growing.{meets_as, meets_between, meets_none}
 use Rattle.kept_leaves.proofs.Pairs.{one_first, one_second, one_either}
-use Rattle.scan_session.specs.Asking.{IsAskedFor}
-use Rattle.scan_session.specs.Fresh.{File}
+use Rattle.file_results.specs.Asking.{IsAskedFor}
+use Rattle.file_results.specs.Shown.{File}
 use Rattle.seen_files.specs.declared.seen.SeenFile.{SeenFile}
 use Rattle.seen_files.specs.Needs.{HasView, IsNeededIn, IsNeededAt, IsNeeded}
 use Rattle.seen_files.specs.Seen.{file_of}

@@ -11,8 +11,8 @@ use Rattle.node_match.specs.Sets.{Among}
 use Rattle.tree_match.specs.Ascending.{IsAscending}
 use Rattle.running_rules.specs.NoteOrder.{name_total, name_same}
 use Rattle.running_rules.proofs.Members.{among_left, among_right, among_either, among_map}
-use Rattle.scan_session.specs.Fresh.{File, file_cmp}
-use Rattle.scan_session.proofs.Orders.{tail_ascends, first_below}
+use Rattle.file_results.specs.Shown.{File, file_cmp}
+use Rattle.file_results.proofs.Orders.{tail_ascends, first_below}
 use Rattle.seen_files.specs.declared.seen.SeenFile.{SeenFile}
 use Rattle.seen_files.specs.Seen.{file_of}
 use Rattle.seen_files.specs.Walk.{AreBefore, EndsAfter, Takes}

@@ -21,9 +21,9 @@ use Rattle.kept_leaves.proofs.Asking.{new_pairs, needed_left, turned_unmet, empt
 use Rattle.kept_leaves.proofs.Growing.{meets_none, meets_as, meets_then}
 use Rattle.running_rules.specs.Running.{AreApart}
 use Rattle.running_rules.proofs.Members.{among_map}
-use Rattle.scan_session.specs.Quieted.{Grammars}
-use Rattle.scan_session.specs.Fresh.{File, file_cmp}
-use Rattle.scan_session.proofs.Orders.{before_below}
+use Rattle.file_results.specs.Quieted.{Grammars}
+use Rattle.file_results.specs.Shown.{File, file_cmp}
+use Rattle.file_results.proofs.Orders.{before_below}
 use Rattle.seen_files.specs.declared.seen.SeenFile.{SeenFile}
 use Rattle.seen_files.specs.declared.seen.SeenFiles.{SeenFiles}
 use Rattle.seen_files.specs.Needs.{IsNeededAt, IsNeeded}

@@ -9,7 +9,7 @@ use Rattle.file_open.specs.declared.opened.Opened.TheVariants.{NoTree, Read}
 use Rattle.file_parts.specs.Parts.{SeenPart, ArePartsOf}
 use Rattle.kept_leaves.specs.Pairs.{Pair, IsOneOf}
 use Rattle.kept_leaves.specs.Ready.{pairs_of}
-use Rattle.scan_session.specs.Asking.{IsAskedFor}
+use Rattle.file_results.specs.Asking.{IsAskedFor}
 use Rattle.seen_files.specs.declared.seen.SeenFile.{SeenFile}
 
 -- it was opened as this file, which can be looked at

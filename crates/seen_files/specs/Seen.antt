@@ -12,10 +12,10 @@ use Rattle.report_form.specs.declared.notice.Notice.{Notice}
 use Rattle.kept_leaves.specs.Pairs.{Pair}
 use Rattle.kept_leaves.specs.Kept.{map_of, IsKept, IsEmpty, IsNoneMet}
 use Rattle.running_rules.specs.Running.{AreApart}
-use Rattle.scan_session.specs.Sets.{IsExactly}
-use Rattle.scan_session.specs.Reports.{reported_cmp}
-use Rattle.scan_session.specs.Quieted.{Grammars}
-use Rattle.scan_session.specs.Fresh.{File, file_cmp, lang_at, IsResultIn, IsNoticeIn}
+use Rattle.file_results.specs.Sets.{IsExactly}
+use Rattle.file_results.specs.Reports.{reported_cmp}
+use Rattle.file_results.specs.Quieted.{Grammars}
+use Rattle.file_results.specs.Shown.{File, file_cmp, lang_at, IsResultIn, IsNoticeIn}
 use Rattle.seen_files.specs.declared.seen.SeenFile.{SeenFile}
 use Rattle.seen_files.specs.declared.seen.SeenFiles.{SeenFiles}
 use Rattle.seen_files.specs.Needs.{IsNeeded}

@@ -3,7 +3,7 @@ use Rattle.std.specs.Prelude.{◌≡◌, ◌↔◌, ◌+◌, ℕ, List, length, 
 use Rattle.std.specs.List.{list_any}
 use Rattle.std.specs.Str.{bytes_eq}
 use Rattle.kept_leaves.specs.Pairs.{Pair, IsOneOf, AreApart}
-use Rattle.scan_session.specs.Fresh.{File}
+use Rattle.file_results.specs.Shown.{File}
 
 -- the same path, and the same bytes
 abbrev pub is_same : File → File → Bool

@@ -8,8 +8,8 @@ use Rattle.rule_form.specs.declared.rule.Rule.{Rule}
 use Rattle.kept_leaves.specs.declared.leaf.KeptPairs.{KeptPairs}
 use Rattle.kept_leaves.specs.Growth.{Meets}
 use Rattle.kept_leaves.specs.Kept.{Map}
-use Rattle.scan_session.specs.Quieted.{Grammars}
-use Rattle.scan_session.specs.Fresh.{File}
+use Rattle.file_results.specs.Quieted.{Grammars}
+use Rattle.file_results.specs.Shown.{File}
 use Rattle.seen_files.specs.declared.seen.SeenFile.{SeenFile}
 use Rattle.seen_files.specs.declared.seen.SeenFiles.{SeenFiles}
 use Rattle.seen_files.specs.Needs.{IsNeeded}

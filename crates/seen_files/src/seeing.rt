@@ -3,8 +3,8 @@
 ghost use Rattle.std.specs.Prelude.{◌≡◌, IfOk, OnOk, OnErr};
 ghost use Rattle.tree_match.specs.Ascending.{IsAscending};
 ghost use Rattle.kept_leaves.specs.Kept.{map_of};
-ghost use Rattle.scan_session.specs.Fresh.{file_cmp};
-ghost use Rattle.scan_session.specs.Quieted.{grammars_of};
+ghost use Rattle.file_results.specs.Shown.{file_cmp};
+ghost use Rattle.file_results.specs.Quieted.{grammars_of};
 ghost use Rattle.seen_files.specs.Needs.{IsNeeded};
 ghost use Rattle.seen_files.specs.Seen.{HasSeen, HasSeenNone, AfterSeen};
 ghost use Rattle.seen_files.specs.Spends.{Spends};

@@ -7,7 +7,7 @@ ghost use Rattle.kept_leaves.specs.Pairs.{Pair as a_pair};
 ghost use Rattle.kept_leaves.specs.Growth.{Meets};
 ghost use Rattle.kept_leaves.specs.Kept.{map_of, IsKept};
 ghost use Rattle.running_rules.specs.Running.{AreApart};
-ghost use Rattle.scan_session.specs.Quieted.{grammars_of};
+ghost use Rattle.file_results.specs.Quieted.{grammars_of};
 ghost use Rattle.seen_files.specs.Needs.{IsNeededAt};
 ghost use Rattle.seen_files.specs.Seen.{file_of, IsSeen};
 ghost use Rattle.seen_files.specs.Walk.{openings, Takes};

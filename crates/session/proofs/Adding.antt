@@ -12,7 +12,7 @@ use Rattle.scan_session.specs.declared.scanner.Scanner.{Scanner}
 use Rattle.scan_session.specs.Sets.{IsExactly}
 use Rattle.scan_session.specs.Reports.{reported_cmp}
 use Rattle.scan_session.specs.Quieted.{Grammars}
-use Rattle.scan_session.specs.Fresh.{File, file_cmp, IsResultIn, IsNoticeIn}
+use Rattle.scan_session.specs.Shown.{File, file_cmp, IsResultIn, IsNoticeIn}
 use Rattle.scan_session.specs.Scans.{HasScanned, Scans, AfterScan}
 use Rattle.scan_session.proofs.Orders.{ascends_front}
 use Rattle.seen_files.specs.declared.seen.SeenFile.{SeenFile}

@@ -16,7 +16,7 @@ use Rattle.running_rules.proofs.Members.{among_left}
 use Rattle.scan_session.specs.declared.scanner.Scanner.{Scanner}
 use Rattle.scan_session.specs.declared.fault.ScanFault.{ScanFault}
 use Rattle.scan_session.specs.Quieted.{Grammars}
-use Rattle.scan_session.specs.Fresh.{File}
+use Rattle.scan_session.specs.Shown.{File}
 use Rattle.scan_session.specs.Scans.{HasScanned}
 use Rattle.scan_session.proofs.Later.{same_running}
 use Rattle.seen_files.specs.declared.seen.SeenFiles.{SeenFiles}

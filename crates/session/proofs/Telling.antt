@@ -11,7 +11,8 @@ use Rattle.scan_session.specs.declared.fault.ScanFault.TheVariants.{Memory, TooM
 use Rattle.scan_session.specs.Sets.{HasMore}
 use Rattle.scan_session.specs.Reports.{reported_cmp}
 use Rattle.scan_session.specs.Quieted.{Grammars}
-use Rattle.scan_session.specs.Fresh.{File, IsFresh, IsResult}
+use Rattle.scan_session.specs.Fresh.{IsFresh, IsResult}
+use Rattle.scan_session.specs.Shown.{File}
 use Rattle.seen_files.specs.declared.seen.SeenFiles.{SeenFiles}
 use Rattle.workspace.specs.Reports.{Readings, IsReport, HasMoreResults}
 use Rattle.workspace.specs.Work.{Works}

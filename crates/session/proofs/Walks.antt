@@ -10,7 +10,7 @@ use Rattle.fix_apply.specs.Choices.{EndBy, AreFit, AreChosen}
 use Rattle.fix_apply.specs.declared.fixed.FixedFile.{FixedFile}
 use Rattle.workspace.specs.Fixes.{IsFixed, AreFixed}
 use Rattle.scan_session.specs.Quieted.{Grammars}
-use Rattle.scan_session.specs.Fresh.{File}
+use Rattle.scan_session.specs.Shown.{File}
 use Rattle.scan_session.specs.declared.scanner.Scanner.{Scanner}
 use Rattle.scan_session.specs.Scans.{HasScanned, Scans}
 use Rattle.scan_session.proofs.Scans.{scans_then}

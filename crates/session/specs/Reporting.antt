@@ -8,7 +8,8 @@ use Rattle.scan_session.specs.declared.fault.ScanFault.TheVariants.{Memory, TooM
 use Rattle.scan_session.specs.Sets.{HasMore}
 use Rattle.scan_session.specs.Reports.{reported_cmp}
 use Rattle.scan_session.specs.Quieted.{Grammars}
-use Rattle.scan_session.specs.Fresh.{File, IsFresh, IsResult}
+use Rattle.scan_session.specs.Fresh.{IsFresh, IsResult}
+use Rattle.scan_session.specs.Shown.{File}
 
 -- the report of a fresh scan of the files by the rule files, with no more findings than are wanted, and the only one
 pub record IsReported (grammars : Grammars) (refused : List (List ℕ)) (rules : List RuleFile) (most : ℕ) (files : List File) (report : Report) : Type 0 where

@@ -4,7 +4,7 @@ ghost use Rattle.std.specs.Prelude.{◌≡◌, List as list, [], ℕ, OnOk};
 ghost use Rattle.rule_files.specs.declared.rule_file.RuleFile.{RuleFile as a_rule_file};
 ghost use Rattle.running_rules.specs.Running.{running};
 ghost use Rattle.scan_session.specs.Quieted.{grammars_of};
-ghost use Rattle.scan_session.specs.Fresh.{File as a_file};
+ghost use Rattle.scan_session.specs.Shown.{File as a_file};
 ghost use Rattle.scan_session.specs.Scans.{HasScanned};
 ghost use Rattle.seen_files.specs.Seen.{HasSeen};
 ghost use Rattle.session.specs.Reporting.{TellsReport};

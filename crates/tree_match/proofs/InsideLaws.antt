@@ -12,7 +12,7 @@ use Rattle.meta_bind.specs.declared.bound.Bound.{Bound}
 use Rattle.node_match.specs.declared.class.Role.{Role}
 use Rattle.node_match.specs.declared.class.Role.TheVariants as roles
 use Rattle.node_match.specs.declared.order.Order.TheVariants.{Fixed}
-use Rattle.node_match.specs.declared.state.State.{State}
+use Rattle.node_search.specs.declared.state.State.{State}
 use Rattle.node_match.specs.Kinds.{role_of, IsOne}
 use Rattle.node_match.specs.Free.{Part, parts_of, HasText}
 use Rattle.node_match.specs.Orders.{order_of, some_is, has_dots, is_list, is_named, is_arguments, named_of, unnamed_of, named_at, unnamed_at, all_asked}

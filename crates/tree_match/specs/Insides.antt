@@ -7,7 +7,7 @@ use Rattle.node_tree.specs.Tree.{kind_of}
 use Rattle.node_tree.specs.Numbers.{Numbered, kids_at}
 use Rattle.node_pool.specs.Spots.{seen}
 use Rattle.meta_bind.specs.declared.bound.Bound.{Bound}
-use Rattle.node_match.specs.declared.state.State.{State}
+use Rattle.node_search.specs.declared.state.State.{State}
 use Rattle.node_match.specs.Kinds.{role_of, IsOne}
 use Rattle.node_match.specs.Free.{Part, parts_of}
 use Rattle.node_match.specs.Relation.{MatchesKid, MatchesList}

@@ -2,15 +2,16 @@
 
 ghost use Rattle.std.specs.Prelude.{drop, IsTrue, MatchOption};
 ghost use Rattle.node_pool.specs.Spots.{seen};
-ghost use Rattle.node_match.specs.Kids.{AreKids};
+ghost use Rattle.node_search.specs.Kids.{AreKids};
 ghost use Rattle.node_match.specs.Free.{parts_of};
 ghost use Rattle.tree_match.specs.Insides.{IsInOrder, Opens};
 
 use crate::aim::{Aim, Search};
 use crate::last::Inside;
 use node_match::{
-    Order, Role, State, has_names, is_alike, is_arguments, is_one, order_of, part_at, role_of,
+    Order, Role, has_names, is_alike, is_arguments, is_one, order_of, part_at, role_of,
 };
+use node_search::State;
 use node_tree::{Kind, Node};
 
 // Whether the pattern matches this kid, of a holder of that kind, just where its kids match those of the kid in order.

@@ -2,11 +2,11 @@
 use Rattle.std.proofs.Common.{◌≡◌, ◌⊎◌, inl, inr, ℕ, zero, suc, ◌+◌, ◌≤◌, ◌<◌, true, false, eqb, List, [], ◌∷◌, ◌++◌, length, Option, Some, refl, sym, ap, ◌∙◌, subst, arith, append_assoc, length-append}
 use Rattle.std.specs.Option.{option_and_then}
 use Rattle.std.specs.Prelude.{nat_le}
-use Rattle.yaml_read.specs.declared.cell.Cell.{Cell}
-use Rattle.yaml_read.specs.declared.cell.Cell.TheVariants.{Dash, Key, Scalar, Open, Close, Comma}
-use Rattle.yaml_read.specs.declared.value.YValue.{YValue}
-use Rattle.yaml_read.specs.declared.value.YValue.TheVariants.{Null, Seq, Map}
-use Rattle.yaml_read.specs.Cells.{is_item}
+use Rattle.yaml_cells.specs.declared.cell.Cell.{Cell}
+use Rattle.yaml_cells.specs.declared.cell.Cell.TheVariants.{Dash, Key, Scalar, Open, Close, Comma}
+use Rattle.yaml_cells.specs.declared.value.YValue.{YValue}
+use Rattle.yaml_cells.specs.declared.value.YValue.TheVariants.{Null, Seq, Map}
+use Rattle.yaml_cells.specs.Cells.{is_item}
 use Rattle.yaml_read.specs.Keys.{is_distinct}
 use Rattle.yaml_read.specs.Building.{Built, items_at, entries_at, flow_at, after_item, node_at, below_key, as_seq, as_map, steps, sequence_at, mapping_at}
 use Rattle.yaml_read.specs.Builds.{Building, Items, Entries, IsItem, Bracketed, BuildsBy, nothing, scalar, flow, sequence, mapping, Builds}

@@ -1,10 +1,5 @@
 pub mod Steps
-pub mod Cells
-pub mod Utf8
-pub mod Lasts
-pub mod Rows
 pub mod Readings
-pub mod Signs
 pub mod Distinct
 pub mod Sound
 pub mod Complete

@@ -10,10 +10,10 @@ use Rattle.yaml_lines.specs.declared.line.YLine.{YLine}
 use Rattle.yaml_lines.specs.declared.fault.YFault.{YFault}
 use Rattle.yaml_lines.specs.declared.fault.YFault.TheVariants.{Memory, NotUtf8, OutsideProfile, NoValue}
 use Rattle.yaml_lines.proofs.Reading.{gives_same}
-use Rattle.yaml_read.specs.declared.cell.Cell.{Cell}
-use Rattle.yaml_read.specs.declared.value.YValue.{YValue}
+use Rattle.yaml_cells.specs.declared.cell.Cell.{Cell}
+use Rattle.yaml_cells.specs.declared.value.YValue.{YValue}
 use Rattle.yaml_read.specs.Building.{Built, node_at}
-use Rattle.yaml_read.specs.Leaf.{Adds}
+use Rattle.yaml_cells.specs.Leaf.{Adds}
 use Rattle.yaml_read.specs.Value.{cells_of, ends_line, value_of, or_none, built, whole, IsCells}
 
 pub length-texts : (all : List (Bor (List ℕ))) → length (texts all) ≡ length all

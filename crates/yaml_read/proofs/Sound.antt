@@ -2,13 +2,13 @@
 use Rattle.std.proofs.Common.{◌≡◌, inl, inr, ℕ, zero, suc, ◌+◌, ◌≤◌, ◌<◌, Bool, true, false, eqb, List, [], ◌∷◌, ◌++◌, length, Option, Some, None, refl, sym, ap, ◌∙◌, subst, arith, append_assoc, IfSome}
 use Rattle.std.specs.Option.{option_map, option_and_then}
 use Rattle.std.specs.Prelude.{cond, nat_le}
-use Rattle.yaml_read.specs.declared.cell.Cell.{Cell}
-use Rattle.yaml_read.specs.declared.cell.Cell.TheVariants.{Dash, Key, Scalar, Open, Close, Comma}
-use Rattle.yaml_read.specs.declared.value.YValue.{YValue}
-use Rattle.yaml_read.specs.declared.value.YValue.TheVariants.{Seq, Map}
-use Rattle.yaml_read.specs.Cells.{is_item}
+use Rattle.yaml_cells.specs.declared.cell.Cell.{Cell}
+use Rattle.yaml_cells.specs.declared.cell.Cell.TheVariants.{Dash, Key, Scalar, Open, Close, Comma}
+use Rattle.yaml_cells.specs.declared.value.YValue.{YValue}
+use Rattle.yaml_cells.specs.declared.value.YValue.TheVariants.{Seq, Map}
+use Rattle.yaml_cells.specs.Cells.{is_item}
 use Rattle.yaml_read.specs.Keys.{is_distinct}
-use Rattle.yaml_read.specs.declared.cell.First.TheVariants as firsts
+use Rattle.yaml_cells.specs.declared.cell.First.TheVariants as firsts
 use Rattle.yaml_read.specs.Building.{node_from, entry_at, Built, AllBuilt, EntriesBuilt, items_at, entries_at, flow_at, with_item, with_entry, after_item, node_at, below_key, as_map, steps}
 use Rattle.yaml_read.specs.Builds.{Building, Items, Entries, Bracketed, BuildsBy, nothing, scalar, flow, sequence, mapping, Builds}
 

@@ -3,12 +3,12 @@ use Rattle.std.proofs.Common.{◌≡◌, ◌≢◌, reverse, Result, Ok, Err, �
 use Rattle.std.proofs.lemmas.List.{length-reverse}
 use Rattle.yaml_lines.specs.declared.fault.YFault.{YFault}
 use Rattle.yaml_lines.specs.declared.fault.YFault.TheVariants.{Memory, NotUtf8, OutsideProfile, NoValue}
-use Rattle.yaml_read.specs.declared.cell.First.TheVariants as firsts
-use Rattle.yaml_read.specs.declared.value.YValue.TheVariants.{Seq}
+use Rattle.yaml_cells.specs.declared.cell.First.TheVariants as firsts
+use Rattle.yaml_cells.specs.declared.value.YValue.TheVariants.{Seq}
 use Rattle.std.specs.Option.{option_map, option_and_then}
-use Rattle.yaml_read.specs.declared.cell.Cell.{Cell}
-use Rattle.yaml_read.specs.declared.value.YValue.{YValue}
-use Rattle.yaml_read.specs.Cells.{first_of, scalar_at, is_dash, is_close, is_item, key_at, cells_past}
+use Rattle.yaml_cells.specs.declared.cell.Cell.{Cell}
+use Rattle.yaml_cells.specs.declared.value.YValue.{YValue}
+use Rattle.yaml_cells.specs.Cells.{first_of, scalar_at, is_dash, is_close, is_item, key_at, cells_past}
 use Rattle.yaml_read.specs.Building.{Built, AllBuilt, EntriesBuilt, items_at, entries_at, flow_at, below_key, go_on, steps, as_seq, as_map, node_at, node_from, sequence_at, mapping_at, bracketed_at, Leaves, IsMapping}
 
 -- items before those that are read behind them

@@ -6,8 +6,8 @@ use Rattle.yaml_lines.specs.declared.line.YLine.{YLine}
 use Rattle.yaml_lines.specs.declared.fault.Feature.{Feature}
 use Rattle.yaml_lines.specs.declared.fault.YFault.{YFault}
 use Rattle.yaml_lines.specs.declared.fault.YFault.TheVariants.{NotUtf8, OutsideProfile, NoValue}
-use Rattle.yaml_read.specs.declared.cell.Cell.{Cell}
-use Rattle.yaml_read.specs.declared.value.YValue.{YValue}
+use Rattle.yaml_cells.specs.declared.cell.Cell.{Cell}
+use Rattle.yaml_cells.specs.declared.value.YValue.{YValue}
 use Rattle.yaml_read.specs.Building.{Built, node_at}
 use Rattle.yaml_read.specs.Builds.{Builds}
 use Rattle.yaml_read.specs.Value.{IsValueOf, whole, built, or_none, value_with, value_of, cells_of, ends_line, text_lines}
@@ -16,7 +16,7 @@ use Rattle.yaml_read.proofs.Complete.{node_read, Behind}
 use Rattle.yaml_lines.specs.Lines.{Gives}
 use Rattle.yaml_lines.proofs.Reading.{gives_same}
 use Rattle.std.specs.Prelude.{IfOk}
-use Rattle.yaml_read.specs.declared.cell.Cell.TheVariants.{Dash, Key, Scalar, Open, Close, Comma}
+use Rattle.yaml_cells.specs.declared.cell.Cell.TheVariants.{Dash, Key, Scalar, Open, Close, Comma}
 
 append_nil : (xs : List Cell) → xs ++ [] ≡ xs
 append_nil [] = refl

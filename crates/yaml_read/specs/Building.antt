@@ -3,13 +3,13 @@ use Rattle.std.specs.Prelude.{◌≡◌, ℕ, zero, suc, ◌+◌, List, [], ◌�
 use Rattle.std.specs.Option.{option_map, option_and_then}
 use Rattle.yaml_lines.specs.declared.fault.YFault.{YFault}
 use Rattle.yaml_lines.specs.declared.fault.YFault.TheVariants.{Memory, NoValue}
-use Rattle.yaml_read.specs.declared.cell.Cell.{Cell}
-use Rattle.yaml_read.specs.declared.cell.Cell.TheVariants.{Dash}
-use Rattle.yaml_read.specs.declared.cell.First.{First}
-use Rattle.yaml_read.specs.declared.cell.First.TheVariants as firsts
-use Rattle.yaml_read.specs.declared.value.YValue.{YValue}
-use Rattle.yaml_read.specs.declared.value.YValue.TheVariants.{Null, Seq, Map}
-use Rattle.yaml_read.specs.Cells.{first_of, cells_past, is_dash, is_close, is_comma, is_item, key_at, scalar_at, Keyed}
+use Rattle.yaml_cells.specs.declared.cell.Cell.{Cell}
+use Rattle.yaml_cells.specs.declared.cell.Cell.TheVariants.{Dash}
+use Rattle.yaml_cells.specs.declared.cell.First.{First}
+use Rattle.yaml_cells.specs.declared.cell.First.TheVariants as firsts
+use Rattle.yaml_cells.specs.declared.value.YValue.{YValue}
+use Rattle.yaml_cells.specs.declared.value.YValue.TheVariants.{Null, Seq, Map}
+use Rattle.yaml_cells.specs.Cells.{first_of, cells_past, is_dash, is_close, is_comma, is_item, key_at, scalar_at, Keyed}
 use Rattle.yaml_read.specs.Keys.{is_distinct}
 
 -- a value, and the cells behind it

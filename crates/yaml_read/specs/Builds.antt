@@ -1,10 +1,10 @@
 -- Which value cells build. A text's cells are its marks, keys, brackets, commas and scalars, each but `]` and `,` with its column.
 use Rattle.std.specs.Prelude.{◌≡◌, ◌⊎◌, ℕ, zero, suc, ◌+◌, ◌≤◌, List, [], ◌∷◌, ◌++◌, true}
-use Rattle.yaml_read.specs.declared.cell.Cell.{Cell}
-use Rattle.yaml_read.specs.declared.cell.Cell.TheVariants.{Dash, Key, Scalar, Open, Close, Comma}
-use Rattle.yaml_read.specs.declared.value.YValue.{YValue}
-use Rattle.yaml_read.specs.declared.value.YValue.TheVariants.{Null, Seq, Map}
-use Rattle.yaml_read.specs.Cells.{is_item}
+use Rattle.yaml_cells.specs.declared.cell.Cell.{Cell}
+use Rattle.yaml_cells.specs.declared.cell.Cell.TheVariants.{Dash, Key, Scalar, Open, Close, Comma}
+use Rattle.yaml_cells.specs.declared.value.YValue.{YValue}
+use Rattle.yaml_cells.specs.declared.value.YValue.TheVariants.{Null, Seq, Map}
+use Rattle.yaml_cells.specs.Cells.{is_item}
 use Rattle.yaml_read.specs.Keys.{is_distinct}
 use Rattle.yaml_read.specs.Building.{below_key}
 

@@ -1,6 +1,6 @@
 -- Keys that stand once.
 use Rattle.std.specs.Prelude.{ℕ, List, [], ◌∷◌, if◌then◌else◌, Bool, true, false, bytes_eq}
-use Rattle.yaml_read.specs.declared.value.YValue.{YValue}
+use Rattle.yaml_cells.specs.declared.value.YValue.{YValue}
 
 -- the key is that of an entry
 abbrev pub is_among : List ℕ → List (List ℕ × YValue) → Bool

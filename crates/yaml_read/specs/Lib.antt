@@ -1,12 +1,3 @@
-pub mod Cells
-pub mod Fold
-pub mod Word
-pub mod Quoted
-pub mod Block
-pub mod Unescaping
-pub mod Scalar
-pub mod Flow
-pub mod Leaf
 pub mod Keys
 pub mod Building
 pub mod Builds

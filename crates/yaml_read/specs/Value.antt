@@ -7,11 +7,11 @@ use Rattle.yaml_lines.specs.Feature.{begins_with}
 use Rattle.yaml_lines.specs.declared.line.YLine.{YLine}
 use Rattle.yaml_lines.specs.declared.fault.YFault.{YFault}
 use Rattle.yaml_lines.specs.declared.fault.YFault.TheVariants.{Memory, NoValue}
-use Rattle.yaml_read.specs.declared.cell.Cell.{Cell}
-use Rattle.yaml_read.specs.declared.cell.Cell.TheVariants.{Dash, Key}
-use Rattle.yaml_read.specs.declared.value.YValue.{YValue}
-use Rattle.yaml_read.specs.Flow.{before_cells}
-use Rattle.yaml_read.specs.Leaf.{leaf_cells}
+use Rattle.yaml_cells.specs.declared.cell.Cell.{Cell}
+use Rattle.yaml_cells.specs.declared.cell.Cell.TheVariants.{Dash, Key}
+use Rattle.yaml_cells.specs.declared.value.YValue.{YValue}
+use Rattle.yaml_cells.specs.Flow.{before_cells}
+use Rattle.yaml_cells.specs.Leaf.{leaf_cells}
 use Rattle.yaml_read.specs.Building.{Built, node_at}
 use Rattle.yaml_read.specs.Builds.{Builds}
 

@@ -2,17 +2,17 @@
 
 ghost use Rattle.std.specs.Prelude.{◌≡◌, ◌+◌, ◌<◌, ◌≤◌, reverse, IfOk};
 ghost use Rattle.yaml_read.specs.Building.{Leaves, IsMapping, WentOn};
-ghost use Rattle.yaml_read.specs.Cells.{scalar_at};
+ghost use Rattle.yaml_cells.specs.Cells.{scalar_at};
 ghost use Rattle.yaml_read.specs.Building as spec;
 ghost use Rattle.yaml_read.specs.Keys as keys;
 
-use crate::cell::{
-    Cell, First, first_of, is_close, is_comma, is_dash, is_item, skip, take_key, take_scalar,
-};
-use crate::value::YValue;
 use node_tree::{List, Memory, Text};
 use std::alloc::Global;
 use std::collections::BTreeSet;
+use yaml_cells::YValue;
+use yaml_cells::cell::{
+    Cell, First, first_of, is_close, is_comma, is_dash, is_item, skip, take_key, take_scalar,
+};
 use yaml_lines::YFault;
 
 /// Whether each key stands once.

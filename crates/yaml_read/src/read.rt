@@ -6,17 +6,16 @@ ghost use Rattle.yaml_lines.specs.Lines.{Gives, lines_of};
 ghost use Rattle.yaml_lines.specs.declared.fault.Feature.{Feature};
 ghost use Rattle.yaml_lines.specs.declared.fault.YFault.{YFault};
 ghost use Rattle.yaml_lines.specs.declared.fault.YFault.TheVariants.{NotUtf8, OutsideProfile, NoValue};
-ghost use Rattle.yaml_read.specs.Leaf.{Adds};
+ghost use Rattle.yaml_cells.specs.Leaf.{Adds};
 ghost use Rattle.yaml_read.specs.Value as spec;
-ghost use Rattle.yaml_read.specs.declared.value.YValue.{YValue};
+ghost use Rattle.yaml_cells.specs.declared.value.YValue.{YValue};
 
 use crate::build::node;
-use crate::cell::Cell;
-use crate::leaf::push_leaf;
-use crate::value::YValue;
 use node_tree::{List, Memory, Text, Twin};
 use std::alloc::Global;
 use std::str::from_utf8;
+use yaml_cells::cell::Cell;
+use yaml_cells::{YValue, push_leaf};
 use yaml_lines::{YFault, YLine, lines, past_order_mark};
 
 /// The line with a number, counted from 1.

@@ -4,8 +4,9 @@ use shown::{parted, repeated};
 use std::alloc::AllocError;
 use std::fmt::Write;
 use std::test::Fail;
+use yaml_cells::YValue;
 use yaml_lines::YFault;
-use yaml_read::{YValue, read_yaml};
+use yaml_read::read_yaml;
 
 // The value as it is written here: `~`, `w` and a word, `q` and a quoted text, `[..]` or `{..}`.
 fn show(out: &mut String, value: &YValue) -> Result<(), AllocError> {

@@ -2,7 +2,7 @@ use Rattle.std.proofs.Common.{◌≡◌, ap, subst}
 use Rattle.std.specs.Prelude.{Err}
 use Rattle.yaml_lines.specs.Lines.{Gives, lines_of}
 use Rattle.yaml_lines.specs.declared.fault.YFault.{YFault}
-use Rattle.yaml_read.specs.declared.value.YValue.{YValue}
+use Rattle.yaml_cells.specs.declared.value.YValue.{YValue}
 use Rattle.rule_files.proofs.Contents.{value_only, no_value, no_value_only}
 use Rattle.rule_files.proofs.rule_file.content_of.Goals as goal
 

@@ -1,6 +1,6 @@
 use Rattle.std.proofs.Common.{List, ℕ, subst}
 use Rattle.std.specs.Prelude.{Option}
-use Rattle.yaml_read.specs.declared.value.YValue.{YValue}
+use Rattle.yaml_cells.specs.declared.value.YValue.{YValue}
 use Rattle.rule_keys.specs.Misfits.{Fits}
 use Rattle.rule_keys.specs.Extras.{listed, globs_by}
 use Rattle.rule_keys.proofs.Folds.{fits_under}

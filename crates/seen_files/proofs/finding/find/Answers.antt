@@ -5,7 +5,7 @@ use Rattle.kept_leaves.specs.Kept.{map_of}
 use Rattle.report_form.specs.declared.notice.Notice.{Notice}
 use Rattle.report_form.specs.declared.notice.NoticeKind.TheVariants as kinds
 use Rattle.running_rules.specs.Notes.{notice}
-use Rattle.scan_session.specs.Quieted.{grammars_of}
+use Rattle.file_results.specs.Quieted.{grammars_of}
 use Rattle.seen_files.specs.Seen.{IsOpenedSo}
 use Rattle.seen_files.proofs.Found.{if_large, if_odd, if_plain, if_read}
 use Rattle.seen_files.proofs.Needing.{if_hidden, if_viewed}

@@ -6,8 +6,8 @@ use Rattle.node_tree.specs.declared.view.Lang.TheVariants.{Regex}
 use Rattle.file_open.specs.Opening.{IsOpened, HasOnlyTree}
 use Rattle.kept_leaves.specs.Growth.{Meets}
 use Rattle.kept_leaves.specs.Kept.{map_of}
-use Rattle.scan_session.specs.Fresh.{lang_at}
-use Rattle.scan_session.proofs.Scans.{opened_as, only_as}
+use Rattle.file_results.specs.Shown.{lang_at}
+use Rattle.file_results.proofs.OneFile.{opened_as, only_as}
 use Rattle.seen_files.specs.Needs.{IsNeededAt}
 use Rattle.seen_files.specs.Seen.{file_of}
 use Rattle.seen_files.proofs.Found.{opened_so}

@@ -1,7 +1,7 @@
 use Rattle.std.proofs.Common.{map, ap, ◌∙◌, refl}
 use Rattle.kept_leaves.specs.Kept.{map_of}
 use Rattle.file_map.specs.Seen.{lent}
-use Rattle.scan_session.specs.Quieted.{grammars_of}
+use Rattle.file_results.specs.Quieted.{grammars_of}
 use Rattle.seen_files.proofs.Stacks.{taken_at}
 use Rattle.seen_files.proofs.Walking.{walk_start, passed_start, steps_on, walk_end, in_path_order}
 use Rattle.seen_files.proofs.seeing.see_all.Goals as goal

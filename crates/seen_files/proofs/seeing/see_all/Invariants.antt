@@ -1,7 +1,7 @@
 use Rattle.std.proofs.Common.{map, take}
 use Rattle.kept_leaves.specs.Kept.{map_of}
 use Rattle.file_map.specs.Seen.{lent}
-use Rattle.scan_session.specs.Quieted.{grammars_of}
+use Rattle.file_results.specs.Quieted.{grammars_of}
 use Rattle.seen_files.specs.Seen.{AfterSeen}
 use Rattle.seen_files.specs.Walk.{turned, HasWalked, HasPassed}
 use Rattle.seen_files.proofs.seeing.see_all.Given as goal

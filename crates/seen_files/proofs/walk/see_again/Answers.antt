@@ -3,8 +3,8 @@ use Rattle.std.specs.Prelude.{IfOk}
 use Rattle.std.proofs.lemmas.Slice.Eq.{bytes_eq-Decides}
 use Rattle.rule_form.specs.declared.rule.Rule.{Rule}
 use Rattle.kept_leaves.specs.Kept.{map_of}
-use Rattle.scan_session.specs.Quieted.{grammars_of}
-use Rattle.scan_session.specs.Fresh.{File}
+use Rattle.file_results.specs.Quieted.{grammars_of}
+use Rattle.file_results.specs.Shown.{File}
 use Rattle.seen_files.specs.Seen.{file_of, IsOpenedSo, IsSeen}
 use Rattle.seen_files.proofs.Walking.{opened_again, looked_again, stays_seen}
 use Rattle.seen_files.proofs.walk.see_again.Goals as goal

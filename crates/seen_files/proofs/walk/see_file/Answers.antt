@@ -3,7 +3,7 @@ use Rattle.std.specs.Prelude.{Option, IfSome, IfOk}
 use Rattle.kept_leaves.specs.Growth.{Meets}
 use Rattle.kept_leaves.specs.Kept.{map_of, IsKept}
 use Rattle.kept_leaves.specs.Pairs.{Pair}
-use Rattle.scan_session.specs.Quieted.{grammars_of}
+use Rattle.file_results.specs.Quieted.{grammars_of}
 use Rattle.seen_files.specs.declared.seen.SeenFile.{SeenFile}
 use Rattle.seen_files.specs.Needs.{IsNeededAt}
 use Rattle.seen_files.specs.Seen.{IsSeen}

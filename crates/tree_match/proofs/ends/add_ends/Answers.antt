@@ -3,7 +3,7 @@ use Rattle.node_pool.specs.Spots.{seen}
 use Rattle.tree_match.specs.declared.aim.Aim.{Aim}
 use Rattle.node_match.specs.Sets.{AddsUpTo}
 use Rattle.tree_match.specs.Aims.{MemberFrom}
-use Rattle.node_match.specs.States.{line_of}
+use Rattle.node_search.specs.States.{line_of}
 use Rattle.tree_match.proofs.Spreads.{states_end}
 use Rattle.tree_match.proofs.ends.add_ends.Goals as goal
 use Rattle.node_match.proofs.Sets.{adds_up_as}

@@ -1,6 +1,6 @@
 use Rattle.std.proofs.Common.{◌+◌, ◌-◌, suc, List, ℕ, Option, reverse, ap, sym, ◌∙◌, subst, arith, refl}
 use Rattle.std.proofs.lemmas.Result.{err_from_is_err_and}
-use Rattle.yaml_read.specs.declared.value.YValue.{YValue}
+use Rattle.yaml_cells.specs.declared.value.YValue.{YValue}
 use Rattle.yaml_read.specs.Building.{Built, Leaves, node_at, items_at, entries_at, flow_at}
 use Rattle.yaml_read.proofs.Steps.{with_items, with_entries, items_begin, entries_begin, flow_begin, steps_is, items_turn, entries_turn, flow_turn, sequence_done, mapping_gives, mapping_bad, bracketed_broken, bracketed_done, node_dash, node_key, node_scalar, node_open}
 use Rattle.yaml_read.proofs.build.+build.Goals as goal

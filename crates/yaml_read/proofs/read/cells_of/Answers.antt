@@ -2,7 +2,7 @@ use Rattle.std.proofs.Common.{List, ap, ◌∙◌}
 use Rattle.yaml_lines.specs.Body.{texts}
 use Rattle.yaml_lines.specs.declared.line.YLine.{YLine}
 use Rattle.yaml_read.specs.Value.{cells_of, line_cells}
-use Rattle.yaml_read.proofs.Cells.{behind, behind-before}
+use Rattle.yaml_cells.proofs.Cells.{behind, behind-before}
 use Rattle.yaml_read.proofs.read.cells_of.Goals as goal
 
 pub lines-preserved : goal.lines-preserved

@@ -1,7 +1,7 @@
 use Rattle.std.proofs.Common.{◌≡◌, length}
 use Rattle.yaml_lines.specs.Body.{texts}
 use Rattle.yaml_read.specs.Value.{cells_of}
-use Rattle.yaml_read.proofs.Cells.{behind}
+use Rattle.yaml_cells.proofs.Cells.{behind}
 use Rattle.yaml_read.proofs.read.cells_of.Given as goal
 
 abbrev pub invariant-lines : goal.invariant-lines

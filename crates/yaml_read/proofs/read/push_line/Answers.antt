@@ -1,6 +1,6 @@
 use Rattle.std.proofs.Common.{◌++◌, List, ap, ◌∙◌, append_assoc}
 use Rattle.yaml_read.specs.Value.{mark_cells, dash_cells, key_cells}
-use Rattle.yaml_read.specs.declared.cell.Cell.{Cell}
+use Rattle.yaml_cells.specs.declared.cell.Cell.{Cell}
 use Rattle.yaml_read.proofs.Readings.{adds_behind, length-texts}
 use Rattle.yaml_read.proofs.read.push_line.Goals as goal
 

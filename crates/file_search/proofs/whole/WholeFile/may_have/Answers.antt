@@ -4,7 +4,7 @@ use Rattle.node_tree.specs.declared.known.Known.{Known}
 use Rattle.node_tree.specs.declared.view.FileView.{FileView}
 use Rattle.node_tree.specs.declared.view.Pattern.{Pattern}
 use Rattle.tree_match.specs.Members.{Member, IsMember}
-use Rattle.tree_match.specs.Trees.{known_in}
+use Rattle.file_match.specs.Trees.{known_in}
 use Rattle.file_search.proofs.Joins.{beside_as, none_alone, none_found}
 use Rattle.file_search.proofs.whole.WholeFile.may_have.Goals as goal
 

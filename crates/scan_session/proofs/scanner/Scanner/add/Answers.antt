@@ -1,6 +1,6 @@
 use Rattle.std.proofs.Common.{refl}
-use Rattle.scan_session.specs.Quieted.{grammars_of}
-use Rattle.scan_session.specs.Fresh.{IsNoticeIn}
+use Rattle.file_results.specs.Quieted.{grammars_of}
+use Rattle.file_results.specs.Shown.{IsNoticeIn}
 use Rattle.running_rules.proofs.Members.{appended, on_ok_map}
 use Rattle.scan_session.proofs.Scans.{not_over, passed_over, found_more}
 use Rattle.scan_session.proofs.scanner.Scanner.add.Goals as goal

@@ -1,7 +1,7 @@
 use Rattle.std.proofs.Common.{◌++◌, List, inl, refl, ap, ◌∙◌}
 use Rattle.report_form.specs.declared.notice.Notice.{Notice}
 use Rattle.running_rules.specs.Running.{running, rule_notices}
-use Rattle.scan_session.specs.Quieted.{grammars_of}
+use Rattle.file_results.specs.Quieted.{grammars_of}
 use Rattle.scan_session.proofs.Scans.{none_yet}
 use Rattle.scan_session.proofs.scanner.Scanner.of.Goals as goal
 

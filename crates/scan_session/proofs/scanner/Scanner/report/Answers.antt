@@ -1,5 +1,5 @@
 use Rattle.std.proofs.Common.{◌≡◌, ◌∙◌}
-use Rattle.scan_session.specs.Quieted.{grammars_of}
+use Rattle.file_results.specs.Quieted.{grammars_of}
 use Rattle.scan_session.proofs.Laws.{fresh_once}
 use Rattle.scan_session.proofs.Others.{other_files, other_rules}
 use Rattle.scan_session.proofs.Scans.{not_over, whole, over, is_fresh}

@@ -1,4 +1,4 @@
-use Rattle.scan_session.specs.Quieted.{grammars_of}
+use Rattle.file_results.specs.Quieted.{grammars_of}
 use Rattle.running_rules.proofs.Members.{on_ok_map}
 use Rattle.scan_session.proofs.Scans.{not_over, passed_over, apart, found_more}
 use Rattle.scan_session.proofs.scanner.Scanner.scan.Goals as goal

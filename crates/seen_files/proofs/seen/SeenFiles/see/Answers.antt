@@ -1,6 +1,6 @@
 use Rattle.std.proofs.Common.{ap, ◌∙◌, refl, reverse}
 use Rattle.kept_leaves.specs.Kept.{map_of}
-use Rattle.scan_session.specs.Quieted.{grammars_of}
+use Rattle.file_results.specs.Quieted.{grammars_of}
 use Rattle.seen_files.specs.Needs.{IsNeeded}
 use Rattle.seen_files.proofs.Walking.{turned_round, seen_all, spent_all}
 use Rattle.seen_files.proofs.seen.SeenFiles.see.Goals as goal

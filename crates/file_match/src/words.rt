@@ -1,0 +1,202 @@
+//! The words of a file, and those that a pattern needs: where a needed word stands nowhere in the file, the pattern has no
+//! member there.
+
+ghost use Rattle.std.specs.Prelude.{◌≡◌, ◌⊎◌, ◌↔◌, ◌<◌, ℕ, List as list, [], Bool, false, true, length, IfOk, OnOk, slice_index_or, slice_set, vec_len};
+ghost use Rattle.node_tree.specs.declared.node.Node.{Node as node_value};
+ghost use Rattle.node_tree.specs.declared.view.Shape.{Shape as shape_value};
+ghost use Rattle.node_tree.specs.Tree.{pre_of, kids_of};
+ghost use Rattle.node_tree.specs.Tree.{kind_of};
+ghost use Rattle.node_tree.specs.Kinds.{is_literal as literal};
+ghost use Rattle.node_match.specs.Kinds.{role_of as role};
+ghost use Rattle.node_tree.specs.declared.known.Known.{Known as known_value};
+ghost use Rattle.node_match.specs.declared.class.Role.TheVariants.{Deep, Plain};
+ghost use Rattle.node_match.specs.Sets.{Among};
+ghost use Rattle.tree_match.specs.Members.{Member, MemberOf};
+ghost use Rattle.file_match.specs.Words.{Word, word_of, place_of as place, mixed, Needs, PartNeeds, Covers, ArePlaces};
+
+use node_match::{Role, is_free, is_text_free, role_of};
+use node_tree::{Kind, List, Memory, Node, Shape};
+use std::alloc::Global;
+
+// How many places there are.
+const PLACES: usize = 65536;
+
+// The place of the text, with what came before it.
+fn mix(begin: u32, text: &[u8]) -> u32
+    requires { begin < 65536 }
+    ensures place { result ≡ mixed begin text.now }
+    ensures within { result < 65536 }
+{
+    let mut place = begin;
+    for byte in text {
+        place = (place * 31 + (*byte as u32)) % 65536;
+    }
+    place
+}
+
+// The place of the word of a node.
+fn place_of(node: &Node) -> u32
+    ensures place { result ≡ place (word_of node.now) }
+    ensures within { result < 65536 }
+{
+    mix(node.kind.place() as u32, node.text.as_str().as_bytes())
+}
+
+/// The marked places of the words of a file.
+#[derive(Drop)]
+pub struct Words {
+    pub marks: Vec<bool>,
+}
+
+/// The places of words that a pattern needs.
+#[derive(Drop)]
+pub struct Wanted {
+    pub places: List<u32>,
+}
+
+// Marks a place.
+fn mark(marks: &mut Vec<bool>, place: u32)
+    requires { place < vec_len marks.old }
+    ensures items { marks.new.items ≡ slice_set marks.old.items place true }
+{
+    marks[place as usize] = true;
+}
+
+/// The words of a tree.
+pub fn words_of(alloc: Global, tree: &Node) -> Result<Words, Memory>
+    ensures { IfOk result (λ words. Covers words.marks.items (pre_of tree.now)) }
+{
+    let mut marks = vec![in alloc; false; PLACES]?;
+    for node in tree.walk()? {
+        mark(&mut marks, place_of(node));
+    }
+    Ok(Words { marks })
+}
+
+// Adds the places of words that a pattern node needs.
+#[cycle(wanted)]
+fn add_wanted(fixed: bool, pattern: &Node, places: &mut List<u32>) -> Result<(), Memory>
+    ensures { OnOk result ((i : ℕ) → Among places.new i → Among places.old i ⊎ ((w : Word) × Needs fixed pattern.now w × (i ≡ place w))) }
+{
+    match role_of(pattern.kind) {
+        Role::Plain => {
+            add_own(fixed, pattern, places)?;
+            add_below(fixed, pattern, places)?;
+        }
+        Role::Deep => add_inside(fixed, pattern, places)?,
+        _ => {}
+    }
+    Ok(())
+}
+
+// The same for the parts of a plain pattern. A literal has none that count.
+#[cycle(wanted)]
+fn add_below(fixed: bool, pattern: &Node, places: &mut List<u32>) -> Result<(), Memory>
+    requires { role (kind_of pattern.now) ≡ Plain }
+    ensures { OnOk result ((i : ℕ) → Among places.new i → Among places.old i ⊎ ((w : Word) × Needs fixed pattern.now w × (i ≡ place w))) }
+{
+    if pattern.kind.is_literal() {
+        return Ok(());
+    }
+    add_parts(fixed, pattern, places)?;
+    Ok(())
+}
+
+// Whether a literal of that kind may stand for a name.
+fn may_stand(fixed: bool, kind: Kind) -> bool
+    ensures { result ≡ false → literal kind ≡ true → fixed ≡ true }
+{
+    if fixed {
+        return false;
+    }
+    kind.is_literal()
+}
+
+// The same for what stands inside a deep pattern.
+#[cycle(wanted)]
+fn add_inside(fixed: bool, pattern: &Node, places: &mut List<u32>) -> Result<(), Memory>
+    requires { role (kind_of pattern.now) ≡ Deep }
+    ensures { OnOk result ((i : ℕ) → Among places.new i → Among places.old i ⊎ ((w : Word) × Needs fixed pattern.now w × (i ≡ place w))) }
+{
+    let inner = pattern.kids.as_slice();
+    if inner.len() != 1 {
+        return Ok(());
+    }
+    add_wanted(fixed, &inner[0], places)?;
+    Ok(())
+}
+
+// The same for its own word.
+fn add_own(fixed: bool, pattern: &Node, places: &mut List<u32>) -> Result<(), Memory>
+    requires { role (kind_of pattern.now) ≡ Plain }
+    ensures { OnOk result ((i : ℕ) → Among places.new i → Among places.old i ⊎ ((w : Word) × Needs fixed pattern.now w × (i ≡ place w))) }
+{
+    if is_text_free(pattern) {
+        return Ok(());
+    }
+    if may_stand(fixed, pattern.kind) {
+        return Ok(());
+    }
+    places.push(place_of(pattern))?;
+    Ok(())
+}
+
+// The same for the parts of a pattern node.
+#[cycle(wanted)]
+fn add_parts(fixed: bool, pattern: &Node, places: &mut List<u32>) -> Result<(), Memory>
+    ensures { OnOk result ((i : ℕ) → Among places.new i → Among places.old i ⊎ ((w : Word) × PartNeeds fixed pattern.now w × (i ≡ place w))) }
+{
+    for at in 0..pattern.kids.len() {
+        add_part(fixed, pattern, at, places)?;
+    }
+    Ok(())
+}
+
+// The same for the part at this place.
+#[cycle(wanted)]
+fn add_part(fixed: bool, pattern: &Node, at: usize, places: &mut List<u32>) -> Result<(), Memory>
+    requires { at < length (kids_of pattern.now) }
+    ensures { OnOk result ((i : ℕ) → Among places.new i → Among places.old i ⊎ ((w : Word) × PartNeeds fixed pattern.now w × (i ≡ place w))) }
+{
+    let kid = &pattern.kids.as_slice()[at];
+    if is_free(pattern.kind, at, kid) {
+        return Ok(());
+    }
+    add_wanted(fixed, kid, places)?;
+    Ok(())
+}
+
+/// The places of words that a pattern of that shape needs.
+pub fn wanted_of(alloc: Global, fixed: bool, shape: Shape, pattern: &Node) -> Result<Wanted, Memory>
+    ensures { IfOk result (λ wanted. ArePlaces fixed shape pattern.now wanted.places) }
+{
+    let mut places = List::new(alloc);
+    match shape {
+        Shape::Expr => add_wanted(fixed, pattern, &mut places)?,
+        Shape::Run => add_parts(fixed, pattern, &mut places)?,
+    }
+    Ok(Wanted { places })
+}
+
+/// Whether each place is marked. Where one isn't, a pattern that needs its word has no member.
+pub fn may_match(words: &Words, wanted: &Wanted) -> bool
+    ensures { result ≡ false → (fixed : Bool) (known : list known_value) → (fixed ≡ true → known ≡ []) → (shape : shape_value) (pattern tree : node_value)
+        → Covers words.now.marks.items (pre_of tree) → ArePlaces fixed shape pattern wanted.now.places → (m : Member) → MemberOf known shape pattern tree m → ⊥ }
+{
+    for place in wanted.places.as_slice() {
+        if !is_marked(words, *place) {
+            return false;
+        }
+    }
+    true
+}
+
+// Whether the place is marked.
+fn is_marked(words: &Words, place: u32) -> bool
+    ensures { result ≡ slice_index_or words.now.marks.items place false }
+{
+    match words.marks.as_slice().get(place as usize) {
+        None => false,
+        Some(mark) => *mark,
+    }
+}

@@ -1,0 +1,11 @@
+pub mod Orders
+pub mod Quieted
+pub mod Somes
+pub mod Views
+pub mod Asking
+pub mod Judged
+pub mod Traces
+pub mod Followed
+pub mod Hits
+pub mod Named
+pub mod OneFile

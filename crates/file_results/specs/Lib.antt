@@ -1,0 +1,13 @@
+pub mod Sets
+pub mod Looking
+pub mod Asking
+pub mod Needing
+pub mod Following
+pub mod Reports
+pub mod Hits
+pub mod HitOrder
+pub mod Judging
+pub mod Quieted
+pub mod Tracing
+pub mod Shown
+pub mod Followed

@@ -1,4 +1,0 @@
-use Rattle.node_match.proofs.steady.is_bound.Goals as goal
-
-pub returns-in-Some : goal.returns-in-Some
-returns-in-Some c _ = (_, c.in-Some.ensures)

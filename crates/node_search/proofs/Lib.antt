@@ -1,0 +1,6 @@
+pub mod Calls
+pub mod SteadyLaws
+pub mod Counted
+pub mod Lines
+pub mod Going
+pub mod Steps

@@ -1,0 +1,15 @@
+//! The search for what metavariables stand for where a pattern matches a node, or a list of patterns the kids of one.
+#![tactic(auto)]
+
+mod choice;
+mod holder;
+mod list;
+mod search;
+mod state;
+mod steady;
+mod taken;
+
+pub use holder::Holder;
+pub use list::{alone, count_kids, finish, part_of, place, span_of_run};
+pub use search::{choose_kids, relate, step_at};
+pub use state::State;

@@ -1,9 +1,0 @@
-use Rattle.scan_session.specs.Needing.{NeedsNoNames}
-use Rattle.scan_session.proofs.Named.{unnamed, lacking, if_ok_map}
-use Rattle.scan_session.proofs.needing.pattern_needs.Goals as goal
-
-pub returns-then-not-uses_literals : goal.returns-then-not-uses_literals
-returns-then-not-uses_literals c _ = unnamed c.args.file.now.lang c.args.file.now.tree c.args.pattern.now (c.uses_literals.ensures.leaves c.if-not-uses_literals.true)
-
-pub returns : goal.returns
-returns c = let v = c.args.file.now in if_ok_map _ _ c.may_have.result (λ may h e. lacking v.lang v.tree c.args.pattern.now (h e)) c.may_have.ensures

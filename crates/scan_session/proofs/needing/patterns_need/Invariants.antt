@@ -1,7 +1,0 @@
-use Rattle.std.proofs.Common.{drop}
-use Rattle.scan_session.specs.Needing.{NeedsNoNames}
-use Rattle.scan_session.proofs.Named.{Rests}
-use Rattle.scan_session.proofs.needing.patterns_need.Given as goal
-
-abbrev pub invariant-loop-pattern : goal.invariant-loop-pattern
-invariant-loop-pattern l = Rests (NeedsNoNames l.file.lang l.file.tree) l.patterns (drop l.pattern-index l.patterns)

@@ -1,8 +1,0 @@
-use Rattle.std.proofs.Common.{drop}
-use Rattle.rule_form.specs.declared.rule.Rule.{Rule}
-use Rattle.scan_session.specs.Needing.{PartsNeedNoNames}
-use Rattle.scan_session.proofs.Named.{Rests}
-use Rattle.scan_session.proofs.needing.rules_need.Given as goal
-
-abbrev pub invariant-loop-runner : goal.invariant-loop-runner
-invariant-loop-runner l = Rests (λ (r : Rule). PartsNeedNoNames l.file.lang l.file.tree r.parts) l.running (drop l.runner-index l.running)

@@ -1,6 +1,0 @@
-use Rattle.std.proofs.Common.{drop}
-use Rattle.scan_session.proofs.Hits.{AllGather}
-use Rattle.scan_session.proofs.row.rows_of.Given as goal
-
-abbrev pub invariant-loop-one : goal.invariant-loop-one
-invariant-loop-one l = AllGather l.running l.rows.items l.judged (drop l.one-index l.judged)

@@ -1,0 +1,9 @@
+pub mod Cells
+pub mod Fold
+pub mod Word
+pub mod Quoted
+pub mod Block
+pub mod Unescaping
+pub mod Scalar
+pub mod Flow
+pub mod Leaf

@@ -1,5 +1,0 @@
-use Rattle.yaml_read.proofs.Lasts.{last_is}
-use Rattle.yaml_read.proofs.word.is_last.Goals as goal
-
-pub returns : goal.returns
-returns c = last_is c.args.lines.now c.args.at c.requires
