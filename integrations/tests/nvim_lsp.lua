@@ -15,7 +15,13 @@ local function wait_for(count)
 end
 
 dofile(os.getenv('SETTINGS'))
-vim.cmd('edit a.py')
+vim.cmd('edit b.h')
+wait_for(1)
+seen = {}
+vim.api.nvim_buf_set_lines(0, 0, 0, false, { '' })
+vim.wait(15000, function() return shown()[1] == 'no-eval 1:0-1:7' end, 20)
+note(shown()[1])
+vim.cmd('edit! a.py')
 wait_for(1)
 
 vim.api.nvim_buf_set_lines(0, 1, 1, false, { 's = "\u{1f600}\u{e9}"; eval(x)' })

@@ -18,6 +18,7 @@ from semscan_tools.documents import Document, Text
 from semscan_tools.lsp_rules import read_rules
 from semscan_tools.lsp_settings import SHAPES, Settings, with_values
 from semscan_tools.session_keeper import Keeper
+from semscan_tools.tree_parts import ENDINGS
 
 FAKE = os.path.join(TESTS, 'fake_semscan.py')
 RULES = """\
@@ -544,7 +545,9 @@ class InEditors(InFolder):
         return get(os.path.dirname(seen), 'seen').decode().splitlines()
 
     def neovim(self, program):
+        self.put('b.h', 'eval(x)\n')
         found = self.tries(program, 'semscan.lua', 'nvim', '--clean', '--headless', '-n', '-S', os.path.join(TESTS, 'nvim_lsp.lua'))
+        self.assertEqual(found.pop(0), 'no-eval 1:0-1:7')
         self.assertEqual(found, [
             'no-eval 0:0-0:7', 'no-eval 0:0-0:7 no-eval 1:14-1:21', 'Fix all findings of semscan in this file (2)', '',
             'parse(x)|s = "\U0001f600\u00e9"; parse(x)', 'true'])
@@ -559,13 +562,21 @@ class InEditors(InFolder):
     def test_settings_of_vs_code(self):
         """The extension offers all settings that the server takes, with the same defaults, and hands them on."""
         room = os.path.join(INTEGRATIONS, 'editors', 'vscode')
-        properties = json.loads(get(room, 'package.json'))['contributes']['configuration']['properties']
+        package = json.loads(get(room, 'package.json'))
+        self.assertIn('onLanguage:cpp', package['activationEvents'])  # what VS Code takes a header file for
+        properties = package['contributes']['configuration']['properties']
         self.assertEqual(properties.pop('semscan.command')['default'], 'semscan-lsp')
         defaults = {name.removeprefix('semscan.'): property['default'] for name, property in properties.items()}
         self.assertEqual(set(defaults), set(SHAPES))
         self.assertEqual(with_values(Settings(), defaults), (Settings(), []))
         names, = re.findall(r'^const NAMES = \[(.*)\];$', get(room, 'extension.js').decode(), re.MULTILINE)
         self.assertEqual({name.strip(" '") for name in names.split(',')}, set(SHAPES))
+
+    def test_files_that_editors_hand_over(self):
+        """Those with the endings that a scan takes, whatever language the editor takes them for."""
+        for name in ('semscan.lua', 'vscode/extension.js'):
+            endings, = re.findall(r"\*\.\{(.*)\}'", get(os.path.join(INTEGRATIONS, 'editors'), name).decode())
+            self.assertEqual(tuple('.' + ending for ending in endings.split(',')), ENDINGS, name)
 
     @needs_neovim
     def test_neovim_over_the_fake(self):

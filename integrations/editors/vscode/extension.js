@@ -2,6 +2,8 @@
 const { workspace } = require('vscode');
 const { LanguageClient } = require('vscode-languageclient/node');
 
+// Files are told by their endings, as semscan does it: VS Code takes a header file (.h) for C++.
+const FILES = '**/*.{py,pyi,c,h,json,txt,md,yaml,yml,toml,ini,cfg,sh,html}';
 const NAMES = ['config', 'paths', 'debounce', 'max', 'trace'];
 let client;
 
@@ -10,18 +12,17 @@ function settings() {
   return Object.fromEntries(NAMES.map((name) => [name, chosen.get(name)]));
 }
 
-exports.activate = function () {
+exports.activate = function (context) {
   const command = workspace.getConfiguration('semscan').get('command');
   client = new LanguageClient('semscan', 'semscan', { command, args: [] }, {
-    documentSelector: ['python', 'c', 'json', 'plaintext', 'markdown', 'yaml', 'toml', 'ini', 'shellscript', 'html']
-      .map((language) => ({ scheme: 'file', language })),
+    documentSelector: [{ scheme: 'file', pattern: FILES }],
     initializationOptions: settings(),
   });
-  workspace.onDidChangeConfiguration((change) => {
+  context.subscriptions.push(workspace.onDidChangeConfiguration((change) => {
     if (change.affectsConfiguration('semscan')) {
       client.sendNotification('workspace/didChangeConfiguration', { settings: { semscan: settings() } });
     }
-  });
+  }));
   return client.start();
 };
 
