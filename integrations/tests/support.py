@@ -1,6 +1,7 @@
 """What the tests of this folder share."""
 import json
 import os
+import pwd
 import subprocess
 import sys
 import tempfile
@@ -31,11 +32,32 @@ def get(folder, path):
         return file.read()
 
 
-def run(name, *words, cwd, stdin=b'', **environment):
-    """A run of a program of this folder."""
+def run(name, *words, cwd, stdin=b'', by=(sys.executable, {}), **environment):
+    """A run of a program of this folder, by a Python and as a user."""
     variables = {**os.environ, **({'SEMSCAN': PROGRAM} if PROGRAM else {}), **environment}
-    program = [sys.executable, os.path.join(INTEGRATIONS, name)]
-    return subprocess.run([*program, *words], cwd=cwd, input=stdin, capture_output=True, env=variables, check=False)
+    python, user = by
+    return subprocess.run([python, os.path.join(INTEGRATIONS, name), *words], cwd=cwd, input=stdin, capture_output=True, env=variables, check=False, **user)
+
+
+def other_user():
+    """The Python of a user who may not read and write everywhere, and how to run it as that user: for root nobody. None where nobody can't run the
+    programs of this folder."""
+    if os.geteuid() != 0:
+        return sys.executable, {}
+    needed = [INTEGRATIONS] + ([PROGRAM] if PROGRAM else [])
+    reads = 'import os, sys; sys.exit(not all(os.access(path, os.R_OK | os.X_OK) for path in sys.argv[1:]))'
+    try:
+        nobody = pwd.getpwnam('nobody')
+    except KeyError:
+        return None
+    user = {'user': nobody.pw_uid, 'group': nobody.pw_gid, 'extra_groups': []}
+    for python in filter(os.path.exists, (sys.executable, '/usr/bin/python3')):
+        try:
+            if subprocess.run([python, '-c', reads, *needed], cwd='/', capture_output=True, check=False, **user).returncode == 0:
+                return python, user
+        except OSError:  # nobody may not run this Python
+            pass
+    return None
 
 
 def scan(folder, *words):
@@ -78,6 +100,14 @@ class InFolder(unittest.TestCase):
 
     def put(self, path, content):
         put(self.folder, path, content)
+
+    def run_by_other(self, name, *words, stdin=b''):
+        """A run in the folder by a user who may not read and write everywhere."""
+        by = other_user()
+        if by is None:
+            self.skipTest('needs a user other than root who can run this Python and the program')
+        os.chmod(os.path.dirname(self.folder), 0o755)
+        return run(name, *words, cwd=self.folder, stdin=stdin, by=by)
 
     def ends(self, found, status, said=b''):
         """Whether a run ended so, and said so on standard error, without a trace of Python."""

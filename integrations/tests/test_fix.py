@@ -158,11 +158,10 @@ class Refused(InFolder):
         self.refuses(b'', b'the scan printed nothing')
 
     def test_folder_that_cannot_be_written(self):
-        if os.geteuid() == 0:
-            self.skipTest('needs a user who may not write everywhere')
         os.chmod(self.folder, 0o555)
         self.addCleanup(os.chmod, self.folder, 0o755)
-        self.ends(run('semscan-fix', '--write', cwd=self.folder, stdin=self.line), 5, b"can't be written")
+        self.ends(self.run_by_other('semscan-fix', '--write', stdin=self.line), 5, b"a.py can't be written: Permission denied")
+        self.assertEqual(get(self.folder, 'a.py'), CODE)
 
     def test_how_a_path_must_be_written(self):
         self.ends(run('semscan-fix', 'scan', '--config', 'r.yaml', './src', cwd=self.folder), 2, b'write src instead of ./src')

@@ -218,9 +218,7 @@ class Parts(Tree):
         self.put('closed/in/a.py', 'f(1)\n')
         os.chmod(os.path.join(self.folder, 'closed/in'), 0)
         self.addCleanup(os.chmod, os.path.join(self.folder, 'closed/in'), 0o755)
-        if os.access(os.path.join(self.folder, 'closed/in'), os.R_OK):
-            self.skipTest('need a user other than root, who can read all folders')
-        self.ends(run('semscan-shards', '--config', 'rules.yaml', 'closed', cwd=self.folder), 6, b'folder failed')
+        self.ends(self.run_by_other('semscan-shards', '--config', 'rules.yaml', 'closed'), 6, b"folder failed: closed/in can't be read: Permission denied")
 
     @needs_program
     def test_more_than_one_run_takes(self):
