@@ -9,8 +9,9 @@ from .refusal import Refusal
 
 BUILT = os.path.join(os.path.dirname(os.path.dirname(os.path.dirname(os.path.abspath(__file__)))), 'crates', 'semscan', 'out', 'semscan')
 NO_PROGRAM = 127
+FORMS = {'scan': 'semscan scan [--error] [--trace] [--max N] --config PATH PREFIX', 'fix': 'semscan fix [--dryrun] [--trace] [--max N] --config PATH PREFIX'}
 MEANING = {
-    2: 'the words are none of the program\'s: semscan scan [--error] [--trace] [--max N] --config PATH PREFIX',
+    2: "the program doesn't take these words",
     3: 'memory ran out; scan fewer files at once',
     5: 'the report could not be written',
     6: 'a file or folder could not be read; look at its permissions',
@@ -73,7 +74,10 @@ def fault_of_run(run: subprocess.CompletedProcess) -> Optional[str]:
     if run.returncode in (0, 1):
         return None
     said = run.stderr.decode('utf-8', 'replace').strip() or 'semscan: nothing was said'
-    meaning = MEANING.get(run.returncode, 'the program ended with status %d' % run.returncode)
+    if run.returncode == 2:
+        meaning = 'write %s, with the options before PREFIX and a space after --config' % FORMS[run.args[1]]
+    else:
+        meaning = MEANING.get(run.returncode, 'the program ended with status %d' % run.returncode)
     return '%s: %s' % (said.removeprefix('semscan: '), meaning)
 
 

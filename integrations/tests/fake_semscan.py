@@ -253,7 +253,7 @@ def main():
         session(int(options[1]) if options else 50_000, '--trace' in words)
     elif words[:1] == ['scan'] and '--config' in words:
         scan(words)
-    elif words[:1] == ['fix'] and '--dryrun' in words:
+    elif words[:1] == ['fix'] and '--dryrun' in words and '--config' in words:
         fix(words)
     else:
         end(2, 'usage')

@@ -166,6 +166,11 @@ class Refused(InFolder):
     def test_how_a_path_must_be_written(self):
         self.ends(run('semscan-fix', 'scan', '--config', 'r.yaml', './src', cwd=self.folder), 2, b'write src instead of ./src')
 
+    def test_words_that_are_not_enough(self):
+        for word in ('scan', 'fix'):
+            found = run('semscan-fix', word, cwd=self.folder, SEMSCAN=FAKE)
+            self.ends(found, 2, b'usage: write semscan %s [' % word.encode())
+
 
 class Runs(InFolder):
     """semscan-fix scan WORDS.. and fix WORDS.."""

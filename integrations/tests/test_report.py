@@ -414,4 +414,6 @@ class Runner(InFolder):
         self.assertEqual((again.returncode, again.stdout), (0, found.stdout))
         self.ends(run('semscan-report', 'scan', '--config', 'none.yaml', 'src', cwd=self.folder), 10, b'no config: the rule file is not there')
         self.ends(run('semscan-report', 'scan', '--max', '0', '--config', 'rules.yaml', 'src', cwd=self.folder), 9, b'more than 0: ')
-        self.ends(run('semscan-report', 'scan', 'src', cwd=self.folder), 2, b'usage: the words are none of')
+        self.ends(run('semscan-report', 'scan', 'src', cwd=self.folder), 2, b'usage: write semscan scan [--error]')
+        for words in (['--config=rules.yaml', 'src'], ['src', '--config', 'rules.yaml'], ['--config', 'rules.yaml', 'src', 'src']):
+            self.ends(run('semscan-report', 'scan', *words, cwd=self.folder), 2, b'with the options before PREFIX and a space after --config')
