@@ -133,6 +133,16 @@ class Integrations(InFolder):
         self.assertIn(b'fgets(line', get(self.folder, 'examples/shop/lib/names.c'))
 
     @needs_program
+    def test_commands_for_a_project_of_your_own(self):
+        script = next(block for block in blocks_of(page('INTEGRATIONS.md')) if block.startswith('export PATH'))
+        self.assertEqual(script.count('/PATH/project'), 1)
+        self.put('src/a.py', 'import os\n\nos.system(name)\n')
+        ran = in_bash(script.replace('/PATH/semscan', shlex.quote(TOP)).replace('/PATH/project', shlex.quote(self.folder)), '/')
+        self.assertEqual((ran.returncode, ran.stderr), (0, b''))
+        self.assertIn(b'src/a.py:3:1: error: ', ran.stdout)
+        self.assertTrue(ran.stdout.endswith(b'\n1 finding in 1 file (1 ERROR), 0 notices\n'), ran.stdout)
+
+    @needs_program
     @unittest.skipUnless(shutil.which('git'), 'needs git')
     def test_check_of_settings(self):
         script = next(block for block in blocks_of(page('INTEGRATIONS.md')) if block.startswith('git ls-files'))

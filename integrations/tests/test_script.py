@@ -1,10 +1,10 @@
-"""The script ./semscan: how it says that a path must be written, before it runs or builds anything."""
+"""The script ./semscan: how it says that a path must be written, before it runs or builds anything. And the merge gate, .ci/run."""
 import os
 import shutil
 import subprocess
 import time
 
-from .support import TOP, InFolder
+from .support import TOP, InFolder, get
 
 
 class Script(InFolder):
@@ -49,3 +49,20 @@ class Script(InFolder):
                       ['scan'], ['scan', '--config'], ['scan', '--config', 'r.yaml', '...'], ['match', 'python', './x'], ['check', './json'], ['session'], []):
             found = self.script(*words)
             self.assertEqual((found.returncode, found.stdout.decode(), found.stderr), (0, 'ran: %s\n' % ' '.join(words), b''))
+
+
+class Gate(InFolder):
+    """A copy of .ci/run beside stand-ins of `rt` and of the tests of this folder."""
+
+    def test_tests_run_after_the_proofs(self):
+        """They run whatever came of the proofs, and if they fail, that is said. The status is that of the proofs."""
+        self.put('.ci/run', get(TOP, '.ci/run'))
+        for proved, held, said in ((0, 0, b''), (0, 1, b'tests of integrations/ or rules/ failed'), (3, 0, b'')):
+            self.put('integrations/test.py', 'import sys\nprint("tests", flush=True)\nsys.exit(%d)\n' % held)
+            self.put('bin/rt', '#!/bin/sh\necho "rt $*"\nexit %d\n' % proved)
+            os.chmod(os.path.join(self.folder, 'bin/rt'), 0o755)
+            found = subprocess.run(['bash', '.ci/run'], cwd=self.folder, stdin=subprocess.DEVNULL, capture_output=True, check=False,
+                                   env={**os.environ, 'PATH': os.path.join(self.folder, 'bin') + ':' + os.environ['PATH']})
+            self.assertEqual((found.returncode, found.stdout), (proved, b'rt ci\ntests\n'))
+            self.assertEqual(said in found.stderr, True)
+            self.assertEqual(found.stderr == b'', said == b'')
