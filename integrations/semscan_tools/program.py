@@ -69,16 +69,22 @@ def run_scan(program: str, words: list[str], folder: str, word: str = 'scan') ->
         raise Refusal("%s can't be run: %s" % (program, error), NO_PROGRAM) from None
 
 
+def meaning_of(status: int, words: list[str]) -> str:
+    """What a status means for a run by these words."""
+    if status == 2:
+        return 'write %s, with the options before PREFIX and a space after --config' % FORMS[words[0]]
+    config = [word for word, is_prefix in paths_among(words[1:]) if not is_prefix]
+    if status == 10 and config:
+        return 'there is no rule file at %s' % config[0]
+    return MEANING.get(status, 'the program ended with status %d' % status)
+
+
 def fault_of_run(run: subprocess.CompletedProcess) -> Optional[str]:
     """What is wrong with a run that printed no report, in the program's words and in ours; None where there is a report."""
     if run.returncode in (0, 1):
         return None
     said = run.stderr.decode('utf-8', 'replace').strip() or 'semscan: nothing was said'
-    if run.returncode == 2:
-        meaning = 'write %s, with the options before PREFIX and a space after --config' % FORMS[run.args[1]]
-    else:
-        meaning = MEANING.get(run.returncode, 'the program ended with status %d' % run.returncode)
-    return '%s: %s' % (said.removeprefix('semscan: '), meaning)
+    return '%s: %s' % (said.removeprefix('semscan: '), meaning_of(run.returncode, run.args[1:]))
 
 
 def status_of_run(run: subprocess.CompletedProcess) -> int:

@@ -9,22 +9,22 @@ from .sources import SourceFile, by_path
 from .steps import steps_of
 
 NOTICES = {
-    'NotUtf8': "its bytes are no UTF-8, so it wasn't read",
+    'NotUtf8': "it isn't UTF-8, so it wasn't read",
     'TooLarge': "it has more than 1,000,000 bytes, so it wasn't read",
-    'NoTree': "it can't be read in its language; only regular expressions looked at it",
+    'NoTree': "it can't be parsed in its language, so only regular expressions looked at it",
     'Crowded': 'a pattern matches more than 10,000 times, so the rule found nothing in this file',
     'FlowTooLarge': 'a function is too large for following its data, so the rule found nothing in this file',
     'MissingKey': "a key is missing, so the rule didn't run",
     'UnknownKey': "a key is unknown, so the rule didn't run",
-    'WrongShape': "a key has a value of another form than it takes, so the rule didn't run",
-    'BadPattern': "a pattern can't be read in the rule's language, so the rule didn't run",
-    'BadComparison': "a comparison can't be read, so the rule didn't run",
-    'OutsideProfile': "the rule uses what semscan doesn't have, so it didn't run",
+    'WrongShape': "a key's value has the wrong form, so the rule didn't run",
+    'BadPattern': "a pattern can't be parsed in the rule's language, so the rule didn't run",
+    'BadComparison': "a comparison can't be parsed, so the rule didn't run",
+    'OutsideProfile': "the rule uses something that semscan doesn't have, so it didn't run",
     'DuplicateId': "an earlier rule has this id, so the rule didn't run",
-    'YamlProfile': "the rule file uses what semscan doesn't read of YAML, so none of its rules ran",
-    'YamlNoValue': 'the rule file is no YAML, so none of its rules ran',
+    'YamlProfile': "the rule file uses a feature of YAML that semscan doesn't read, so none of its rules ran",
+    'YamlNoValue': "the rule file isn't YAML, so none of its rules ran",
     'NoRules': "the rule file has no list under 'rules', so no rule ran",
-    'OptionUnread': 'an option has no meaning here; the rule ran without it',
+    'OptionUnread': "semscan doesn't know this option; the rule ran without it",
     'Regex': "a regular expression was refused, so the rule didn't run",
 }
 

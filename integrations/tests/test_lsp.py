@@ -212,7 +212,7 @@ class Conversations:
         self.put('bad.py', 'def def\n')
         editor = self.editor()
         editor.begin()
-        editor.message("bad.py: it can't be read in its language", 'window/logMessage')
+        editor.message("bad.py: it can't be parsed in its language", 'window/logMessage')
         for version, text in enumerate(('eval(x)\n', 'y = 1\n', 'eval(x)\n'), 2):
             editor.open('a.py', text, version)
             editor.diagnostics('a.py', text.count('eval'))

@@ -47,8 +47,8 @@ a.py:2:12: error: eval runs terms. [no-eval]
 
 Notices: what the scan could not do
 
-b.py: NoTree: it can't be read in its language; only regular expressions looked at it
-r.yaml: old: BadPattern: a pattern can't be read in the rule's language, so the rule didn't run (rules.1.pattern)
+b.py: NoTree: it can't be parsed in its language, so only regular expressions looked at it
+r.yaml: old: BadPattern: a pattern can't be parsed in the rule's language, so the rule didn't run (rules.1.pattern)
 
 1 finding in 1 file (1 ERROR), 2 notices (1 NoTree, 1 BadPattern)
 """
@@ -412,7 +412,8 @@ class Runner(InFolder):
         self.assertIn(b'src/a.py:2:12: error: eval runs terms. [no-eval]\n', found.stdout)
         again = run('semscan-report', 'line', cwd=self.folder)
         self.assertEqual((again.returncode, again.stdout), (0, found.stdout))
-        self.ends(run('semscan-report', 'scan', '--config', 'none.yaml', 'src', cwd=self.folder), 10, b'no config: the rule file is not there')
+        self.ends(run('semscan-report', 'scan', '--config', 'none.yaml', 'src', cwd=self.folder), 10, b'no config: there is no rule file at none.yaml')
+        self.ends(run('semscan-report', 'scan', '--config', 'src', '.', cwd=self.folder), 10, b'there is no rule file at src')
         self.ends(run('semscan-report', 'scan', '--max', '0', '--config', 'rules.yaml', 'src', cwd=self.folder), 9, b'more than 0: ')
         self.ends(run('semscan-report', 'scan', 'src', cwd=self.folder), 2, b'usage: write semscan scan [--error]')
         for words in (['--config=rules.yaml', 'src'], ['src', '--config', 'rules.yaml'], ['--config', 'rules.yaml', 'src', 'src']):
