@@ -126,7 +126,7 @@ class Integrations(InFolder):
         shutil.copy(os.path.join(TOP, 'examples/rules.yaml'), self.folder)
         lines = [line for block in blocks_of(page('INTEGRATIONS.md')) for line in block.splitlines()]
         commands = [line for line in lines if line.startswith(('integrations/', './semscan '))]
-        self.assertGreater(len(commands), 6)
+        self.assertGreater(len(commands), 4)
         for command in commands:
             ran = in_bash(command, self.folder)
             self.assertEqual((ran.returncode, bool(ran.stdout or '>' in command or '--write' in command)), (0, True), '%s: %s' % (command, ran.stderr.decode()))
@@ -141,6 +141,19 @@ class Integrations(InFolder):
         self.assertEqual((ran.returncode, ran.stderr), (0, b''))
         self.assertIn(b'src/a.py:3:1: error: ', ran.stdout)
         self.assertTrue(ran.stdout.endswith(b'\n1 finding in 1 file (1 ERROR), 0 notices\n'), ran.stdout)
+
+    @needs_program
+    def test_commands_that_set_up_a_project(self):
+        script = next(block for block in blocks_of(page('INTEGRATIONS.md')) if '/build-servers/' in block)
+        for words, place in (('/PATH/semscan/crates/semscan/out/semscan', PROGRAM), ('/PATH/semscan', TOP), ('/PATH/project', self.folder)):
+            self.assertIn(words, script)
+            script = script.replace(words, shlex.quote(place))
+        ran = in_bash(script, '/')
+        self.assertEqual((ran.returncode, ran.stdout, ran.stderr), (0, b'', b''))
+        self.put('src/a.py', 'eval(name)\n')
+        entry, = re.findall('^    entry: (.*)$', get(self.folder, '.pre-commit-config.yaml').decode(), re.MULTILINE)
+        ran = in_bash(entry, self.folder)
+        self.assertEqual((ran.returncode, b'[python-eval-dynamic]' in ran.stdout, ran.stderr), (1, True, b''))
 
     @needs_program
     @unittest.skipUnless(shutil.which('git'), 'needs git')
