@@ -169,6 +169,13 @@ class Integrations(InFolder):
         ran = in_bash(script, self.folder)
         self.assertEqual((ran.returncode != 0, ran.stdout), (True, b'settings/bad.json: bad 12\n'), ran.stderr)
 
+    def test_settings_of_editors(self):
+        """The page has the files of integrations/editors, without the comments at their beginning."""
+        blocks = blocks_of(page('INTEGRATIONS.md'))
+        for name in ('semscan.lua', 'semscan.el'):
+            settings = re.sub(r'\A(?:(?:--|;;).*\n)+', '', get(INTEGRATIONS, 'editors/' + name).decode())
+            self.assertIn(settings, blocks, name)
+
     def test_all_that_is_there_is_told(self):
         text = page('INTEGRATIONS.md')
         for name in os.listdir(os.path.join(INTEGRATIONS, 'build-servers')) + ['semscan-report', 'semscan-shards', 'semscan-rules', 'semscan-lsp', 'semscan-fix']:
