@@ -5,7 +5,7 @@ from typing import Optional
 
 from .merge import NoReport, Pieces, pieces_of
 from .part_run import run_part
-from .program import MEANING
+from .program import meaning_of
 from .refusal import Refusal
 from .tree_parts import MOST_OF_A_FILE, Part, read_front
 
@@ -31,9 +31,9 @@ def files_of(job: Job, part: Part) -> dict[str, bytes]:
     return {**{path: content for path, content in files.items() if content is not None}, **job.files}
 
 
-def said(status: int, errors: bytes) -> str:
+def said(job: Job, status: int, errors: bytes) -> str:
     words = errors.decode('utf-8', 'replace').strip() or 'nothing was said'
-    return 'status %d, %s (%s)' % (status, words, MEANING.get(status, 'the program ended unexpectedly'))
+    return 'status %d, %s (%s)' % (status, words, meaning_of(status, job.words))
 
 
 def kind_of(error: Exception) -> str:
@@ -47,7 +47,7 @@ def check_rules(job: Job, executor: Executor) -> None:
     except Exception:  # whatever a worker says: the parts will fail by the same cause, and are then tried again and told
         return
     if status in (2, 8, 10):
-        raise Refusal(said(status, errors), status)
+        raise Refusal(said(job, status, errors), status)
 
 
 class Queue:
@@ -84,9 +84,9 @@ class Queue:
         if status in (OVER_LIMIT, TOO_MANY) and len(part.entries) > 1:
             self.waiting += part.halves()
         elif status in (OVER_LIMIT, TOO_MANY):
-            raise Refusal('%s: %s' % (part.name(), said(status, errors)), status)
+            raise Refusal('%s: %s' % (part.name(), said(self.job, status, errors)), status)
         elif status != 0:
-            self.again(part, said(status, errors), status if status > 0 else 128 - status)
+            self.again(part, said(self.job, status, errors), status if status > 0 else 128 - status)
         else:
             try:
                 self.found.append(pieces_of(line))

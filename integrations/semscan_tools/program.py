@@ -11,13 +11,11 @@ BUILT = os.path.join(os.path.dirname(os.path.dirname(os.path.dirname(os.path.abs
 NO_PROGRAM = 127
 FORMS = {'scan': 'semscan scan [--error] [--trace] [--max N] --config PATH PREFIX', 'fix': 'semscan fix [--dryrun] [--trace] [--max N] --config PATH PREFIX'}
 MEANING = {
-    2: "the program doesn't take these words",
     3: 'memory ran out; scan fewer files at once',
     5: 'the report could not be written',
     6: 'a file or folder could not be read; look at its permissions',
     8: 'there is more than one run takes; use semscan-shards for many files, and split a rule file of over 262,144 bytes or 1,000 rules',
     9: 'there are more findings than asked for with --max (50,000 where nothing is said)',
-    10: 'the rule file is not there',
 }
 
 
@@ -72,10 +70,9 @@ def run_scan(program: str, words: list[str], folder: str, word: str = 'scan') ->
 def meaning_of(status: int, words: list[str]) -> str:
     """What a status means for a run by these words."""
     if status == 2:
-        return 'write %s, with the options before PREFIX and a space after --config' % FORMS[words[0]]
-    config = [word for word, is_prefix in paths_among(words[1:]) if not is_prefix]
-    if status == 10 and config:
-        return 'there is no rule file at %s' % config[0]
+        return 'write %s, with the options before PREFIX, a space after --config, and an N of at most 50,000' % FORMS[words[0]]
+    if status == 10:
+        return 'there is no rule file at %s' % ' '.join(word for word, is_prefix in paths_among(words[1:]) if not is_prefix)
     return MEANING.get(status, 'the program ended with status %d' % status)
 
 

@@ -37,8 +37,10 @@ def read_text(path: str) -> str:
     try:
         with open(path, encoding='utf-8', newline='') as file:
             return file.read()
-    except (OSError, UnicodeDecodeError) as error:
-        raise Refusal("%s can't be read: %s" % (path, error)) from None
+    except OSError as error:
+        raise Refusal("%s can't be read: %s" % (path, error.strerror)) from None
+    except UnicodeDecodeError:
+        raise Refusal("%s can't be read: it isn't UTF-8" % path) from None
 
 
 def ids_of(text: str) -> list[str]:
@@ -133,12 +135,12 @@ def marked_badly(ids: list[str], marks: Marks) -> Iterator[str]:
 
 def test_rules(program: str, rule_file: str) -> Outcome:
     """Compares what the rules of a file find in the examples beside it with their marks, both ways."""
+    ids = ids_of(read_text(rule_file))
     examples, marks = examples_of(rule_file), Marks()
     if not examples:
         raise Refusal('%s has no examples beside it' % rule_file)
     for example in examples:
         marks_of(os.path.basename(example), read_text(example), marks)
-    ids = ids_of(read_text(rule_file))
     report = scan_examples(program, rule_file, examples)
     found = {(finding.path.removeprefix('code/'), finding.start.line, finding.rule) for finding in report.findings}
     faults = [*said_wrong(found, marks), *marked_badly(ids, marks)]

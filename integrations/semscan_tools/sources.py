@@ -103,10 +103,14 @@ def by_path(findings: Iterable[Finding]) -> dict[str, list[Finding]]:
     return groups
 
 
+def check_folder(folder: str) -> None:
+    if not os.path.isdir(folder):
+        raise Refusal('%s is no folder' % (folder or "''"))
+
+
 def read_sources(folder: str, report: Report) -> dict[str, SourceFile]:
     """All files with findings. Those that aren't there or changed since the scan are told in one refusal."""
-    if not os.path.isdir(folder):
-        raise Refusal('%s is no folder' % folder)
+    check_folder(folder)
     sources, faults = {}, []
     for path, findings in by_path(report.findings).items():
         try:

@@ -225,6 +225,7 @@ class Words(InFolder):
         self.put('report', line([result(PYTHON, b'eval')]))
         self.assertEqual(run('semscan-report', '--folder', 'tree', 'report', cwd=self.folder).returncode, 0)
         self.ends(run('semscan-report', '--folder', 'none', 'report', cwd=self.folder), 2, b'none is no folder')
+        self.ends(run('semscan-report', '--folder', '', 'scan', cwd=self.folder), 2, b"'' is no folder")
 
     def test_help_and_bad_words(self):
         found = run('semscan-report', '--help', cwd=self.folder)
@@ -417,4 +418,4 @@ class Runner(InFolder):
         self.ends(run('semscan-report', 'scan', '--max', '0', '--config', 'rules.yaml', 'src', cwd=self.folder), 9, b'more than 0: ')
         self.ends(run('semscan-report', 'scan', 'src', cwd=self.folder), 2, b'usage: write semscan scan [--error]')
         for words in (['--config=rules.yaml', 'src'], ['src', '--config', 'rules.yaml'], ['--config', 'rules.yaml', 'src', 'src']):
-            self.ends(run('semscan-report', 'scan', *words, cwd=self.folder), 2, b'with the options before PREFIX and a space after --config')
+            self.ends(run('semscan-report', 'scan', *words, cwd=self.folder), 2, b'with the options before PREFIX, a space after --config')

@@ -3,8 +3,9 @@ import glob
 import os
 import re
 
-from .support import NO_PROGRAM, TOP, InFolder, needs_program, run, scan
+from .support import NO_PROGRAM, TESTS, TOP, InFolder, needs_program, run, scan
 
+FAKE = os.path.join(TESTS, 'fake_semscan.py')
 RULES = os.path.join(TOP, 'rules')
 FILES = sorted(glob.glob(os.path.join(RULES, '*', '*.yaml')))
 RULE = 'rules:\n- id: one\n  languages: [python]\n  severity: INFO\n  message: m\n  pattern: f($X)\n'
@@ -92,9 +93,10 @@ class Program(InFolder):
             self.assertEqual(scan(self.folder, '--config', 'rules.yaml', 'none').stdout, b'{"notices":[],"results":[]}\n')
 
     def test_bad_input(self):
-        self.ends(run('semscan-rules', 'join', 'none.yaml', cwd=self.folder), 2, b"none.yaml can't be read")
+        self.ends(run('semscan-rules', 'join', 'none.yaml', cwd=self.folder), 2, b"none.yaml can't be read: No such file or directory\n")
+        self.ends(run('semscan-rules', 'test', 'none.yaml', cwd=self.folder, SEMSCAN=FAKE), 2, b"none.yaml can't be read: No such file or directory\n")
         self.put('a.yaml', b'\xff')
-        self.ends(run('semscan-rules', 'join', 'a.yaml', cwd=self.folder), 2, b"a.yaml can't be read")
+        self.ends(run('semscan-rules', 'join', 'a.yaml', cwd=self.folder), 2, b"a.yaml can't be read: it isn't UTF-8\n")
         self.put('a.yaml', 'rule: 1\n')
         self.ends(run('semscan-rules', 'join', 'a.yaml', cwd=self.folder), 2, b"doesn't begin with the line rules:")
         self.put('a.yaml', RULE + 'version: 1\n')

@@ -284,7 +284,7 @@ class OverTheFake(Tree):
 
     def test_too_many_findings(self):
         self.ends(self.many('--max', '2', '--files', '9', '--config', 'rules.yaml', 'src'), 9, b'more than 2')
-        self.ends(self.many('--config', 'none.yaml', 'src'), 10, b'no config')
+        self.ends(self.many('--config', 'none.yaml', 'src'), 10, b'no config (there is no rule file at none.yaml)')
         self.assertEqual(self.many('--error', '--config', 'rules.yaml', 'src').returncode, 1)
         few = self.fake('case "$*" in *"--max 50000"*) exec %s scan --max 30 "$4" "$5" "$6";; esac\nexec %s "$@"\n' % (FAKE, FAKE))
         one, many = self.one('--config', 'rules.yaml', 'src'), self.many('--max', '60000', '--config', 'rules.yaml', 'src', program=few)
