@@ -44,9 +44,13 @@ class Script(InFolder):
         self.refuses(b"'.' is no path", 'scan', '--config', '.', 'src')
         self.refuses(b"../r.yaml isn't below the current folder", 'scan', '--config', '../r.yaml', './src')
 
+    def test_how_an_option_must_be_written(self):
+        self.refuses(b'write --config r.yaml instead of --config=r.yaml', 'scan', '--config=r.yaml', 'src')
+        self.refuses(b'write --max 9 instead of --max=9', 'fix', '--max=9', '--config', 'r.yaml', 'src')
+
     def test_words_that_are_left_to_the_program(self):
         for words in (['scan', '--max', './9', '--config', 'r.yaml', 'src'], ['scan', '--error', '--config', 'a/b.yaml', '.'], ['scan', '--config', 'r.yaml', 'a b'],
-                      ['scan'], ['scan', '--config'], ['scan', '--config', 'r.yaml', '...'], ['match', 'python', './x'], ['check', './json'], ['session'], []):
+                      ['scan'], ['scan', '--config'], ['scan', '--config', 'r.yaml', '...'], ['scan', '--config', 'r=.yaml', 'a=b'], ['match', 'python', './x'], ['check', './json'], ['session'], []):
             found = self.script(*words)
             self.assertEqual((found.returncode, found.stdout.decode(), found.stderr), (0, 'ran: %s\n' % ' '.join(words), b''))
 
