@@ -4,5 +4,12 @@
 (require 'eglot)
 (add-to-list 'eglot-server-programs
              '((python-mode python-ts-mode c-mode c-ts-mode js-json-mode json-ts-mode) . ("semscan-lsp")))
+
+(defun semscan-ensure ()
+  "Starts semscan where this folder, or one above it, has rules."
+  (when (or (locate-dominating-file default-directory ".semscan/rules.yaml")
+            (locate-dominating-file default-directory "semscan.yaml"))
+    (eglot-ensure)))
+
 (dolist (hook '(python-mode-hook python-ts-mode-hook c-mode-hook c-ts-mode-hook js-json-mode-hook json-ts-mode-hook))
-  (add-hook hook #'eglot-ensure))
+  (add-hook hook #'semscan-ensure))

@@ -25,7 +25,10 @@
       (setq turn (1+ turn))))
   (note (mapconcat #'identity (shown) " ")))
 
-(find-file "a.py")
+(advice-add 'eglot-ensure :override (lambda () (note (concat "server for " (buffer-name)))))
+(let ((here default-directory))
+  (find-file (expand-file-name "../out.py" here))
+  (find-file (expand-file-name "a.py" here)))
 (call-interactively 'eglot)
 (wait-for 1)
 (goto-char (point-max))

@@ -15,9 +15,10 @@ local function wait_for(count)
 end
 
 dofile(os.getenv('SETTINGS'))
-vim.cmd('edit b.h')
-wait_for(1)
-seen = {}
+vim.cmd('edit ../out.py')
+note(next(vim.lsp.buf_get_clients(0)) and 'a server' or 'no server')
+vim.cmd('edit in\\ here/b.h')
+vim.wait(15000, function() return #shown() == 1 end, 20)
 vim.api.nvim_buf_set_lines(0, 0, 0, false, { '' })
 vim.wait(15000, function() return shown()[1] == 'no-eval 1:0-1:7' end, 20)
 note(shown()[1])

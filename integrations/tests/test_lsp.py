@@ -536,6 +536,8 @@ class InEditors(InFolder):
         """What an editor saw."""
         self.put('.semscan/rules.yaml', RULES)
         self.put('a.py', 'eval(x)\n')
+        self.put('../out.py', 'eval(x)\n')
+        self.put('in here/b.h', 'eval(x)\n')
         seen = os.path.join(os.path.dirname(self.folder), 'seen')
         variables = {**os.environ, 'SEMSCAN': program, 'PATH': INTEGRATIONS + ':' + os.environ['PATH'], 'SEEN': seen,
                      'SETTINGS': os.path.join(INTEGRATIONS, 'editors', settings), 'HOME': self.folder,
@@ -545,10 +547,9 @@ class InEditors(InFolder):
         return get(os.path.dirname(seen), 'seen').decode().splitlines()
 
     def neovim(self, program):
-        self.put('b.h', 'eval(x)\n')
         found = self.tries(program, 'semscan.lua', 'nvim', '--clean', '--headless', '-n', '-S', os.path.join(TESTS, 'nvim_lsp.lua'))
-        self.assertEqual(found.pop(0), 'no-eval 1:0-1:7')
         self.assertEqual(found, [
+            'no server', 'no-eval 1:0-1:7',
             'no-eval 0:0-0:7', 'no-eval 0:0-0:7 no-eval 1:14-1:21', 'Fix all findings of semscan in this file (2)', '',
             'parse(x)|s = "\U0001f600\u00e9"; parse(x)', 'true'])
 
@@ -556,7 +557,7 @@ class InEditors(InFolder):
         found = self.tries(program, 'semscan.el', 'emacs', '--batch', '-l', os.path.join(TESTS, 'eglot_lsp.el'))
         text = 'semscan [no-eval]: eval runs text.'
         self.assertEqual(found, [
-            '001-008 ' + text, '001-008 %s 019-026 %s' % (text, text), 'Fix all findings of semscan in this file (2)', '',
+            'server for a.py', '001-008 ' + text, '001-008 %s 019-026 %s' % (text, text), 'Fix all findings of semscan in this file (2)', '',
             'parse(x)|s = "\U0001f600\u00e9"; parse(x)|'])
 
     def test_settings_of_vs_code(self):
