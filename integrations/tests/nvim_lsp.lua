@@ -14,9 +14,17 @@ local function wait_for(count)
   note(table.concat(shown(), ' '))
 end
 
+local started = 0
+local start = vim.lsp.start and 'start' or 'start_client'
+local before = vim.lsp[start]
+vim.lsp[start] = function(...)
+  started = started + 1
+  return before(...)
+end
+
 dofile(os.getenv('SETTINGS'))
 vim.cmd('edit ../out.py')
-note(next(vim.lsp.buf_get_clients(0)) and 'a server' or 'no server')
+note(started .. ' servers')
 vim.cmd('edit in\\ here/b.h')
 vim.wait(15000, function() return #shown() == 1 end, 20)
 vim.api.nvim_buf_set_lines(0, 0, 0, false, { '' })

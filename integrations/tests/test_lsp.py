@@ -549,7 +549,7 @@ class InEditors(InFolder):
     def neovim(self, program):
         found = self.tries(program, 'semscan.lua', 'nvim', '--clean', '--headless', '-n', '-S', os.path.join(TESTS, 'nvim_lsp.lua'))
         self.assertEqual(found, [
-            'no server', 'no-eval 1:0-1:7',
+            '0 servers', 'no-eval 1:0-1:7',
             'no-eval 0:0-0:7', 'no-eval 0:0-0:7 no-eval 1:14-1:21', 'Fix all findings of semscan in this file (2)', '',
             'parse(x)|s = "\U0001f600\u00e9"; parse(x)', 'true'])
 
