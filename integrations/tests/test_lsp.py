@@ -1,11 +1,13 @@
 """semscan-lsp: an editor's conversation with it, over the fake program and over the real one where that has sessions."""
 import json
 import os
+import pty
 import queue
 import random
 import re
 import shutil
 import subprocess
+import sys
 import time
 import unittest
 from unittest import mock
@@ -502,6 +504,13 @@ class TheProtocol(InFolder):
         self.server.raw(b'Hello\r\n\r\n')
         self.assertEqual(self.server.process.wait(20), 1)
         self.assertNotIn('Traceback', ''.join(self.server.errors))
+
+    def test_person_that_starts_it(self):
+        ours, theirs = pty.openpty()
+        self.addCleanup(os.close, ours)
+        found = subprocess.run([sys.executable, os.path.join(INTEGRATIONS, 'semscan-lsp')], stdin=theirs, capture_output=True, check=False, timeout=60)
+        os.close(theirs)
+        self.ends(found, 2, b'semscan-lsp: editors start this program')
 
     def test_names_of_rule_files(self):
         put(os.path.dirname(self.folder), 'outside.yaml', RULES)
