@@ -12,7 +12,7 @@ import time
 import unittest
 from unittest import mock
 
-from .lsp_client import CAPABILITIES, Editor
+from .lsp_client import CAPABILITIES, PATIENCE, Editor
 from .support import INTEGRATIONS, NO_PROGRAM, PROGRAM, TESTS, TOP, InFolder, get, put
 
 from semscan_tools import session_wire
@@ -375,17 +375,22 @@ class OverTheFake(Conversations, InFolder):
         self.assertFalse([message for message in editor.said if 'a key is missing' in str(message)])
 
     def test_program_that_dies_again_and_again(self):
+        """It is started at once, then after 1, 2, 4 and more seconds, and told once: n starts take at least 2 ** (n - 2) - 1 seconds."""
         room = self.steering('die always')
         editor = self.editor(FAKE=room)
+        began = time.monotonic()
         editor.begin()
         editor.message('status 3 at scan')
         editor.open('a.py', 'eval(x)\n')
-        time.sleep(3)
-        tries = self.commands(room).count('scan ')
-        self.assertTrue(2 <= tries <= 6, tries)
-        self.assertFalse([message for message in editor.said if message.get('method') == 'window/showMessage'])
+        tries = 0
+        while tries < 4 and time.monotonic() < began + PATIENCE:
+            time.sleep(0.1)
+            tries = self.commands(room).count('scan ')
+        self.assertGreaterEqual(tries, 4)
+        self.assertGreaterEqual(time.monotonic() - began, 2 ** (tries - 2) - 1)
         os.remove(os.path.join(room, 'die always'))
         editor.diagnostics('a.py', 1)
+        self.assertFalse([message for message in editor.said if message.get('method') == 'window/showMessage'])
 
     def test_only_what_changed_is_told(self):
         room = self.steering()
@@ -403,7 +408,7 @@ class OverTheFake(Conversations, InFolder):
 
     def test_changes_are_gathered(self):
         room = self.steering()
-        editor = self.editor('--debounce', '300', FAKE=room)
+        editor = self.editor('--debounce', '1500', FAKE=room)  # longer than a loaded machine takes from change to change
         editor.begin()
         editor.open('a.py', 'eval(x)\n')
         editor.diagnostics('a.py', 1)
