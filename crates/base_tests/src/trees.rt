@@ -1,5 +1,8 @@
 //! Nodes, texts and places.
 
+ghost use Rattle.std.specs.Prelude.{◌<◌, length};
+
+use node_pool::NodePool;
 use node_tree::{Kind, List, Memory, Node, Place, Places, Span, Text, Twin};
 use std::alloc::Global;
 use std::cmp::Ordering;
@@ -45,6 +48,85 @@ fn walks_copies_and_compares(rt: HostRuntime) -> Result<(), Fail> {
     let _ = second.kids.pop();
     assert!(rt; !first.same_content(&second));
     assert!(rt; first.order(&second) == Ordering::Greater);
+    Ok(())
+}
+
+// A node over these two.
+fn over(alloc: Global, kind: Kind, from: u32, kids: [Node; 2]) -> Result<Node, Memory> {
+    let mut node = leaf(alloc, kind, from);
+    let [first, second] = kids;
+    node.kids.push(first)?;
+    node.kids.push(second)?;
+    Ok(node)
+}
+
+// A function or a class, with its name and its body.
+fn defined(alloc: Global, kind: Kind, places: [u32; 3]) -> Result<Node, Memory> {
+    let [from, name, body] = places;
+    let kids = [leaf(alloc, Kind::Id, name), leaf(alloc, Kind::Block, body)];
+    over(alloc, kind, from, kids)
+}
+
+// A root of a function and of a name. In the body of the function stand another function and a class.
+fn functions(alloc: Global) -> Result<Node, Memory> {
+    let inner = defined(alloc, Kind::FuncDef, [4, 5, 6])?;
+    let class = defined(alloc, Kind::ClassDef, [7, 8, 9])?;
+    let body = over(alloc, Kind::Block, 3, [inner, class])?;
+    let name = leaf(alloc, Kind::Id, 2);
+    let outer = over(alloc, Kind::FunctionDef, 1, [name, body])?;
+    over(alloc, Kind::Root, 0, [outer, leaf(alloc, Kind::Name, 10)])
+}
+
+// Where the nodes of a unit begin.
+fn begins(alloc: Global, unit: &Node) -> Result<Vec<u32>, Memory> {
+    let mut places = Vec::new(alloc);
+    for node in unit.unit_nodes()? {
+        places.push(node.span.from)?;
+    }
+    Ok(places)
+}
+
+// The bodies of functions within a unit are no part of it, and those of classes are.
+#[test]
+fn walks_units(rt: HostRuntime) -> Result<(), Fail> {
+    let root = functions(rt.alloc())?;
+    assert!(rt; begins(rt.alloc(), &root)?.as_slice() == [0, 1, 2, 10].as_slice());
+    let outer = root.kids.get(0).ok_or("no function")?;
+    assert!(rt; begins(rt.alloc(), outer)?.as_slice() == [1, 2, 3, 4, 5, 7, 8, 9].as_slice());
+    Ok(())
+}
+
+// The numbers of the nodes of a tree in a pool, from that of its root.
+fn numbers(alloc: Global, pool: &NodePool<'_>, root: u32) -> Result<Vec<u32>, Memory>
+    requires { root < length pool.now.nodes }
+{
+    let mut numbers = Vec::new(alloc);
+    for number in pool.walk(root) {
+        numbers.push(number)?;
+    }
+    Ok(numbers)
+}
+
+// The tree of `[1]` gets the same numbers once what was placed before is taken away.
+#[test]
+fn places_trees_again(rt: HostRuntime) -> Result<(), Fail> {
+    let alloc = rt.alloc();
+    let mut list = leaf(alloc, Kind::Array, 0);
+    list.kids.push(leaf(alloc, Kind::Number, 1))?;
+    let mut root = leaf(alloc, Kind::Root, 0);
+    root.kids.push(list)?;
+    let Some(count) = root.count() else {
+        return Err(Fail::new(format_args!("too many nodes")));
+    };
+    assert!(rt; count == 3);
+    let mut pool = NodePool::with_room(alloc, count)?;
+    let first = pool.place(&root);
+    assert!(rt; first == 0);
+    assert!(rt; numbers(alloc, &pool, 0)?.as_slice() == [0, 1, 2].as_slice());
+    pool.clear();
+    let again = pool.place(&root);
+    assert!(rt; again == 0);
+    assert!(rt; numbers(alloc, &pool, 0)?.as_slice() == [0, 1, 2].as_slice());
     Ok(())
 }
 

@@ -1,8 +1,11 @@
-//! Tests of control-flow graphs, of what their points assign, of known names, and of data that is followed.
+//! Tests of control-flow graphs, of what their points assign, of known names, of facts that are carried, and of data that is
+//! followed.
 #![tactic(auto)]
 
 #[cfg(test)]
 mod assigned;
+#[cfg(test)]
+mod carried;
 #[cfg(test)]
 mod graphs;
 #[cfg(test)]
@@ -11,3 +14,5 @@ mod known;
 mod source;
 #[cfg(test)]
 mod tainted;
+#[cfg(test)]
+mod traces;

@@ -63,8 +63,8 @@ fn add_call(sets: &mut TaintSets, call: &Node) -> Result<(), Memory> {
     Ok(())
 }
 
-// The sets that the calls and the parameters of a tree make.
-fn sets_of(alloc: Global, root: &Node) -> Result<TaintSets, Memory> {
+/// The sets that the calls and the parameters of a tree make.
+pub fn sets_of(alloc: Global, root: &Node) -> Result<TaintSets, Memory> {
     let mut sets = TaintSets {
         sources: List::new(alloc),
         sinks: List::new(alloc),

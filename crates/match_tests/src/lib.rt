@@ -1,7 +1,10 @@
-//! Tests of the patterns that texts write, and of the comparisons that conditions make.
+//! Tests of the patterns that texts write, of where they match in files with known names, and of the comparisons that
+//! conditions make.
 #![tactic(auto)]
 
 #[cfg(test)]
 mod comparisons;
 #[cfg(test)]
 mod patterns;
+#[cfg(test)]
+mod views;
