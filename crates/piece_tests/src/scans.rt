@@ -205,8 +205,8 @@ fn matches_what_changed(rt: HostRuntime) -> Result<(), Fail> {
         "f($X) ⇒ f(1)  # nosemgrep\nf(2)\nf(3)\n ⇒ f(1)  # nosemgrep: q\nf(2)\nf(3)\n ⇒ 4 steps\n0..4 $X=2..3\n18..22 $X=20..21\n23..27 $X=25..26\n1 steps\n0..4 $X=2..3\n21..25 $X=23..24\n26..30 $X=28..29\n",
         // A statement in which a name holds another literal is another one.
         "f(\"a\") ⇒ K = \"a\"\ndef g():\n    f(K)\n ⇒ K = \"b\"\ndef g():\n    f(K)\n ⇒ 3 steps\n21..25\n3 steps\n",
-        // A file of a drill, and its edit: each is opened, and its only statement is matched by each pattern. So a drill of 1,000 files
-        // takes 1,000 times five steps, and then five.
+        // A file of a drill, and its edit: beside the step that opens it, each of the four patterns takes one. So a drill of 1,000
+        // files takes 1,000 times five steps, and then five.
         "run($X) ⇒ def f0(q):\n    s = read()\n    run(s)\n ⇒ def f0(q):\n    s = clean(read())\n    run(s)\n ⇒ 2 steps\n30..36 $X=34..35\n2 steps\n37..43 $X=41..42\n",
         "read() ⇒ def f0(q):\n    s = read()\n    run(s)\n ⇒ def f0(q):\n    s = clean(read())\n    run(s)\n ⇒ 2 steps\n19..25\n2 steps\n25..31\n",
         "run(...) ⇒ def f0(q):\n    s = read()\n    run(s)\n ⇒ def f0(q):\n    s = clean(read())\n    run(s)\n ⇒ 2 steps\n30..36\n2 steps\n37..43\n",
