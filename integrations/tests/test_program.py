@@ -51,20 +51,21 @@ class Statuses(InFolder):
     def test_want_of_memory(self):
         """With more and more memory there is enough for the line on standard error before there is enough for the run. What was
         printed then is whole lines, the first of those that are printed with enough."""
-        stream = b'scan\nput 400000 a.py\n%s\nscan\nend\n' % (CALL + b'\n' * 399_995)
-        whole = self.said(0, b'', 'session', input=stream).splitlines(keepends=True)
+        puts = b''.join(b'put 1000000 f%d.txt\n%s\n' % (number, b'#' * 1_000_000) for number in range(30))
+        stream = b'scan\n%sscan\nend\n' % puts
+        whole = [line(), line()]
         statuses = set()
-        for megabytes in range(2, 400, 2):
+        for megabytes in range(4, 400, 8):
             size = megabytes << 20
             found = self.run_program('session', input=stream, preexec_fn=lambda size=size: resource.setrlimit(resource.RLIMIT_AS, (size, size)))
+            lines = found.stdout.splitlines(keepends=True)
             if found.returncode == 0:
                 break
             if found.returncode == 3 or statuses:
                 statuses.add(found.returncode)
                 self.assertEqual((found.returncode, found.stderr), (3, b'semscan: out of memory\n'), size)
-                lines = found.stdout.splitlines(keepends=True)
                 self.assertEqual(lines, whole[:len(lines)], size)
-        self.assertEqual((statuses, found.returncode), ({3}, 0))
+        self.assertEqual((statuses, found.returncode, lines), ({3}, 0, whole))
 
     def test_an_input_that_is_a_folder(self):
         for words in (['match', 'json', '1'], ['check', 'json'], ['session']):
