@@ -25,8 +25,22 @@ def headers():
     return [path for path in found[::max(1, len(found) // SAMPLE)] if os.path.getsize(path) <= SIZE]
 
 
-def nest(depth):
-    return 'void f(int c) {' + ''.join('while (c) { x = %d; y = x;' % (k % 3) for k in range(depth)) + '}' * depth + '}\n'
+def nest(depth, head='while (c) ', tail=''):
+    """A function in C of statements that stand in one another."""
+    return 'void f(int c) {' + ''.join('%s{ x = %d; y = x;' % (head, k % 3) for k in range(depth)) + ('}' + tail) * depth + '}\n'
+
+
+def deep(head, tail=''):
+    """Statements in Python that stand in one another, each with a part behind what it holds."""
+    def text(depth):
+        parts = [' ' * k + head + '\n' + ' ' * k + ' x = %d\n' % (k % 3) for k in range(depth)]
+        parts += [' ' * k + tail + '\n' + ' ' * k + ' x = 3\n' for k in reversed(range(depth)) if tail]
+        return ''.join(parts)
+    return text
+
+
+def jumps(size):
+    return 'void f(int c) {' + ''.join('goto l%d; x = 1; l%d: ;' % (size - 1 - k, k) for k in range(size)) + '}\n'
 
 
 def lines(text):
@@ -50,7 +64,18 @@ GROWING = [
     ('nested loops', 'c', 100, lambda size: nest(size) * 60),
     ('cases', 'c', 5_000, lambda size: 'void f(int c) { switch (c) {' + ''.join('case %d: x = %d; break;\n' % (k, k % 5) for k in range(size)) + '} }\n'),
     ('parameters', 'c', 4_000, lines('int f%(k)d(int a, char *b) { int d = 3; return g(a, d, b[0]); }\n')),
+    ('many statements', 'python', 25_000, lines('x = %(k)d\n')),
+    ('many functions', 'python', 5_000, lines('def f%(k)d(a):\n    g(a, "x")\n')),
+    ('many functions in c', 'c', 5_000, lines('int f%(k)d(int a) { return g(a, "x"); }\n')),
+    ('jumps to labels', 'c', 5_000, jumps),
 ]
+
+# statements that stand in one another, as deep as trees may be
+GROWING += [('nested ' + name, 'python', 120, deep(*parts)) for name, parts in (
+    ('if', ['if c:']), ('else', ['if c:', 'else:']), ('for', ['for a in c:']), ('while', ['while c:']), ('with', ['with c as a:']),
+    ('except', ['try:', 'except E:']), ('finally', ['try:', 'finally:']), ('class', ['class C:']), ('def', ['def f(a):']))]
+GROWING += [('nested %s in c' % name, 'c', 120, lambda size, parts=parts: nest(size, *parts)) for name, parts in (
+    ('if', ['if (c) ']), ('else', ['if (c) ', ' else { x = 3; }']), ('for', ['for (; c; x++) ']), ('do', ['do ', ' while (c);']), ('switch', ['switch (c) ']))]
 
 
 class Reader:
