@@ -52,9 +52,8 @@ fn walks_copies_and_compares(rt: HostRuntime) -> Result<(), Fail> {
 }
 
 // A node over these two.
-fn over(alloc: Global, kind: Kind, from: u32, kids: [Node; 2]) -> Result<Node, Memory> {
+fn over(alloc: Global, kind: Kind, from: u32, first: Node, second: Node) -> Result<Node, Memory> {
     let mut node = leaf(alloc, kind, from);
-    let [first, second] = kids;
     node.kids.push(first)?;
     node.kids.push(second)?;
     Ok(node)
@@ -63,18 +62,18 @@ fn over(alloc: Global, kind: Kind, from: u32, kids: [Node; 2]) -> Result<Node, M
 // A function or a class, with its name and its body.
 fn defined(alloc: Global, kind: Kind, places: [u32; 3]) -> Result<Node, Memory> {
     let [from, name, body] = places;
-    let kids = [leaf(alloc, Kind::Id, name), leaf(alloc, Kind::Block, body)];
-    over(alloc, kind, from, kids)
+    let name = leaf(alloc, Kind::Id, name);
+    over(alloc, kind, from, name, leaf(alloc, Kind::Block, body))
 }
 
 // A root of a function and of a name. In the body of the function stand another function and a class.
 fn functions(alloc: Global) -> Result<Node, Memory> {
     let inner = defined(alloc, Kind::FuncDef, [4, 5, 6])?;
     let class = defined(alloc, Kind::ClassDef, [7, 8, 9])?;
-    let body = over(alloc, Kind::Block, 3, [inner, class])?;
+    let body = over(alloc, Kind::Block, 3, inner, class)?;
     let name = leaf(alloc, Kind::Id, 2);
-    let outer = over(alloc, Kind::FunctionDef, 1, [name, body])?;
-    over(alloc, Kind::Root, 0, [outer, leaf(alloc, Kind::Name, 10)])
+    let outer = over(alloc, Kind::FunctionDef, 1, name, body)?;
+    over(alloc, Kind::Root, 0, outer, leaf(alloc, Kind::Name, 10))
 }
 
 // Where the nodes of a unit begin.
