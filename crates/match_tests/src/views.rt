@@ -1,6 +1,8 @@
 //! Files in which a name is told to hold a literal, and where patterns match in them.
 
-ghost use Rattle.std.specs.Prelude.{◌≡◌, ◌<◌, IfOk};
+ghost use Rattle.std.specs.Prelude.{◌≡◌, ◌<◌, ◌≤◌, length, IfOk};
+ghost use Rattle.std.specs.Str.{IsUtf8};
+ghost use Rattle.node_tree.specs.Spans.{SpansLieIn};
 ghost use Rattle.node_tree.specs.KnownNames.{AreNames, AreInOrder};
 
 use file_match::match_leaf;
@@ -33,21 +35,34 @@ fn known_at(alloc: Global, tree: &Node, at: u32, literal: Node) -> Result<List<K
     Ok(known)
 }
 
+// The file of these bytes, with this tree and these names.
+fn file_of(bytes: Bytes, tree: Node, known: List<Known>) -> FileView
+    requires utf8 { ∥ IsUtf8 bytes ∥₁ }
+    requires small { length bytes ≤ 1000000 }
+    requires placed { SpansLieIn bytes tree }
+    requires names { AreNames tree known }
+    requires in_order { AreInOrder known }
+{
+    FileView {
+        lang: Lang::Python,
+        bytes,
+        tree,
+        known,
+    }
+}
+
 // The file of a text in Python, in which the name with this number holds the literal.
 fn view_of(alloc: Global, text: &str, at: u32, literal: Node) -> Result<FileView, Fail> {
     let bytes = Bytes::from_slice(alloc, text.as_bytes())?;
-    let text = str::from_utf8(bytes.as_slice())?;
+    let Ok(text) = str::from_utf8(bytes.as_slice()) else {
+        return Err(Fail::new(format_args!("no UTF-8")));
+    };
     if text.len() > 1_000_000 {
         return Err(Fail::new(format_args!("a long text")));
     }
     let tree = read_module(alloc, text)?;
     let known = known_at(alloc, &tree, at, literal)?;
-    Ok(FileView {
-        lang: Lang::Python,
-        bytes,
-        tree,
-        known,
-    })
+    Ok(file_of(bytes, tree, known))
 }
 
 // Where the pattern matches in the file.
