@@ -1,6 +1,6 @@
 -- What a pattern needs stands in each tree that it matches.
-use Rattle.std.proofs.Common.{◌≡◌, ◌⊎◌, inl, inr, ℕ, zero, suc, ◌<◌, List, [], ◌∷◌, ◌++◌, length, take, drop, get_or, arith, refl, sym, ap, ◌∙◌, subst}
-use Rattle.std.specs.Prelude.{None, Some, true, false, filter, Bool, cond, set, not}
+use Rattle.std.proofs.Common.{◌≡◌, ◌⊎◌, inl, inr, ℕ, zero, suc, List, [], ◌∷◌, ◌++◌, take, drop, refl, sym, ◌∙◌, subst}
+use Rattle.std.specs.Prelude.{None, Some, true, false, filter, Bool, cond, not}
 use Rattle.std.proofs.lemmas.List.Concat.{flat_map-cons}
 use Rattle.node_tree.specs.declared.node.Node.{Node}
 use Rattle.node_tree.specs.declared.kind.Kind.{Kind}
@@ -29,8 +29,7 @@ use Rattle.node_tree.specs.declared.known.Known.{Known}
 use Rattle.node_tree.specs.Numbers.{Numbered, kids_at, pre_at}
 use Rattle.node_tree.specs.Numbers.{root_of}
 use Rattle.tree_match.specs.Members.{Member, MemberOf, kids_between}
-use Rattle.file_match.specs.Words.{Word, word_of, Has, Needs, own, below, inside, PartNeeds, NeedsOf, place_of, IsMarked, Covers, ArePlaces}
-use Rattle.node_match.proofs.Sets.{among_more}
+use Rattle.file_match.specs.Words.{Word, word_of, Has, Needs, own, below, inside, NeedsOf}
 
 -- ---- nodes among lists
 
@@ -266,81 +265,3 @@ module _ (C : List Known) (fixed : Bool) (none : fixed ≡ true → C ≡ []) wh
       let kid = spot_drop r.from (kids_at h) met.node (spot_take _ (drop r.from (kids_at h)) met.node met.among) in
       let block = among_pre (root_of tree) h (spot_filter (λ (z : Numbered). is_block (kind_of z.node)) (pre_at (root_of tree)) h among) in
       (k.0, in_below tree h.node k.0 block (in_kid h.node met.node.node k.0 (among_kids h met.node kid) k.1), k.2)
-
--- ---- marks
-
-pub still_marked : (marks : List Bool) (place i : ℕ) → get_or marks i false ≡ true → get_or (set marks place true) i false ≡ true
-still_marked [] place i e = absurd cc
-still_marked (m ∷ ms) zero zero e = refl
-still_marked (m ∷ ms) zero (suc i) e = e
-still_marked (m ∷ ms) (suc place) zero e = e
-still_marked (m ∷ ms) (suc place) (suc i) e = still_marked ms place i e
-
-pub now_marked : (marks : List Bool) (place : ℕ) → place < length marks → get_or (set marks place true) place false ≡ true
-now_marked [] place lt = absurd (omega arith)
-now_marked (m ∷ ms) zero lt = refl
-now_marked (m ∷ ms) (suc place) lt = now_marked ms place (omega arith)
-
-pub mark_next : (all : List Node) (marks new : List Bool) (rest next : List Node) (m : Node) (place : ℕ) → ((n : Node) → Among all n → IsMarked marks (word_of n) ⊎ Among rest n) → rest ≡ m ∷ next → place ≡ place_of (word_of m) → place < length marks
-    → new ≡ set marks place true → (n : Node) → Among all n → IsMarked new (word_of n) ⊎ Among next n
-mark_next all marks new rest next m place covers e place-is lt new-is n a =
-    let P : List Bool → Type 0 = λ bs. IsMarked bs (word_of n) in
-    let Q : List Node → Type 0 = λ ns. Among ns n in
-    elim (covers n a) [
-      | inl x ↦ inl (subst P (sym new-is) (still_marked marks place _ x))
-      | inr y ↦ elim (subst Q e y) [
-        | inl f ↦ (let R : ℕ → Type 0 = λ i. get_or new i false ≡ true in
-            let S : List Bool → Type 0 = λ bs. get_or bs place false ≡ true in
-            inl (subst R (place-is ∙ ap (λ (z : Node). place_of (word_of z)) f) (subst S (sym new-is) (now_marked marks place lt))))
-        | inr z ↦ inr z
-      ]
-    ]
-
-pub all_marked : (all : List Node) (marks : List Bool) (rest : List Node) → ((n : Node) → Among all n → IsMarked marks (word_of n) ⊎ Among rest n) → rest ≡ [] → Covers marks all
-all_marked all marks rest covers none n a =
-    let Q : List Node → Type 0 = λ ns. Among ns n in
-    elim (covers n a) [ inl x ↦ x | inr y ↦ absurd (subst Q none y) ]
-
--- an unmarked place of a needed word leaves no member
-pub no_member : (marks : List Bool) (places : List ℕ) (i : ℕ) → Among places i → get_or marks i false ≡ false → (fixed : Bool) (C : List Known) → (fixed ≡ true → C ≡ []) → (shape : Shape) (p tree : Node) → Covers marks (pre_of tree) → ArePlaces fixed shape p places
-    → (m : Member) → MemberOf C shape p tree m → ⊥
-no_member marks places i a unmarked fixed C none shape p tree covers are m x =
-    let (w, needs, is) = are i a in
-    let (n, there, word) = member_needs C fixed none shape p tree w m needs x in
-    let marked = covers n there in
-    let R : Word → Type 0 = λ v. get_or marks (place_of v) false ≡ true in
-    let S : ℕ → Type 0 = λ j. get_or marks j false ≡ true in
-    let f : false ≡ true = sym unmarked ∙ subst S (sym is) (subst R word marked) in
-    absurd (let g = f in cc)
-
-pub among_here : (xs : List ℕ) (i d : ℕ) → i < length xs → Among xs (get_or xs i d)
-among_here [] i d lt = absurd (omega arith)
-among_here (x ∷ xs) zero d lt = inl refl
-among_here (x ∷ xs) (suc i) d lt = inr (among_here xs i d (omega arith))
-
--- ---- what is gathered
-
--- each of these is an old one, or the place of a word that is needed
-abbrev pub AddsPlaces : List ℕ → List ℕ → (Word → Type 0) → Type 0
-AddsPlaces old new P = (i : ℕ) → Among new i → Among old i ⊎ ((w : Word) × P w × (i ≡ place_of w))
-
-pub places_twice : (old mid new : List ℕ) (P Q R : Word → Type 0) → AddsPlaces old mid P → AddsPlaces mid new Q → ((w : Word) → P w → R w) → ((w : Word) → Q w → R w) → AddsPlaces old new R
-places_twice old mid new P Q R one two p q i a =
-    elim (two i a) [ inl x ↦ elim (one i x) [ inl y ↦ inl y | inr (w, h, is) ↦ inr (w, p w h, is) ] | inr (w, h, is) ↦ inr (w, q w h, is) ]
-
-pub places_as : (old new : List ℕ) (P Q : Word → Type 0) → AddsPlaces old new P → ((w : Word) → P w → Q w) → AddsPlaces old new Q
-places_as old new P Q one p i a = elim (one i a) [ inl y ↦ inl y | inr (w, h, is) ↦ inr (w, p w h, is) ]
-
-pub one_place : (old new : List ℕ) (place : ℕ) (w : Word) (P : Word → Type 0) → new ≡ old ++ place ∷ [] → place ≡ place_of w → P w → AddsPlaces old new P
-one_place old new place w P e is h i a =
-    let Q : List ℕ → Type 0 = λ xs. Among xs i in
-    elim ((among_more old place i).0 (subst Q e a)) [ inl x ↦ inl x | inr f ↦ inr (w, h, sym f ∙ is) ]
-
-among_drop : (at : ℕ) (ps : List Part) (q : Part) (rest : List Part) → drop at ps ≡ q ∷ rest → Among ps q
-among_drop zero [] q rest e = absurd cc
-among_drop zero (p ∷ ps) q rest e = inl cc
-among_drop (suc at) [] q rest e = absurd cc
-among_drop (suc at) (p ∷ ps) q rest e = inr (among_drop at ps q rest e)
-
-pub part_needs : (p q : Node) (at : ℕ) (rest : List Part) → drop at (parts_of p) ≡ Some q ∷ rest → (fixed : Bool) (w : Word) → Needs fixed q w → PartNeeds fixed p w
-part_needs p q at rest e fixed w needs = (q, among_drop at (parts_of p) (Some q) rest e, needs)

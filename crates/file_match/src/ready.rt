@@ -1,6 +1,6 @@
 //! Files that are ready for the search.
 
-ghost use Rattle.std.specs.Prelude.{◌≡◌, ◌++◌, ◌<◌, List as list, false, length, IfOk};
+ghost use Rattle.std.specs.Prelude.{◌≡◌, ◌↔◌, ◌++◌, ◌<◌, List as list, IsTrue, false, length, IfOk};
 ghost use Rattle.node_tree.specs.declared.known.Known.{Known as known_value};
 ghost use Rattle.node_tree.specs.declared.node.Node.{Node as node};
 ghost use Rattle.node_tree.specs.Tree.{pre_of};
@@ -8,6 +8,7 @@ ghost use Rattle.node_pool.specs.Spots.{seen};
 ghost use Rattle.node_tree.specs.Numbers.{root_of};
 ghost use Rattle.tree_match.specs.Members.{Member, IsMember};
 ghost use Rattle.file_match.specs.Trees.{known_in};
+ghost use Rattle.file_match.specs.Words.{MayHave};
 
 use crate::words::{Words, may_match, wanted_of, words_of};
 use node_pool::{NodePool, Spot, spot_at};
@@ -65,10 +66,10 @@ impl<'v> ReadyFile<'v> {
     }
 
     /// Whether the file may have members of the pattern: it has each word that the pattern needs, whatever names are known to hold
-    /// literals. Where it lacks one, the
-    /// pattern has no member in it.
+    /// literals, or one that counts as that. Where it lacks one, the pattern has no member in it.
     pub fn may_have(&self, alloc: Global, pattern: &Pattern) -> Result<bool, Memory>
-        ensures { IfOk result (λ may. may ≡ false → (known : list known_value) (m : Member) → IsMember pattern.now (known_in self.now.tree known) m → ⊥) }
+        ensures exact { IfOk result (λ may. IsTrue may ↔ MayHave pattern.now self.now.tree) }
+        ensures lacks { IfOk result (λ may. may ≡ false → (known : list known_value) (m : Member) → IsMember pattern.now (known_in self.now.tree known) m → ⊥) }
     {
         let fixed = !pattern.constants;
         let wanted = wanted_of(alloc, fixed, pattern.shape, &pattern.tree)?;

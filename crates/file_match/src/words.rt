@@ -1,7 +1,7 @@
 //! The words of a file, and those that a pattern needs: where a needed word stands nowhere in the file, the pattern has no
 //! member there.
 
-ghost use Rattle.std.specs.Prelude.{◌≡◌, ◌⊎◌, ◌↔◌, ◌<◌, ℕ, List as list, [], Bool, false, true, length, IfOk, OnOk, slice_index_or, slice_set, vec_len};
+ghost use Rattle.std.specs.Prelude.{◌≡◌, ◌↔◌, ◌<◌, ◌&&◌, not, List as list, [], Bool, IsTrue, false, true, length, IfOk, OnOk, slice_index_or, slice_set, vec_len};
 ghost use Rattle.node_tree.specs.declared.node.Node.{Node as node_value};
 ghost use Rattle.node_tree.specs.declared.view.Shape.{Shape as shape_value};
 ghost use Rattle.node_tree.specs.Tree.{pre_of, kids_of};
@@ -9,10 +9,10 @@ ghost use Rattle.node_tree.specs.Tree.{kind_of};
 ghost use Rattle.node_tree.specs.Kinds.{is_literal as literal};
 ghost use Rattle.node_match.specs.Kinds.{role_of as role};
 ghost use Rattle.node_tree.specs.declared.known.Known.{Known as known_value};
-ghost use Rattle.node_match.specs.declared.class.Role.TheVariants.{Deep, Plain};
-ghost use Rattle.node_match.specs.Sets.{Among};
+ghost use Rattle.node_match.specs.declared.class.Role.TheVariants.{Deep};
+ghost use Rattle.node_match.specs.Sets.{Adds};
 ghost use Rattle.tree_match.specs.Members.{Member, MemberOf};
-ghost use Rattle.file_match.specs.Words.{Word, word_of, place_of as place, mixed, Needs, PartNeeds, Covers, ArePlaces};
+ghost use Rattle.file_match.specs.Words.{word_of, place_of as place, mixed, Needs, PartNeeds, Covers, PlaceIn, ArePlaces, AreMarked, NeedsOwn, NeedsBelow, NeedsAt};
 
 use node_match::{Role, is_free, is_text_free, role_of};
 use node_tree::{Kind, List, Memory, Node, Shape};
@@ -73,10 +73,10 @@ pub fn words_of(alloc: Global, tree: &Node) -> Result<Words, Memory>
     Ok(Words { marks })
 }
 
-// Adds the places of words that a pattern node needs.
+// Adds the places of the words that a pattern node needs.
 #[cycle(wanted)]
 fn add_wanted(fixed: bool, pattern: &Node, places: &mut List<u32>) -> Result<(), Memory>
-    ensures { OnOk result ((i : ℕ) → Among places.new i → Among places.old i ⊎ ((w : Word) × Needs fixed pattern.now w × (i ≡ place w))) }
+    ensures { OnOk result (Adds places.old places.new (PlaceIn (Needs fixed pattern.now))) }
 {
     match role_of(pattern.kind) {
         Role::Plain => {
@@ -92,8 +92,7 @@ fn add_wanted(fixed: bool, pattern: &Node, places: &mut List<u32>) -> Result<(),
 // The same for the parts of a plain pattern. A literal has none that count.
 #[cycle(wanted)]
 fn add_below(fixed: bool, pattern: &Node, places: &mut List<u32>) -> Result<(), Memory>
-    requires { role (kind_of pattern.now) ≡ Plain }
-    ensures { OnOk result ((i : ℕ) → Among places.new i → Among places.old i ⊎ ((w : Word) × Needs fixed pattern.now w × (i ≡ place w))) }
+    ensures { OnOk result (Adds places.old places.new (PlaceIn (NeedsBelow fixed pattern.now))) }
 {
     if pattern.kind.is_literal() {
         return Ok(());
@@ -104,7 +103,7 @@ fn add_below(fixed: bool, pattern: &Node, places: &mut List<u32>) -> Result<(), 
 
 // Whether a literal of that kind may stand for a name.
 fn may_stand(fixed: bool, kind: Kind) -> bool
-    ensures { result ≡ false → literal kind ≡ true → fixed ≡ true }
+    ensures { result ≡ (not fixed && literal kind) }
 {
     if fixed {
         return false;
@@ -116,7 +115,7 @@ fn may_stand(fixed: bool, kind: Kind) -> bool
 #[cycle(wanted)]
 fn add_inside(fixed: bool, pattern: &Node, places: &mut List<u32>) -> Result<(), Memory>
     requires { role (kind_of pattern.now) ≡ Deep }
-    ensures { OnOk result ((i : ℕ) → Among places.new i → Among places.old i ⊎ ((w : Word) × Needs fixed pattern.now w × (i ≡ place w))) }
+    ensures { OnOk result (Adds places.old places.new (PlaceIn (Needs fixed pattern.now))) }
 {
     let inner = pattern.kids.as_slice();
     if inner.len() != 1 {
@@ -128,8 +127,7 @@ fn add_inside(fixed: bool, pattern: &Node, places: &mut List<u32>) -> Result<(),
 
 // The same for its own word.
 fn add_own(fixed: bool, pattern: &Node, places: &mut List<u32>) -> Result<(), Memory>
-    requires { role (kind_of pattern.now) ≡ Plain }
-    ensures { OnOk result ((i : ℕ) → Among places.new i → Among places.old i ⊎ ((w : Word) × Needs fixed pattern.now w × (i ≡ place w))) }
+    ensures { OnOk result (Adds places.old places.new (PlaceIn (NeedsOwn fixed pattern.now))) }
 {
     if is_text_free(pattern) {
         return Ok(());
@@ -144,7 +142,7 @@ fn add_own(fixed: bool, pattern: &Node, places: &mut List<u32>) -> Result<(), Me
 // The same for the parts of a pattern node.
 #[cycle(wanted)]
 fn add_parts(fixed: bool, pattern: &Node, places: &mut List<u32>) -> Result<(), Memory>
-    ensures { OnOk result ((i : ℕ) → Among places.new i → Among places.old i ⊎ ((w : Word) × PartNeeds fixed pattern.now w × (i ≡ place w))) }
+    ensures { OnOk result (Adds places.old places.new (PlaceIn (PartNeeds fixed pattern.now))) }
 {
     for at in 0..pattern.kids.len() {
         add_part(fixed, pattern, at, places)?;
@@ -156,7 +154,7 @@ fn add_parts(fixed: bool, pattern: &Node, places: &mut List<u32>) -> Result<(), 
 #[cycle(wanted)]
 fn add_part(fixed: bool, pattern: &Node, at: usize, places: &mut List<u32>) -> Result<(), Memory>
     requires { at < length (kids_of pattern.now) }
-    ensures { OnOk result ((i : ℕ) → Among places.new i → Among places.old i ⊎ ((w : Word) × PartNeeds fixed pattern.now w × (i ≡ place w))) }
+    ensures { OnOk result (Adds places.old places.new (PlaceIn (NeedsAt fixed pattern.now at))) }
 {
     let kid = &pattern.kids.as_slice()[at];
     if is_free(pattern.kind, at, kid) {
@@ -180,7 +178,8 @@ pub fn wanted_of(alloc: Global, fixed: bool, shape: Shape, pattern: &Node) -> Re
 
 /// Whether each place is marked. Where one isn't, a pattern that needs its word has no member.
 pub fn may_match(words: &Words, wanted: &Wanted) -> bool
-    ensures { result ≡ false → (fixed : Bool) (known : list known_value) → (fixed ≡ true → known ≡ []) → (shape : shape_value) (pattern tree : node_value)
+    ensures exact { IsTrue result ↔ AreMarked words.now.marks.items wanted.now.places }
+    ensures lacks { result ≡ false → (fixed : Bool) (known : list known_value) → (fixed ≡ true → known ≡ []) → (shape : shape_value) (pattern tree : node_value)
         → Covers words.now.marks.items (pre_of tree) → ArePlaces fixed shape pattern wanted.now.places → (m : Member) → MemberOf known shape pattern tree m → ⊥ }
 {
     for place in wanted.places.as_slice() {

@@ -16,4 +16,4 @@ returns c out known none m x =
     let tree = c.tree.inside.tree.now in
     let P : Option Words → Type 0 = λ o. IfSome o (λ w. Covers w.marks.items (pre_of tree)) in
     let T : Node → Type 0 = λ n. MemberOf known c.args.shape c.args.pattern.now n m in
-    c.may_match.ensures (turned _ out) c.args.fixed known none c.args.shape c.args.pattern.now tree (subst P c.in-Some.is c.tree.invariant.words_are) c.in_ok-wanted.ensures m (subst T (sym c.tree.view_is) x)
+    c.may_match.ensures.lacks (turned _ out) c.args.fixed known none c.args.shape c.args.pattern.now tree (subst P c.in-Some.is c.tree.invariant.words_are) c.in_ok-wanted.ensures m (subst T (sym c.tree.view_is) x)

@@ -1,13 +1,11 @@
-use Rattle.std.proofs.Common.{sym, ◌∙◌, ap, inr, arith, length, length-set, subst, List}
-use Rattle.node_tree.specs.declared.node.Node.{Node}
-use Rattle.node_match.specs.Sets.{Among}
-use Rattle.file_match.proofs.Needed.{mark_next, all_marked}
+use Rattle.std.proofs.Common.{◌∙◌, ap, arith, length, length-set}
+use Rattle.file_match.proofs.Marked.{covers_none, mark_next, all_marked}
 use Rattle.file_match.proofs.words.words_of.Goals as goal
 
 pub loop-node-init : goal.loop-node-init
 loop-node-init c = record {
   long = omega (arith, c.in_ok-marks.ensures.len, c.in_ok-marks.marks.ok.0);
-  covers = λ n a. let P : List Node → Type 0 = λ xs. Among xs n in inr (subst P (sym (c.into_iter-node-iterator.ensures.into_iter_gives ∙ c.in_ok-node-items.ensures)) a);
+  covers = covers_none _ (λ x y h. h) _ _ _ c.in_ok-marks.ensures.items (c.into_iter-node-iterator.ensures.into_iter_gives ∙ c.in_ok-node-items.ensures);
 }
 
 pub loop-node-preserved : goal.loop-node-preserved
