@@ -4,7 +4,8 @@
     tools/measure_taint.py [PROGRAM]
 
 PROGRAM is the program as `./semscan` built it, if none is given. It scans one generated file by a rule for calls that the file lacks, and by a
-rule that follows data from `src(...)` to `sink(...)`, without `--trace` and with it; processor times of whole runs, each the least of three.
+rule that follows data to `sink(...)` from `src(...)`, or from each string, without `--trace` and with it; processor times of whole runs, each the
+least of three.
 """
 import json
 import os
@@ -17,7 +18,8 @@ from measure_json import PROGRAM
 
 HEAD = 'rules:\n- id: r\n  languages: [python]\n  severity: INFO\n  message: m\n'
 PLAIN = HEAD + '  pattern: zzz_nothing(...)\n'
-TAINT = HEAD + '  mode: taint\n  pattern-sources:\n  - pattern: src(...)\n  pattern-sinks:\n  - pattern: sink(...)\n'
+TAINT = HEAD + '  mode: taint\n  pattern-sources:\n  - pattern: %s\n  pattern-sinks:\n  - pattern: sink(...)\n'
+CALLS, STRINGS = 'src(...)', '\'"..."\''
 
 
 def one_source(lines):
@@ -37,8 +39,20 @@ def no_source(sinks):
     return 'def f(b):\n' + ''.join('    sink(a%d)\n' % k for k in range(sinks))
 
 
-CASES = [('lines between one source and one sink', one_source, (5_000, 10_000, 20_000)), ('functions with a source and a sink each', functions, (2_500, 5_000, 10_000)),
-         ('sources, names and sinks in one function', many_sources, (50, 100, 200)), ('sinks without a source', no_source, (2_000, 4_000, 8_000))]
+def nothing(lines):
+    return 'def f(b):\n' + ''.join('    a%d = g(a%d, b)\n' % (k % 7, (k + 1) % 7) for k in range(lines))
+
+
+def go_nowhere(lines):
+    return 'a = "x"\n' * lines + 'sink(a)\n'
+
+
+CASES = [('lines between one source and one sink', CALLS, one_source, (5_000, 10_000, 20_000)),
+         ('functions with a source and a sink each', CALLS, functions, (2_500, 5_000, 10_000)),
+         ('sources, names and sinks in one function', CALLS, many_sources, (50, 100, 200)),
+         ('sinks without a source', CALLS, no_source, (2_000, 4_000, 8_000)),
+         ('lines with no source and no sink', CALLS, nothing, (5_000, 10_000, 20_000)),
+         ('sources that go nowhere, and one sink', STRINGS, go_nowhere, (1_000, 2_500, 4_990))]
 
 
 def took(words, folder):
@@ -56,10 +70,11 @@ def main():
     program = os.path.abspath(sys.argv[1] if sys.argv[1:] else PROGRAM)
     with tempfile.TemporaryDirectory() as folder:
         os.mkdir(os.path.join(folder, 'src'))
-        for name, text in (('plain.yaml', PLAIN), ('taint.yaml', TAINT)):
-            with open(os.path.join(folder, name), 'w') as f:
-                f.write(text)
-        for name, text, sizes in CASES:
+        with open(os.path.join(folder, 'plain.yaml'), 'w') as f:
+            f.write(PLAIN)
+        for name, source, text, sizes in CASES:
+            with open(os.path.join(folder, 'taint.yaml'), 'w') as f:
+                f.write(TAINT % source)
             for size in sizes:
                 with open(os.path.join(folder, 'src', 'a.py'), 'w') as f:
                     f.write(text(size))

@@ -18,5 +18,6 @@ pub mod RowLists
 pub mod Scoped
 pub mod Searching
 pub mod Sources
+pub mod Splitting
 pub mod Spread
 pub mod Traces

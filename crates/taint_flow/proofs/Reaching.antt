@@ -1,4 +1,4 @@
--- Where points keep all facts, a source is carried to all points that are reached.
+-- A source's own fact is carried to all points that are reached.
 use Rattle.std.proofs.Common.{◌≡◌, ◌↔◌, inl, inr, ℕ, ◌+◌, ◌<◌, List, [], ◌∷◌, ◌++◌, length, take, get_or, refl, sym, ap, ◌∙◌, subst, arith, Some}
 use Rattle.std.specs.Prelude.{Option, slice_get}
 use Rattle.std.specs.Global.{Vec}
@@ -28,7 +28,7 @@ use Rattle.taint_flow.specs.Found.{AreInside, ByPlan, FromEntry}
 use Rattle.taint_tables.specs.Numbers.{numbers_of}
 use Rattle.taint_flow.specs.Lowest.{Lowers}
 use Rattle.taint_flow.specs.Plans.{IsPlan}
-use Rattle.taint_flow.specs.Still.{AreStill, BySources, IsStill, KeepsFacts}
+use Rattle.taint_flow.specs.Still.{AreReachable, AreStill, BySources, EdgesFit, IsStill, KeepsFacts, LeadTo, Reachable}
 use Rattle.taint_flow.proofs.Lowest.{lowers_same, lowers_then}
 use Rattle.taint_flow.proofs.Routes.{some_at}
 
@@ -62,8 +62,8 @@ point_still nodes sets numbers p from to lt =
       λ e. inl (r.1 e),
     )
 
-pub plan_keeps : (nodes : List Node) (unit : ℕ) (graph : Graph) (sets : TaintSets) (census : Census) (plan : Plan) → IsPlan nodes unit graph.points sets census plan → length census.names.keys.items ≡ 0 → KeepsFacts graph plan (length census.sources.keys.items)
-plan_keeps nodes unit graph sets census plan planned none = record {
+pub plan_keeps : (nodes : List Node) (unit : ℕ) (graph : Graph) (sets : TaintSets) (census : Census) (plan : Plan) → IsPlan nodes unit graph.points sets census plan → KeepsFacts graph plan (length census.sources.keys.items)
+plan_keeps nodes unit graph sets census plan planned = record {
   rows = planned.rows;
   turns = λ i row at from to lt.
       let (p, p_at) = some_at graph.points i (let less = slice_get_within plan.moves.rows i row at in omega (arith, less, planned.rows)) in
@@ -71,14 +71,11 @@ plan_keeps nodes unit graph sets census plan planned none = record {
       let still = point_still nodes sets (numbers_of census) p from to lt in
       (λ t. still.0 (turns.0 t), λ e. turns.1 (still.1 e));
   lists = planned.lists;
-  begins = λ k own at fact.
+  begins = λ k own at fact lt.
       let less = slice_get_within plan.begins.items k own at in
       let (source, source_at) = some_at census.sources.keys.items k (omega (arith, less, planned.lists)) in
       let begins = planned.begins k source own source_at at fact in (
-        λ among. elim (begins.0 among) [
-          | inl e ↦ e
-          | inr (n, is, rest) ↦ (let below = planned.begin_facts own (got_among plan.begins.items k own at) fact among in absurd (no_name (numbers_of census) n fact is (omega (arith, below, planned.facts, none))))
-        ],
+        λ among. elim (begins.0 among) [ inl e ↦ e | inr (n, is, rest) ↦ absurd (no_name (numbers_of census) n fact is lt) ],
         λ e. begins.1 (inl e),
       );
 }
@@ -89,36 +86,68 @@ goals_inside nodes unit graph sets census plan planned none g among =
     let fact = planned.goal_facts g among in
     (slice_get_within graph.points g.point p at, omega (arith, fact, planned.facts, none))
 
--- ---- routes
+pub goals_fit : (nodes : List Node) (unit : ℕ) (graph : Graph) (sets : TaintSets) (census : Census) (plan : Plan) → IsPlan nodes unit graph.points sets census plan → AreInside (length graph.points) plan.moves.facts plan.goals
+goals_fit nodes unit graph sets census plan planned g among =
+    let (p, at, rest) = (planned.goals g).0 among in
+    (slice_get_within graph.points g.point p at, planned.goal_facts g among)
 
-module _ (graph : Graph) (plan : Plan) (facts : ℕ) (keeps : KeepsFacts graph plan facts) (moves : Moves) (still : AreStill (length graph.points) moves) (fits : Fits graph moves) where
-  to_still : (k : ℕ) (own : Vec ℕ) → slice_get plan.begins.items k ≡ Some own → (stops : List Stop) (i fact : ℕ) → fact < facts → LeadsFrom (FromEntry own.items) graph plan.moves stops i fact → (fact ≡ k) × CarriedFrom (FromStart moves) graph moves i 0
-  to_still k own at [] i fact lt (first, among) = ((keeps.begins k own at fact).0 among, ([], (first, still.start)))
-  to_still k own at (last ∷ earlier) i fact lt (leads, edge, (row, row_at, turns)) =
+-- ---- points that are reached
+
+module _ (graph : Graph) (moves : Moves) (still : AreStill (length graph.points) moves) (fits : Fits graph moves) where
+  to_reachable : (stops : List Stop) (i fact : ℕ) → LeadsFrom (FromStart moves) graph moves stops i fact → Reachable graph i
+  to_reachable [] i fact (first, among) = ([], first)
+  to_reachable (last ∷ earlier) i fact (leads, edge, turns) =
+      let (path, to) = to_reachable earlier last.point last.fact leads in
+      (last.point ∷ path, (to, edge))
+
+  from_reachable : (path : List ℕ) (i : ℕ) → LeadTo graph path i → CarriedFrom (FromStart moves) graph moves i 0
+  from_reachable [] i first = ([], (first, still.start))
+  from_reachable (last ∷ earlier) i (to, edge) =
+      let (stops, carried) = from_reachable earlier last to in
+      let (r, r_at) = some_at moves.rows last (let less = (fits.edges last i edge).0 in omega (arith, less, still.rows)) in
+      (record { point = last; fact = 0 } ∷ stops, (carried, edge, (r, r_at, still_turns r 0 (still.still r (got_among moves.rows last r r_at)))))
+
+  pub reachable_is : (reached : Reached) → IsReached graph moves reached → AreReachable graph reached
+  reachable_is reached is = record {
+    edges = fits.edges;
+    points = is.points;
+    facts = is.facts ∙ still.facts;
+    exact = λ point there.
+        let e = is.exact point 0 there (omega (arith, still.facts)) in
+        (λ t. (let (stops, leads) = e.0 t in to_reachable stops point 0 leads), λ (path, to). e.1 (from_reachable path point to));
+  }
+
+-- ---- own facts
+
+module _ (graph : Graph) (plan : Plan) (facts : ℕ) (keeps : KeepsFacts graph plan facts) where
+  -- where one of these facts is carried, it is the one that begins, and the point is reached
+  pub own_to : (k : ℕ) (own : Vec ℕ) → slice_get plan.begins.items k ≡ Some own → (stops : List Stop) (i fact : ℕ) → fact < facts → LeadsFrom (FromEntry own.items) graph plan.moves stops i fact → (fact ≡ k) × Reachable graph i
+  own_to k own at [] i fact lt (first, among) = ((keeps.begins k own at fact lt).0 among, ([], first))
+  own_to k own at (last ∷ earlier) i fact lt (leads, edge, (row, row_at, turns)) =
       let same : fact ≡ last.fact = (keeps.turns last.point row row_at last.fact fact lt).0 turns in
-      let (is, (stops, carried)) = to_still k own at earlier last.point last.fact (omega (arith, lt, same)) leads in
-      let (r, r_at) = some_at moves.rows last.point (let less = (fits.edges last.point i edge).0 in omega (arith, less, still.rows)) in
-      (same ∙ is, (record { point = last.point; fact = 0 } ∷ stops, (carried, edge, (r, r_at, still_turns r 0 (still.still r (got_among moves.rows last.point r r_at))))))
+      let (is, (path, to)) = own_to k own at earlier last.point last.fact (omega (arith, lt, same)) leads in
+      (same ∙ is, (last.point ∷ path, (to, edge)))
 
-  from_still : (k : ℕ) (own : Vec ℕ) → slice_get plan.begins.items k ≡ Some own → k < facts → (stops : List Stop) (i fact : ℕ) → LeadsFrom (FromStart moves) graph moves stops i fact → CarriedFrom (FromEntry own.items) graph plan.moves i k
-  from_still k own at lt [] i fact (first, among) = ([], (first, (keeps.begins k own at k).1 refl))
-  from_still k own at lt (last ∷ earlier) i fact (leads, edge, turns) =
-      let (stops, carried) = from_still k own at lt earlier last.point last.fact leads in
-      let (r, r_at) = some_at plan.moves.rows last.point (let less = (fits.edges last.point i edge).0 in omega (arith, less, keeps.rows)) in
-      (record { point = last.point; fact = k } ∷ stops, (carried, edge, (r, r_at, (keeps.turns last.point r r_at k k lt).1 refl)))
+  -- it is carried to each point that is reached
+  pub own_from : EdgesFit graph → (k : ℕ) (own : Vec ℕ) → slice_get plan.begins.items k ≡ Some own → k < facts → (path : List ℕ) (i : ℕ) → LeadTo graph path i → CarriedFrom (FromEntry own.items) graph plan.moves i k
+  own_from edges k own at lt [] i first = ([], (first, (keeps.begins k own at k lt).1 refl))
+  own_from edges k own at lt (last ∷ earlier) i (to, edge) =
+      let (stops, carried) = own_from edges k own at lt earlier last to in
+      let (r, r_at) = some_at plan.moves.rows last (let less = (edges last i edge).0 in omega (arith, less, keeps.rows)) in
+      (record { point = last; fact = k } ∷ stops, (carried, edge, (r, r_at, (keeps.turns last r r_at k k lt).1 refl)))
 
-  module _ (reached : Reached) (is : IsReached graph moves reached) (sources : List Span) (size : length sources ≡ facts) (inside : AreInside (length graph.points) facts plan.goals) where
+  module _ (reached : Reached) (is : AreReachable graph reached) (sources : List Span) (size : length sources ≡ facts) (inside : AreInside (length graph.points) facts plan.goals) where
     told : (sink : ℕ) (source : Span) → BySources (λ point. Tells reached point 0) sources plan.goals sink source ↔ ByPlan graph plan sources (length sources) sink source
     told sink source = (
       λ (g, among, same, at, tells).
           let r = inside g among in
           let (own, own_at) = some_at plan.begins.items g.fact (omega (arith, r.1, keeps.lists)) in
-          let (stops, carried) = (is.exact g.point 0 r.0 (omega (arith, still.facts))).0 tells in
-          (g.fact, omega (arith, r.1, size), at, (own, own_at, (g, among, same, from_still g.fact own own_at r.1 stops g.point 0 carried))),
+          let (path, to) = (is.exact g.point r.0).0 tells in
+          (g.fact, omega (arith, r.1, size), at, (own, own_at, (g, among, same, own_from is.edges g.fact own own_at r.1 path g.point to))),
       λ (k, lt, at, (own, own_at, (g, among, same, (stops, carried)))).
           let r = inside g among in
-          let (fact, reach) = to_still k own own_at stops g.point g.fact r.1 carried in
-          (g, among, same, ap (slice_get sources) fact ∙ at, (is.exact g.point 0 r.0 (omega (arith, still.facts))).1 reach),
+          let (fact, reach) = own_to k own own_at stops g.point g.fact r.1 carried in
+          (g, among, same, ap (slice_get sources) fact ∙ at, (is.exact g.point r.0).1 reach),
     )
 
     pub still_done : (old new : List (Option Span)) → Lowers (BySources (λ point. Tells reached point 0) sources plan.goals) old new → Lowers (ByPlan graph plan sources (length sources)) old new

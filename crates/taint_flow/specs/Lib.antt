@@ -7,6 +7,7 @@ pub mod RowFacts
 pub mod Scoped
 pub mod SinkGoals
 pub mod Sizes
+pub mod Splits
 pub mod Spreading
 pub mod Still
 pub mod Taint

@@ -12,6 +12,7 @@ mod plan;
 mod rows;
 mod rule;
 mod search;
+mod split;
 mod still;
 mod tables;
 mod unit;

@@ -106,8 +106,8 @@ fn all_begins(alloc: Global, begins: &[Vec<u32>]) -> Result<Vec<u32>, Memory>
     Ok(all)
 }
 
-// How many there are, if a number has room for it.
-fn counted(length: usize) -> Result<u32, Memory>
+/// How many there are, if a number has room for it.
+pub fn counted(length: usize) -> Result<u32, Memory>
     ensures { IfOk result (λ n. n ≡ length) }
 {
     if length > u32::MAX as usize {

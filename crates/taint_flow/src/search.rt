@@ -1,22 +1,26 @@
 //! The hits in one unit.
 
-ghost use Rattle.std.specs.Prelude.{◌≡◌, ◌↔◌, ◌<◌, ℕ, OnOk, IfOk, length};
+ghost use Rattle.std.specs.Prelude.{◌≡◌, ◌⊎◌, ◌↔◌, ◌+◌, ◌<◌, ◌≤◌, ℕ, IsTrue, Some, slice_get, OnOk, IfOk, length};
+ghost use Rattle.std.specs.Global.{Vec as vec};
 ghost use Rattle.node_tree.specs.declared.node.Node.{Node as a_node};
+ghost use Rattle.graph_form.specs.declared.graph.Graph.{Graph as a_graph};
 ghost use Rattle.graph_form.specs.Sets.{Among};
-ghost use Rattle.flow_reach.specs.Carried.{CarriedFrom, Fits, Pairs};
-ghost use Rattle.flow_reach.specs.Reached.{Tells};
-ghost use Rattle.flow_reach.specs.Spread.{IsReady};
+ghost use Rattle.flow_reach.specs.Carried.{CarriedFrom, Pairs};
+ghost use Rattle.flow_reach.specs.Spread.{IsTable, RowHas};
 ghost use Rattle.taint_tables.specs.Censuses.{IsCensus};
 ghost use Rattle.taint_flow.specs.Lowest.{HitsIn, Lowers};
 ghost use Rattle.taint_flow.specs.Found.{AreFew, AreInside, AreOfSinks, ByPlan, BySource, FromEntry, IsRule};
 ghost use Rattle.taint_flow.specs.Scoped.{IsScope};
+ghost use Rattle.taint_flow.specs.Splits.{EitherTells, IsSplit, StartsBy};
+ghost use Rattle.taint_flow.specs.Still.{KeepsFacts};
 
 use crate::least::Least;
 use crate::moves::Goal;
 use crate::plan::{Plan, plan_of};
 use crate::rule::Rule;
+use crate::split::Split;
 use crate::still::search_still;
-use flow_reach::{Reached, Ready, fits, prepare, reach_from};
+use flow_reach::{Reached, reach_from};
 use graph_form::Graph;
 use node_tree::{Memory, Span};
 use point_nodes::IndexedTree;
@@ -24,54 +28,142 @@ use std::alloc::Global;
 use taint_tables::{Census, Look};
 use unit_names::Scope;
 
-// The pairs of the entry and each of these facts.
-fn at_entry(alloc: Global, facts: &[u32]) -> Result<Vec<(u32, u32)>, Memory>
-    ensures { IfOk result (λ pairs. (point fact : ℕ) →
-        Pairs pairs.items point fact ↔ FromEntry facts.now point fact) }
+// Adds the entry with the name whose fact begins there, if it is that of a name.
+fn add_begin(sources: u32, fact: u32, into: &mut Vec<(u32, u32)>) -> Result<(), Memory>
+    ensures { OnOk result ((point name : ℕ) → Among into.new.items (point, name) ↔
+        (Among into.old.items (point, name) ⊎ ((0 ≡ point) × (fact ≡ sources + name)))) }
 {
-    let mut pairs = Vec::new(alloc);
-    for fact in facts {
-        pairs.push((0, *fact))?;
+    if fact < sources {
+        return Ok(());
     }
-    Ok(pairs)
+    into.push((0, fact - sources))?;
+    Ok(())
 }
 
-// Notes the goals that are reached.
-fn note(reached: &Reached, goals: &[Goal], source: Span, least: &mut Least)
-    requires goals { AreInside reached.now.points reached.now.facts goals.now }
+// The entry with each of the names whose facts begin there.
+fn at_entry(alloc: Global, sources: u32, begins: &[u32]) -> Result<Vec<(u32, u32)>, Memory>
+    ensures { IfOk result (λ starts. (point name : ℕ) → Among starts.items (point, name) ↔
+        ((0 ≡ point) × Among begins.now (sources + name))) }
+{
+    let mut starts = Vec::new(alloc);
+    for fact in begins {
+        add_begin(sources, *fact, &mut starts)?;
+    }
+    Ok(starts)
+}
+
+// Adds each of these points with the name.
+fn add_each(points: &[u32], name: u32, into: &mut Vec<(u32, u32)>) -> Result<(), Memory>
+    ensures { OnOk result ((to other : ℕ) → Among into.new.items (to, other) ↔
+        (Among into.old.items (to, other) ⊎ (Among points.now to × (name ≡ other)))) }
+{
+    for point in points {
+        into.push((*point, name))?;
+    }
+    Ok(())
+}
+
+// Adds the points after these ones, each with the name that is added before it.
+fn add_after(
+    after: &[Vec<u32>],
+    added: &[(u32, u32)],
+    into: &mut Vec<(u32, u32)>,
+) -> Result<(), Memory>
+    requires { (point name : ℕ) → Among added.now (point, name) → point < length after.now }
+    ensures { OnOk result ((to name : ℕ) → Among into.new.items (to, name) ↔
+        (Among into.old.items (to, name) ⊎
+        ((point : ℕ) × Among added.now (point, name) × RowHas after.now point to))) }
+{
+    for at in added {
+        add_each(&after[at.0 as usize], at.1, into)?;
+    }
+    Ok(())
+}
+
+// Where names begin to be followed for a source that begins with these facts, and that these points add names with.
+fn starts_of(
+    alloc: Global,
+    sources: u32,
+    begins: &[u32],
+    after: &[Vec<u32>],
+    added: &[(u32, u32)],
+) -> Result<Vec<(u32, u32)>, Memory>
+    requires { (point name : ℕ) → Among added.now (point, name) → point < length after.now }
+    ensures { (graph : a_graph) → IsTable graph after.now → IfOk result
+        (λ starts. (point name : ℕ) → Pairs starts.items point name ↔
+        StartsBy graph sources begins.now added.now point name) }
+{
+    let mut starts = at_entry(alloc, sources, begins)?;
+    add_after(after, added, &mut starts)?;
+    Ok(starts)
+}
+
+// Whether the goal is reached by the source with that number, where these names are reached from where it adds them.
+fn is_reached(split: &Split, names: &Reached, source: usize, goal: &Goal) -> bool
+    requires one { 0 < split.now.reached.facts }
+    requires source { source < split.now.sources }
+    requires point { goal.now.point < split.now.reached.points }
+    requires point_named { goal.now.point < names.now.points }
+    requires fact { goal.now.fact < split.now.sources + names.now.facts }
+    ensures { IsTrue result ↔
+        EitherTells split.now.reached names.now split.now.sources source goal.now.point goal.now.fact }
+{
+    if goal.fact < split.sources {
+        return goal.fact as usize == source && split.reached.has(goal.point, 0);
+    }
+    names.has(goal.point, goal.fact - split.sources)
+}
+
+// Notes the goals that are reached by the source with that number.
+fn note(
+    split: &Split,
+    names: &Reached,
+    number: usize,
+    goals: &[Goal],
+    source: Span,
+    least: &mut Least,
+)
+    requires one { 0 < split.now.reached.facts }
+    requires number { number < split.now.sources }
+    requires goals { AreInside split.now.reached.points (split.now.sources + names.now.facts) goals.now }
+    requires points { names.now.points ≡ split.now.reached.points }
     requires sinks { AreOfSinks (length least.old.sources.items) goals.now }
-    ensures { Lowers (BySource source (Tells reached.now) goals.now)
+    ensures { Lowers (BySource source
+        (EitherTells split.now.reached names.now split.now.sources number) goals.now)
         least.old.sources.items least.new.sources.items }
 {
     for goal in goals {
-        if reached.has(goal.point, goal.fact) {
+        if is_reached(split, names, number, goal) {
             least.note(goal.sink, source);
         }
     }
 }
 
-// Notes the goals to which some route carries facts that begin with the source.
+// Notes the goals to which some route carries facts that begin with the source of that number.
 fn search_source(
     alloc: Global,
     graph: &Graph,
     plan: &Plan,
-    ready: &Ready,
-    begins: &[u32],
+    split: &Split,
+    number: usize,
     source: Span,
     least: &mut Least,
 ) -> Result<(), Memory>
-    requires fits { Fits graph.now plan.now.moves }
-    requires ready { IsReady graph.now plan.now.moves ready.now }
-    requires begins { (fact : ℕ) → Among begins.now fact → fact < plan.now.moves.facts }
+    requires keeps { KeepsFacts graph.now plan.now split.now.sources }
+    requires split { IsSplit graph.now plan.now split.now.sources split.now }
+    requires number { number < split.now.sources }
+    requires begins { AreFew plan.now.moves.facts plan.now.begins.items }
     requires goals { AreInside (length graph.now.points) plan.now.moves.facts plan.now.goals }
     requires sinks { AreOfSinks (length least.old.sources.items) plan.now.goals }
-    ensures { OnOk result (Lowers (BySource source
-        (CarriedFrom (FromEntry begins.now) graph.now plan.now.moves) plan.now.goals)
-        least.old.sources.items least.new.sources.items) }
+    ensures { (begins : vec ℕ) → slice_get plan.now.begins.items number ≡ Some begins → OnOk result
+        (Lowers (BySource source (CarriedFrom (FromEntry begins.items) graph.now plan.now.moves)
+        plan.now.goals) least.old.sources.items least.new.sources.items) }
 {
-    let pairs = at_entry(alloc, begins)?;
-    let reached = reach_from(alloc, graph, &plan.moves, ready, &pairs)?;
-    note(&reached, plan.goals.as_slice(), source, least);
+    let begins = &plan.begins[number];
+    let added = &split.added[number];
+    let starts = starts_of(alloc, split.sources, begins, &split.ready.after, added)?;
+    let names = reach_from(alloc, graph, &split.names, &split.ready, &starts)?;
+    note(split, &names, number, plan.goals.as_slice(), source, least);
     Ok(())
 }
 
@@ -83,22 +175,17 @@ fn search_plan(
     sources: &[Span],
     least: &mut Least,
 ) -> Result<(), Memory>
-    requires lists { length plan.now.begins.items ≡ length sources.now }
+    requires keeps { KeepsFacts graph.now plan.now (length sources.now) }
+    requires facts { length sources.now ≤ plan.now.moves.facts }
     requires begins { AreFew plan.now.moves.facts plan.now.begins.items }
     requires goals { AreInside (length graph.now.points) plan.now.moves.facts plan.now.goals }
     requires sinks { AreOfSinks (length least.old.sources.items) plan.now.goals }
     ensures { OnOk result (Lowers (ByPlan graph.now plan.now sources.now (length sources.now))
         least.old.sources.items least.new.sources.items) }
 {
-    if !fits(graph, &plan.moves) {
-        return Err(Memory);
-    }
-    let Ok(ready) = prepare(alloc, graph, &plan.moves) else {
-        return Err(Memory);
-    };
+    let split = Split::of(alloc, graph, plan, sources.len())?;
     for (number, source) in sources.iter().enumerate() {
-        let begins = &plan.begins[number];
-        search_source(alloc, graph, plan, &ready, begins, *source, least)?;
+        search_source(alloc, graph, plan, &split, number, *source, least)?;
     }
     Ok(())
 }

@@ -1,10 +1,11 @@
-//! The hits in a unit without names: no point changes any fact there, so each source is carried to all points that are reached.
+//! The points of a unit that are reached, and the hits in a unit without names: no point changes any fact there, so each source is
+//! carried to all points that are reached.
 
 ghost use Rattle.std.specs.Prelude.{◌<◌, OnOk, IfOk, length};
 ghost use Rattle.flow_reach.specs.Reached.{Tells};
 ghost use Rattle.taint_flow.specs.Found.{AreInside, AreOfSinks, ByPlan};
 ghost use Rattle.taint_flow.specs.Lowest.{Lowers};
-ghost use Rattle.taint_flow.specs.Still.{AreStill, BySources, KeepsFacts};
+ghost use Rattle.taint_flow.specs.Still.{AreReachable, AreStill, BySources, KeepsFacts};
 
 use crate::least::Least;
 use crate::moves::Goal;
@@ -31,6 +32,20 @@ fn still(alloc: Global, points: usize) -> Result<Moves, Memory>
         start,
         rows,
     })
+}
+
+/// The points to which some path leads from the entry, with one fact for all.
+pub fn reachable(alloc: Global, graph: &Graph) -> Result<Reached, Memory>
+    ensures { IfOk result (AreReachable graph.now) }
+{
+    let moves = still(alloc, graph.points.len())?;
+    if !fits(graph, &moves) {
+        return Err(Memory);
+    }
+    let Ok(reached) = reach(alloc, graph, &moves) else {
+        return Err(Memory);
+    };
+    Ok(reached)
 }
 
 // Notes the goals at points that are reached, each with the source that its fact is.
@@ -62,13 +77,7 @@ pub fn search_still(
     ensures { OnOk result (Lowers (ByPlan graph.now plan.now sources.now (length sources.now))
         least.old.sources.items least.new.sources.items) }
 {
-    let moves = still(alloc, graph.points.len())?;
-    if !fits(graph, &moves) {
-        return Err(Memory);
-    }
-    let Ok(reached) = reach(alloc, graph, &moves) else {
-        return Err(Memory);
-    };
+    let reached = reachable(alloc, graph)?;
     note_reached(&reached, plan.goals.as_slice(), sources, least);
     Ok(())
 }

@@ -1,4 +1,4 @@
-use Rattle.std.proofs.Common.{◌∙◌, List, length, subst, sym}
+use Rattle.std.proofs.Common.{◌∙◌, List, length, ap, arith, subst, sym}
 use Rattle.node_tree.specs.declared.span.Span.{Span}
 use Rattle.graph_form.specs.declared.graph.Point.{Point}
 use Rattle.taint_flow.specs.Found.{AreInside}
@@ -14,7 +14,22 @@ search_still-requires-clause-keeps c =
     let sets = c.args.rule.now.sets.now in
     let P : List Point → Type 0 = λ ps. IsPlan c.args.tree.now scope.unit ps sets c.args.census.now c.in_ok-plan.plan in
     let K : List Span → Type 0 = λ ks. KeepsFacts scope.graph c.in_ok-plan.plan (length ks) in
-    subst K (sym c.keys-sources.ensures) (plan_keeps c.args.tree.now scope.unit scope.graph sets c.args.census.now c.in_ok-plan.plan (subst P c.as_slice-points.ensures (c.in_ok-plan.ensures sets c.requires.rule.places c.requires.rule.sanitizers)) (sym c.len.ensures ∙ c.if-len-eq0.true))
+    subst K (sym c.keys-sources.ensures) (plan_keeps c.args.tree.now scope.unit scope.graph sets c.args.census.now c.in_ok-plan.plan (subst P c.as_slice-points.ensures (c.in_ok-plan.ensures sets c.requires.rule.places c.requires.rule.sanitizers)))
+
+pub search_plan-requires-clause-keeps : goal.search_plan-requires-clause-keeps
+search_plan-requires-clause-keeps c =
+    let scope = c.args.scope.now in
+    let sets = c.args.rule.now.sets.now in
+    let P : List Point → Type 0 = λ ps. IsPlan c.args.tree.now scope.unit ps sets c.args.census.now c.in_ok-plan.plan in
+    let K : List Span → Type 0 = λ ks. KeepsFacts scope.graph c.in_ok-plan.plan (length ks) in
+    subst K (sym c.keys-sources.ensures) (plan_keeps c.args.tree.now scope.unit scope.graph sets c.args.census.now c.in_ok-plan.plan (subst P c.as_slice-points.ensures (c.in_ok-plan.ensures sets c.requires.rule.places c.requires.rule.sanitizers)))
+
+pub search_plan-requires-clause-facts : goal.search_plan-requires-clause-facts
+search_plan-requires-clause-facts c =
+    let scope = c.args.scope.now in
+    let sets = c.args.rule.now.sets.now in
+    let P : List Point → Type 0 = λ ps. IsPlan c.args.tree.now scope.unit ps sets c.args.census.now c.in_ok-plan.plan in
+    omega (arith, (subst P c.as_slice-points.ensures (c.in_ok-plan.ensures sets c.requires.rule.places c.requires.rule.sanitizers)).facts, ap length c.keys-sources.ensures)
 
 pub search_still-requires-clause-goals : goal.search_still-requires-clause-goals
 search_still-requires-clause-goals c =
