@@ -8,6 +8,7 @@ pub mod Exposed
 pub mod Finding
 pub mod GoalLists
 pub mod Hits
+pub mod Idle
 pub mod KnownNames
 pub mod Lowest
 pub mod Outermost
