@@ -1,12 +1,12 @@
 -- A tree with few nodes has few points, so that no unit is too large where there are no sources.
-use Rattle.std.proofs.Common.{◌≡◌, inl, inr, ℕ, zero, suc, ◌+◌, ◌-◌, ◌*◌, ◌≤◌, ◌<◌, Bool, true, false, List, [], ◌∷◌, ◌++◌, length, take, drop, map, Some, refl, sym, ap, ◌∙◌, subst, arith, length-append}
+use Rattle.std.proofs.Common.{◌≡◌, ℕ, zero, suc, ◌+◌, ◌-◌, ◌*◌, ◌≤◌, Bool, true, false, List, [], ◌∷◌, length, take, drop, map, Some, refl, sym, ap, ◌∙◌, subst, arith, length-append}
 use Rattle.std.specs.Prelude.{Option, None, if◌then◌else◌, slice_get, filter}
 use Rattle.std.specs.List.{flat_map}
 use Rattle.std.specs.Set.{distinct_count}
 use Rattle.std.specs.Str.{bytes_eq}
 use Rattle.std.proofs.lemmas.List.Concat.{flat_map-cons}
 use Rattle.std.proofs.lemmas.Map.Made.{distinct_count-le}
-use Rattle.std.proofs.lemmas.Option.{slice_get-get_or, slice_get_within, get_or_from_slice_get}
+use Rattle.std.proofs.lemmas.Option.{slice_get_within, get_or_from_slice_get}
 use Rattle.node_tree.specs.declared.node.Node.{Node}
 use Rattle.node_tree.specs.declared.span.Span.{Span}
 use Rattle.node_tree.specs.Kinds.{is_function}
@@ -17,7 +17,7 @@ use Rattle.graph_form.specs.declared.graph.Point.{Point}
 use Rattle.graph_form.specs.Sets.{Among}
 use Rattle.flow_edges.specs.declared.statement.Form.{Form}
 use Rattle.flow_edges.specs.declared.statement.Form.TheVariants as forms
-use Rattle.flow_edges.specs.declared.statement.Statement.{Statement, Statement-F, roll-Statement, out-Statement, out-roll-Statement}
+use Rattle.flow_edges.specs.declared.statement.Statement.{Statement, Statement-F, roll-Statement, out-roll-Statement}
 use Rattle.flow_edges.specs.Flow.{points, points_by}
 use Rattle.flow_graph.specs.declared.labels.Label.{Label}
 use Rattle.flow_graph.specs.Outline.{is_row, first_part, part_count, parts_of, target_by, form_by, labels_in, outlined}

@@ -6,13 +6,12 @@ use Rattle.std.proofs.lemmas.Bool.{cases_eq}
 use Rattle.std.proofs.lemmas.Option.{slice_get_within}
 use Rattle.node_tree.specs.declared.span.Span.{Span}
 use Rattle.graph_form.specs.declared.graph.Graph.{Graph}
-use Rattle.graph_form.specs.Edges.{HasEdge}
 use Rattle.graph_form.specs.Sets.{Among}
 use Rattle.flow_reach.specs.declared.moves.Move.{Move}
 use Rattle.flow_reach.specs.declared.moves.Moves.{Moves}
 use Rattle.flow_reach.specs.declared.reached.Reached.{Reached}
 use Rattle.flow_reach.specs.Carried.{CarriedFrom, LeadsFrom, Stop, TurnsBy}
-use Rattle.flow_reach.specs.Reached.{IsReachedFrom, Tells}
+use Rattle.flow_reach.specs.Reached.{IsReachedFrom}
 use Rattle.flow_reach.proofs.Sorted.{got_among}
 use Rattle.flow_reach.proofs.Steps.{both_ways}
 use Rattle.taint_flow.specs.declared.moves.Goal.{Goal}

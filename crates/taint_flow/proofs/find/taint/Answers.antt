@@ -1,4 +1,4 @@
-use Rattle.std.proofs.Common.{sym, subst, List, IsTrue}
+use Rattle.std.proofs.Common.{sym, subst, List}
 use Rattle.taint_flow.specs.declared.hit.TaintHit.{TaintHit}
 use Rattle.taint_flow.specs.Taint.{AreHits}
 use Rattle.taint_flow.proofs.Hits.{one_list}

@@ -1,4 +1,4 @@
-use Rattle.std.proofs.Common.{ℕ, List, arith, refl, subst, get_or}
+use Rattle.std.proofs.Common.{arith, get_or}
 use Rattle.std.proofs.lemmas.Option.{slice_get-get_or}
 use Rattle.taint_flow.proofs.Finding.{plan_more}
 use Rattle.taint_flow.proofs.Routes.{some_at}

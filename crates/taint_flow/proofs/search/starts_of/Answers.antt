@@ -1,5 +1,4 @@
-use Rattle.std.proofs.Common.{◌≡◌, ◌↔◌, ◌⊎◌, inl, inr, ℕ, List, sym, subst}
-use Rattle.graph_form.specs.Sets.{Among}
+use Rattle.std.proofs.Common.{inl, inr, sym}
 use Rattle.taint_flow.proofs.search.starts_of.Goals as goal
 
 pub returns : goal.returns

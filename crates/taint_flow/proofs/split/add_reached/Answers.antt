@@ -1,4 +1,4 @@
-use Rattle.std.proofs.Common.{◌≡◌, ◌<◌, length, ◌↔◌, ◌⊎◌, inl, inr, ◌+◌, ℕ, List, ap, sym, subst, ◌∙◌, arith}
+use Rattle.std.proofs.Common.{◌≡◌, ◌<◌, length, ◌↔◌, ◌⊎◌, inl, inr, ◌+◌, ℕ, List, sym, subst, arith}
 use Rattle.graph_form.specs.Sets.{Among}
 use Rattle.taint_flow.specs.Splits.{ListHas}
 use Rattle.taint_flow.specs.Still.{Reachable}

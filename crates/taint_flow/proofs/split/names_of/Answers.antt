@@ -1,4 +1,4 @@
-use Rattle.std.proofs.Common.{◌↔◌, ◌+◌, ℕ, List, get_or, subst}
+use Rattle.std.proofs.Common.{◌↔◌, ◌+◌, ℕ, List, subst}
 use Rattle.std.proofs.lemmas.List.{take_all}
 use Rattle.graph_form.specs.Sets.{Among}
 use Rattle.graph_form.proofs.Amongs.{among_more}

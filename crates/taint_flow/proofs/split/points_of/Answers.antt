@@ -1,8 +1,7 @@
-use Rattle.std.proofs.Common.{◌≡◌, ◌↔◌, ◌⊎◌, inl, inr, ◌<◌, ◌+◌, ℕ, List, length, Some, refl, ap, sym, subst, ◌∙◌, arith}
+use Rattle.std.proofs.Common.{◌≡◌, List, length, Some, refl, ap, subst, ◌∙◌, arith}
 use Rattle.std.specs.Prelude.{slice_get}
 use Rattle.std.proofs.lemmas.Option.{slice_get_read, slice_get_within}
 use Rattle.flow_reach.specs.declared.moves.Move.{Move}
-use Rattle.taint_flow.specs.Splits.{AddsName, ListHas}
 use Rattle.taint_flow.proofs.Splitting.{adds_more}
 use Rattle.taint_flow.proofs.split.points_of.Goals as goal
 
