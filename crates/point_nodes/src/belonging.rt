@@ -5,6 +5,7 @@ ghost use Rattle.std.specs.List.{flat_map};
 ghost use Rattle.node_tree.specs.Tree.{kind_of};
 ghost use Rattle.node_tree.specs.Numbers.{kids_at, pre_at};
 ghost use Rattle.node_pool.specs.Spots.{seen, all_seen};
+ghost use Rattle.graph_form.specs.declared.graph.Role.TheVariants as roles;
 ghost use Rattle.point_nodes.specs.Tops.{part, defaults_of, head_by, holds_statements as holds_statements_spec, nodes_of, tops_by, tops_of};
 
 use crate::indexed::IndexedTree;
@@ -62,7 +63,7 @@ fn add_defaults_of<'p, 't>(
 }
 
 // Adds what a statement or a handler with these kids does itself.
-fn add_head<'p, 't>(
+fn add_head_by<'p, 't>(
     alloc: Global,
     statement: Spot<'p, 't>,
     kids: &[Spot<'p, 't>],
@@ -102,6 +103,37 @@ fn add_head<'p, 't>(
     Ok(())
 }
 
+// Adds what a statement or a handler does itself. The kids are listed only where it holds statements.
+fn add_head<'p, 't>(
+    alloc: Global,
+    statement: Spot<'p, 't>,
+    into: &mut List<Spot<'p, 't>>,
+) -> Result<(), Memory>
+    ensures { OnOk result (all_seen into.new ≡
+        all_seen into.old ++ tops_by roles.Head (seen statement.entry)) }
+{
+    if !holds_statements(statement.node.kind) {
+        into.push(statement)?;
+        return Ok(());
+    }
+    let kids = statement.kids(alloc)?;
+    add_head_by(alloc, statement, kids.as_slice(), into)
+}
+
+// Adds the kid at that place, if there is one.
+fn add_kid<'p, 't>(
+    alloc: Global,
+    statement: Spot<'p, 't>,
+    place: usize,
+    into: &mut List<Spot<'p, 't>>,
+) -> Result<(), Memory>
+    ensures { OnOk result (all_seen into.new ≡
+        all_seen into.old ++ part place (kids_at (seen statement.entry))) }
+{
+    let kids = statement.kids(alloc)?;
+    add_part(kids.as_slice(), place, into)
+}
+
 // Adds the tops of a point with that role.
 fn add_tops<'p, 't>(
     alloc: Global,
@@ -112,16 +144,14 @@ fn add_tops<'p, 't>(
     ensures { OnOk result (all_seen into.new ≡
         all_seen into.old ++ tops_by role (seen statement.entry)) }
 {
-    let kids = statement.kids(alloc)?;
     match role {
-        Role::Entry => {}
-        Role::Exit => {}
-        Role::Head => add_head(alloc, statement, kids.as_slice(), into)?,
-        Role::Init => add_part(kids.as_slice(), 0, into)?,
-        Role::Test => add_part(kids.as_slice(), 1, into)?,
-        Role::Step => add_part(kids.as_slice(), 2, into)?,
+        Role::Entry => Ok(()),
+        Role::Exit => Ok(()),
+        Role::Head => add_head(alloc, statement, into),
+        Role::Init => add_kid(alloc, statement, 0, into),
+        Role::Test => add_kid(alloc, statement, 1, into),
+        Role::Step => add_kid(alloc, statement, 2, into),
     }
-    Ok(())
 }
 
 /// The tops of a point: it has these nodes and all that is below them.
