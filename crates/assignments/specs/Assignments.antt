@@ -100,6 +100,26 @@ assigned_by field kinds.For text kids = assigned manners.Drawn (value_of (part 1
 assigned_by field kinds.WithItem text kids = assigned manners.Drawn (value_of (part 0 kids)) (names_in (part 1 kids))
 assigned_by field kind text kids = unvalued_by kind text kids
 
+-- whether a node of that kind and text may assign, which depends on its kids
+abbrev pub may_assign : Kind → List ℕ → Bool
+may_assign kinds.Assign text = true
+may_assign kinds.AnnAssign text = true
+may_assign kinds.AugAssign text = true
+may_assign kinds.AssignE text = true
+may_assign kinds.Walrus text = true
+may_assign kinds.Var text = true
+may_assign kinds.For text = true
+may_assign kinds.WithItem text = true
+may_assign kinds.Unary text = steps text
+may_assign kinds.Postfix text = steps text
+may_assign kinds.Del text = true
+may_assign kinds.Alias text = true
+may_assign kinds.Handler text = true
+may_assign kinds.FunctionDef text = true
+may_assign kinds.ClassDef text = true
+may_assign kinds.FuncDef text = true
+may_assign _ text = false
+
 abbrev pub assigned_at : Bool → Numbered → List Assigned
 assigned_at field s = assigned_by field (kind_of s.node) (text_of s.node) (kids_at s)
 

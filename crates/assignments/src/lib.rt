@@ -8,6 +8,7 @@ mod node_assignment;
 mod parameter_names;
 mod parts;
 mod point_assignments;
+mod quiet;
 mod target_names;
 
 pub use assignment::{Assignment, Manner, Reach, Target};

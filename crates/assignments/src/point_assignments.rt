@@ -8,6 +8,7 @@ ghost use Rattle.assignments.specs.Assignments.{is_fields as is_fields_spec, ass
 
 use crate::assignment::Assignment;
 use crate::node_assignment::add_own;
+use crate::quiet::{assigns_below, may_assign};
 use graph_form::{Point, Role};
 use node_pool::Spot;
 use node_tree::{Kind, List, Memory};
@@ -31,6 +32,23 @@ fn are_fields_below(field: bool, kind: Kind) -> bool
     field || is_fields(kind)
 }
 
+// Adds what a node assigns itself. Its kids are listed only where it may assign.
+fn add_itself<'t>(
+    alloc: Global,
+    field: bool,
+    node: Spot<'_, 't>,
+    into: &mut List<Assignment<'t>>,
+) -> Result<(), Memory>
+    ensures { OnOk result (all_assignments into.new ≡
+        all_assignments into.old ++ assigned_at field (seen node.entry)) }
+{
+    if !may_assign(node.node.kind, &node.node.text) {
+        return Ok(());
+    }
+    let kids = node.kids(alloc)?;
+    add_own(alloc, field, node.node, kids.as_slice(), into)
+}
+
 /// Adds what is assigned in a node and all that is below it, kids before nodes. Variables that are fields of a type assign
 /// nothing: those below a node that holds fields, and all where `field` says so of the node.
 pub fn add_assignments<'t>(
@@ -42,6 +60,9 @@ pub fn add_assignments<'t>(
     ensures { OnOk result (all_assignments into.new ≡
         all_assignments into.old ++ assigned_in field (seen node.entry)) }
 {
+    if !assigns_below(node) {
+        return add_itself(alloc, field, node, into);
+    }
     let kids = node.kids(alloc)?;
     let below = are_fields_below(field, node.node.kind);
     for kid in kids.as_slice() {
@@ -66,8 +87,7 @@ fn add_holder<'t>(
             if !holds_statements(node.node.kind) {
                 return Ok(());
             }
-            let kids = node.kids(alloc)?;
-            add_own(alloc, false, node.node, kids.as_slice(), into)
+            add_itself(alloc, false, node, into)
         }
         _ => Ok(()),
     }
