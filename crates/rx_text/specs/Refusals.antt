@@ -17,11 +17,12 @@ Lists (Err e) text old new = ListsFault e text old new
 abbrev pub times_in : List (List ℕ) → List ℕ → ℕ
 times_in texts text = count_by (λ t. bytes_eq t text) texts
 
--- what a fake holds: the texts to refuse, how many times each, and the texts refused so far
+-- what a fake holds: the texts to refuse, how many times each, and the texts that were refused and that were asked for so far
 pub record FakeState : Type 0 where
   pub listed : List (List ℕ)
   pub times : ℕ
   pub refused : List (List ℕ)
+  pub asked : List (List ℕ)
 
 -- the text is to be refused, and was refused fewer times than it is to be
 abbrev pub IsDue : FakeState → List ℕ → Type 0

@@ -1,6 +1,6 @@
 //! The builder over `regex`.
 
-ghost use Rattle.std.specs.Prelude.{◌≡◌, []};
+ghost use Rattle.std.specs.Prelude.{◌≡◌, [], None};
 ghost use Rattle.rx_text.specs.Refusals.{ListsFault};
 
 use crate::patterns::{BuildFault, Patterns};
@@ -11,7 +11,7 @@ use std::alloc::Global;
 use std::marker::Model;
 
 /// A builder that refuses what `regex` refuses for another cause than want of memory. Contracts see it as the list of the
-/// texts that it refused.
+/// texts that it refused, and it doesn't tell those that it was asked for.
 #[derive(Drop)]
 pub struct RealPatterns {
     refused: List<Text>,
@@ -45,6 +45,8 @@ impl RealPatterns {
 
 impl Patterns for RealPatterns {
     ghost refusals = { λ p. p };
+
+    ghost asked = { λ p. None };
 
     fn build(&mut self, text: &str) -> Result<Rx, BuildFault> {
         match Rx::compile(self.refused.alloc(), text) {
