@@ -3,3 +3,4 @@ pub mod Keeping
 pub mod Growing
 pub mod Reading
 pub mod Later
+pub mod Asking

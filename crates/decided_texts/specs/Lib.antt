@@ -2,3 +2,4 @@ pub mod Refused
 pub mod Decided
 pub mod Deciding
 pub mod Kept
+pub mod Asking

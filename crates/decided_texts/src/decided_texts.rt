@@ -8,6 +8,7 @@ ghost use Rattle.std.specs.BTreeMap.{get_by_text};
 ghost use Rattle.decided_texts.specs.Refused.{gained};
 ghost use Rattle.decided_texts.specs.Decided.{is_refused, is_decided, AreDecided, came_to, AsksFor, built_now};
 ghost use Rattle.decided_texts.specs.Deciding.{Decides, TakesAll};
+ghost use Rattle.decided_texts.specs.Asking.{Settles};
 
 use node_tree::{List, Memory, Text};
 use rx_text::{BuildFault, Patterns, Rx};
@@ -74,12 +75,14 @@ impl DecidedTexts {
     }
 
     /// Asks the builder for the regular expression of the text, unless the text is decided. Where it is built or refused now, it
-    /// comes to the end of those texts. Whatever the answer, the builder's list gains this text or nothing.
+    /// comes to the end of those texts. Whatever the answer, the builder's list gains this text or nothing. Unless memory runs out
+    /// the builder is asked once, and not at all for a decided text.
     pub fn decide<P: Patterns>(&mut self, text: &str, patterns: &mut P) -> Result<(), Memory>
         ensures grows { AsksFor self.old text.now (P.refusals patterns.old) (P.refusals patterns.new) }
         ensures refused { OnOk result (self.new.refused ≡ self.old.refused ++ gained (P.refusals patterns.old) (P.refusals patterns.new)) }
         ensures built { OnOk result (self.new.built ≡ self.old.built ++ built_now self.old text.now (gained (P.refusals patterns.old) (P.refusals patterns.new))) }
         ensures decided { OnOk result (is_decided self.new text.now ≡ true) }
+        ensures settled { OnOk result (Settles (text.now ∷ []) self.old self.new (P.asked patterns.old) (P.asked patterns.new)) }
         ensures same { OnErr result (self.new ≡ self.old) }
     {
         if self.by_text.contains_key(text) {
@@ -92,7 +95,7 @@ impl DecidedTexts {
         }
     }
 
-    /// Asks the builder for the regular expressions of those of the texts that are not decided, in order.
+    /// Asks the builder for the regular expressions of those of the texts that are not decided, in order and for each once.
     pub fn decide_all<P: Patterns>(
         &mut self,
         texts: &[Text],
@@ -101,6 +104,7 @@ impl DecidedTexts {
         ensures begun { Decides texts.now self.old self.new (P.refusals patterns.old) (P.refusals patterns.new) }
         ensures refused { OnOk result (TakesAll self.old self.new (P.refusals patterns.old) (P.refusals patterns.new)) }
         ensures decided { OnOk result (AreDecided self.new texts.now) }
+        ensures settled { OnOk result (Settles texts.now self.old self.new (P.asked patterns.old) (P.asked patterns.new)) }
     {
         for text in texts {
             self.decide(text.as_str(), patterns)?;
