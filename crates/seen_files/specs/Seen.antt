@@ -10,7 +10,7 @@ use Rattle.file_open.specs.Reading.{Spells}
 use Rattle.file_open.specs.Opening.{IsOpened, HasOnlyTree}
 use Rattle.report_form.specs.declared.notice.Notice.{Notice}
 use Rattle.kept_leaves.specs.Pairs.{Pair}
-use Rattle.kept_leaves.specs.Kept.{map_of, IsKept, IsEmpty, IsNoneMet}
+use Rattle.kept_leaves.specs.Kept.{map_of, IsKept, IsEmpty, IsNoneMet, AreRight}
 use Rattle.running_rules.specs.Running.{AreApart}
 use Rattle.file_results.specs.Sets.{IsExactly}
 use Rattle.file_results.specs.Reports.{reported_cmp}
@@ -70,3 +70,7 @@ pub record HasSeenNone (seen : SeenFiles) : Type 0 where
 abbrev pub AfterSeen : Grammars → Bool → List Rule → SeenFiles → (List Rule → List File → Type 0) → Type 0
 AfterSeen grammars same_rules running seen P =
     (before : List Rule) (old : List File) → HasSeen grammars before old seen → (same_rules ≡ true → running ≡ before) → AreApart running → P before old
+
+-- each leaf that is kept has the members of its pattern in its piece
+abbrev pub HasRightLeaves : SeenFiles → Type 0
+HasRightLeaves seen = AreRight (map_of seen.kept)

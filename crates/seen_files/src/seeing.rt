@@ -6,7 +6,7 @@ ghost use Rattle.kept_leaves.specs.Kept.{map_of};
 ghost use Rattle.file_results.specs.Shown.{file_cmp};
 ghost use Rattle.file_results.specs.Quieted.{grammars_of};
 ghost use Rattle.seen_files.specs.Needs.{IsNeeded};
-ghost use Rattle.seen_files.specs.Seen.{HasSeen, HasSeenNone, AfterSeen};
+ghost use Rattle.seen_files.specs.Seen.{HasSeen, HasSeenNone, AfterSeen, HasRightLeaves};
 ghost use Rattle.seen_files.specs.Spends.{Spends};
 ghost use Rattle.seen_files.specs.Walk.{HasWalked, turned};
 
@@ -66,6 +66,13 @@ impl SeenFiles {
         ensures { result.now ≡ self.now.files }
     {
         self.files.as_slice()
+    }
+
+    /// Each leaf that is kept has the members of its pattern in its piece.
+    pub fn are_leaves_right(&self)
+        ensures { HasRightLeaves self.now }
+    {
+        self.kept.is_right();
     }
 
     // Nothing was seen any more. It takes no memory.

@@ -12,7 +12,7 @@ ghost use Rattle.decided_texts.specs.Decided.{AreUndecided};
 ghost use Rattle.decided_texts.specs.Deciding.{Grows, TakesAll};
 ghost use Rattle.scan_session.specs.declared.fault.ScanFault.TheVariants as faults;
 ghost use Rattle.scan_session.specs.Quieted.{grammars_of};
-ghost use Rattle.seen_files.specs.Seen.{HasSeenNone};
+ghost use Rattle.seen_files.specs.Seen.{HasSeenNone, HasRightLeaves};
 ghost use Rattle.workspace.specs.Reports.{readings_of, AreAsked, AreAllDecided};
 ghost use Rattle.workspace.specs.Work.{Works};
 ghost use Rattle.session.specs.Reporting.{TellsReport};
@@ -119,6 +119,7 @@ impl<'r, R: TreeReader + CommentReader + PatternReader> ScanState<'r, R> {
             → TellsReport (grammars_of (R.spells self.old.rules.reader) (R.knows self.old.rules.reader) (R.comments self.old.rules.reader) self.old.traced) self.new.decided.refused contents most files.now result }
         ensures work { (result ≡ Err faults.Memory → ⊥) → Works (readings_of (R.spells self.old.rules.reader) (R.knows self.old.rules.reader) (R.comments self.old.rules.reader) (R.writes self.old.rules.reader) self.old.traced) self.new.decided.refused files.now self.old.rules.files self.old.seen self.new.seen steps.old steps.new }
         ensures forgotten { result ≡ Err faults.Memory → HasSeenNone self.new.seen ⊎ (self.new.seen ≡ self.old.seen) }
+        ensures leaves { (result ≡ Err faults.Memory → ⊥) → HasRightLeaves self.new.seen }
         ensures same_rules { self.new.rules ≡ self.old.rules }
         ensures traced { self.new.traced ≡ self.old.traced }
         ensures grows { Gains (P.refusals patterns.old) (P.refusals patterns.new) }
@@ -154,6 +155,7 @@ impl<'r, R: TreeReader + CommentReader + PatternReader> ScanState<'r, R> {
             self.seen = SeenFiles::new(alloc);
             return Err(ScanFault::Memory);
         }
+        self.seen.are_leaves_right();
         self.same_rules = true;
         report
     }
