@@ -8,11 +8,8 @@ use Rattle.c_expr.specs.declared.operators.Precedence.TheVariants as p
 use Rattle.c_expr.specs.Table as t
 use Rattle.c_expr.specs.Table.{Leaf, Builder, Chain, Level, Cast, Row, operation, table}
 use Rattle.c_expr.specs.Build.{start_of, grafted, graft_all, chained, source}
-use Rattle.c_expr.specs.reader.Reading.{chain_level, ops_level, tail_level, tighter, right_level}
-
--- the standard's line: the next level, and then operators of this one, each with a right side of the next level
-abbrev pub line : Precedence → Row
-line k = make Chain (ref (right_level (tighter k)) · ref (tail_level k))
+use Rattle.c_expr.specs.Standard.{line}
+use Rattle.c_expr.specs.reader.Reading.{chain_level, ops_level, tail_level}
 
 -- a level's row in the table: a cast, and then the operators of one level after another
 abbrev ops : Level → List Level → Row
@@ -37,7 +34,7 @@ module _ (ts : List Token) where
   abbrev In : Loop Leaf Builder Level → Row → List Part → ℕ → ℕ → Type 0
   In c r xs i j = Derives (source ts) table c r xs i j
 
-  abbrev pub Says : Row → List Part → ℕ → ℕ → Type 0
+  abbrev Says : Row → List Part → ℕ → ℕ → Type 0
   Says r xs i j = In outside r xs i j
 
   -- ---- a cast is one part

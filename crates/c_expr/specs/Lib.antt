@@ -4,3 +4,4 @@ pub mod Table
 pub mod Build
 pub mod Runs
 pub mod reader
+pub mod Standard

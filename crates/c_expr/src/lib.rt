@@ -7,6 +7,7 @@
 mod classify;
 mod declarators;
 mod initializers;
+mod laws;
 mod limits;
 mod lists;
 mod look;
@@ -21,6 +22,7 @@ mod types;
 mod word;
 
 pub use classify::classified;
+pub use laws::levels_are_lines;
 pub use limits::shallow_end;
 pub use lists::{Listed, list};
 pub use look::{is, is_among, span_at, start_at, text_at};

@@ -12,37 +12,8 @@ use Rattle.py_expr.specs.Words.{class}
 use Rattle.py_expr.specs.Table.{Leaf, Builder, Over, Level, Row, tok, table, names, commas, grammar, Test, Or, And, Not, Cmp, Bor, Xor, Band, Shift, Sum, Term, Unary, Power, Await, Prim, Atom, Star, Named, Pair, AfterStar, AfterItem, AfterPair, AfterFirstPair, Comprehension, ForClause, FirstValue, FirstEntry, Braces}
 use Rattle.py_expr.specs.reader.Sets.{sets, ranks}
 use Rattle.py_expr.proofs.Passes.{pass}
+use Rattle.py_stmt.specs.Braces.{key_value, lines, braces}
 use Rattle.py_stmt.proofs.Seconds.{keeps, lacks}
-
--- ---- the lines of the reference
-
--- items = star {"," star} [","]
-abbrev pub items : Row
-items = ref Star · ref AfterStar
-
--- pairs = pair {"," pair} [","]
-abbrev pub pairs : Row
-pairs = ref Pair · ref AfterPair
-
--- named comp
-abbrev pub set_comprehension : Row
-set_comprehension = ref Named · ref Comprehension
-
--- test ":" test
-abbrev pub key_value : Row
-key_value = make (Over k.Pair) (ref Test · tok w.Colon · ref Test)
-
--- test ":" test comp
-abbrev pub dict_comprehension : Row
-dict_comprehension = key_value · ref Comprehension
-
--- nothing, pairs, a comprehension of a dictionary, items, or a comprehension of a set
-abbrev pub lines : Row
-lines = done ∣ pairs ∣ dict_comprehension ∣ items ∣ set_comprehension
-
--- such a line in braces
-abbrev pub braces : Row
-braces = around (class w.LeftBrace ∷ []) (class w.RightBrace ∷ []) lines
 
 abbrev walrus : List ℕ
 walrus = class w.Walrus ∷ []
@@ -93,7 +64,7 @@ leading _ h = let k : false ≡ true = h in absurd cc
 
 module _ {N : Type 0} (t : Source Leaf Builder N) where
   -- the tokens from i up to j are spelled by the row
-  abbrev pub Spells : Row → ℕ → ℕ → Type 0
+  abbrev Spells : Row → ℕ → ℕ → Type 0
   Spells r i j = (xs : List N) × Derives t table outside r xs i j
 
   abbrev D : Row → List N → ℕ → ℕ → Type 0
@@ -166,7 +137,7 @@ module _ {N : Type 0} (t : Source Leaf Builder N) where
   inside (d_with (d_deep d)) = first_entry d
 
   -- What the table has in braces that begin with no dots is one of the reference's five lines in braces.
-  pub are_lines : (xs : List N) (i j : ℕ) → has (class w.LeftBrace ∷ []) (t.cls i) ≡ true → Derives t table outside (table Braces) xs i j → Spells braces i j
+  are_lines : (xs : List N) (i j : ℕ) → has (class w.LeftBrace ∷ []) (t.cls i) ≡ true → Derives t table outside (table Braces) xs i j → Spells braces i j
   are_lines xs i j begins (d_make ys (d_left (d_around m h d g e)) p) = let l = inside d in (l.0, d_around m h l.1 g e)
   are_lines xs i j begins (d_make ys (d_right (d_around m h d g e)) p) = let k : true ≡ false = sym h ∙ dots_apart (t.cls i) begins in absurd cc
 
@@ -265,5 +236,16 @@ module _ {N : Type 0} (t : Source Leaf Builder N) where
   of_lines (d_right (d_right (d_right (d_right (d_seq m us vs (d_ref d) (d_ref c) s))))) = entered (of_named d (d_with (d_left (d_ref c))) (λ lt. clauses_next c))
 
   -- Each of the reference's five lines in braces is what the table has there.
-  pub are_braces : (xs : List N) (i j : ℕ) → Derives t table outside braces xs i j → Spells (table Braces) i j
+  are_braces : (xs : List N) (i j : ℕ) → Derives t table outside braces xs i j → Spells (table Braces) i j
   are_braces xs i j (d_around m h d g e) = let l = of_lines d in (_, d_make l.0 (d_left (d_around m h l.1 g e)) refl)
+
+  -- Such a line in braces begins with the brace.
+  pub begins : (xs : List N) (i j : ℕ) → Derives t table outside braces xs i j → has (class w.LeftBrace ∷ []) (t.cls i) ≡ true
+  begins xs i j (d_around m h d g e) = h
+
+  -- The same of the level itself.
+  pub of_level : (xs : List N) (i j : ℕ) → has (class w.LeftBrace ∷ []) (t.cls i) ≡ true → D (ref Braces) xs i j → Spells braces i j
+  of_level xs i j h (d_ref d) = are_lines xs i j h d
+
+  pub to_level : (xs : List N) (i j : ℕ) → Derives t table outside braces xs i j → Spells (ref Braces) i j
+  to_level xs i j d = let s = are_braces xs i j d in (s.0, d_ref s.1)
