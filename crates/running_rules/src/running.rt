@@ -5,6 +5,7 @@ ghost use Rattle.std.specs.List.{flat_map};
 ghost use Rattle.rule_files.specs.RuleFiles.{outcomes_of};
 ghost use Rattle.decided_texts.specs.Decided.{is_decided, AreDecided};
 ghost use Rattle.decided_texts.specs.Deciding.{Decides, TakesAll};
+ghost use Rattle.decided_texts.specs.Asking.{Settles};
 ghost use Rattle.running_rules.specs.Notes as notes;
 ghost use Rattle.running_rules.specs.Running as spec;
 ghost use Rattle.running_rules.specs.Taking as taking;
@@ -335,6 +336,7 @@ fn decide_texts<P: Patterns>(
     ensures begun { Decides (spec.texts_of (map taking.said entries.now)) decided.old decided.new (P.refusals patterns.old) (P.refusals patterns.new) }
     ensures refused { OnOk result (TakesAll decided.old decided.new (P.refusals patterns.old) (P.refusals patterns.new)) }
     ensures decided { OnOk result (AreDecided decided.new (spec.texts_of (map taking.said entries.now))) }
+    ensures settled { OnOk result (Settles (spec.texts_of (map taking.said entries.now)) decided.old decided.new (P.asked patterns.old) (P.asked patterns.new)) }
 {
     for entry in entries {
         let rule = entry.rule;
@@ -355,6 +357,7 @@ pub fn take_files<'r, P: Patterns>(
     ensures begun { Decides (spec.texts_of (spec.stated files.now)) decided.old decided.new (P.refusals patterns.old) (P.refusals patterns.new) }
     ensures refused { OnOk result (TakesAll decided.old decided.new (P.refusals patterns.old) (P.refusals patterns.new)) }
     ensures decided { OnOk result (AreDecided decided.new (spec.texts_of (spec.stated files.now))) }
+    ensures settled { OnOk result (Settles (spec.texts_of (spec.stated files.now)) decided.old decided.new (P.asked patterns.old) (P.asked patterns.new)) }
     ensures rules { IfOk result (λ running. running.items ≡ spec.running decided.new.refused files.now) }
     ensures notices { OnOk result (notices.new.items ≡ notices.old.items ++ spec.rule_notices decided.new.refused files.now) }
 {

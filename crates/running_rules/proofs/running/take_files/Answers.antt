@@ -1,6 +1,7 @@
 use Rattle.std.proofs.Common.{List, ap, ◌∙◌, subst, map}
 use Rattle.decided_texts.specs.Decided.{AreDecided}
 use Rattle.decided_texts.specs.Deciding.{Decides, TakesAll}
+use Rattle.decided_texts.specs.Asking.{Settles}
 use Rattle.decided_texts.proofs.Growing.{nothing}
 use Rattle.running_rules.specs.Running.{Stated, stated, texts_of}
 use Rattle.running_rules.specs.Taking.{said}
@@ -38,6 +39,12 @@ returns-clause-decided g c =
     let e = ap (map said) c.as_slice-entries.ensures.value ∙ c.in_ok-rules.ensures in
     let P : List Stated → Type 0 = λ ss. AreDecided c.decide_texts.new.decided (texts_of ss) in
     on_ok (AreDecided c.decide_texts.new.decided (texts_of (stated c.args.files.now))) c.take_rules.result (subst P e c.in_ok-decide_texts.ensures.decided)
+
+pub returns-clause-settled : goal.returns-clause-settled
+returns-clause-settled g c =
+    let e = ap (map said) c.as_slice-entries.ensures.value ∙ c.in_ok-rules.ensures in
+    let P : List Stated → Type 0 = λ ss. Settles (texts_of ss) c.args.decided.now c.decide_texts.new.decided (g.P.Patterns.asked c.args.patterns.now) (g.P.Patterns.asked c.decide_texts.new.patterns) in
+    on_ok (P (stated c.args.files.now)) c.take_rules.result (subst P e c.in_ok-decide_texts.ensures.settled)
 
 pub returns-clause-rules : goal.returns-clause-rules
 returns-clause-rules g c =
