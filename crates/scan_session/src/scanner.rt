@@ -10,6 +10,7 @@ ghost use Rattle.file_results.specs.Reports.{reported_cmp};
 ghost use Rattle.decided_texts.specs.Refused.{gained, Gains};
 ghost use Rattle.decided_texts.specs.Decided.{AreDecided, AreUndecided};
 ghost use Rattle.decided_texts.specs.Deciding.{Grows, TakesAll};
+ghost use Rattle.decided_texts.specs.Asking.{Settles};
 ghost use Rattle.running_rules.specs.Running.{running as rules_of, stated, texts_of, AreTextsOf};
 ghost use Rattle.file_results.specs.Quieted.{grammars_of};
 ghost use Rattle.scan_session.specs.Fresh.{IsFresh, IsResult};
@@ -67,8 +68,9 @@ impl<'r, R: TreeReader + CommentReader> Scanner<'r, R> {
     /// A scan by the rules of the rule files, which reports at most so many findings, with their traces if
     /// `traced` says so, and has no file so far. Files are opened by the reader. A rule whose id an earlier one has does not run; nor does one with a text that is refused.
     ///
-    /// Each text of a good rule that isn't decided is decided now, in order of rule file, entry and place. The refused ones are
-    /// then those that were refused before or now. Whatever this answers, what was decided stays so.
+    /// Each text of a good rule that isn't decided is decided now, in order of rule file, entry and place, and the builder is asked
+    /// once for each. The refused ones are then those that were refused before or now. Whatever this answers, what was decided
+    /// stays so.
     pub fn of<P: Patterns>(
         alloc: Global,
         reader: &'r R,
@@ -84,6 +86,7 @@ impl<'r, R: TreeReader + CommentReader> Scanner<'r, R> {
         ensures kept { Grows decided.old decided.new (gained (P.refusals patterns.old) (P.refusals patterns.new)) }
         ensures refused { OnOk result (TakesAll decided.old decided.new (P.refusals patterns.old) (P.refusals patterns.new)) }
         ensures decided { OnOk result (AreDecided decided.new (texts_of (stated rules.now))) }
+        ensures settled { OnOk result (Settles (texts_of (stated rules.now)) decided.old decided.new (P.asked patterns.old) (P.asked patterns.new)) }
         ensures same_reader { IfOk result (λ scanner. scanner.reader.now ≡ reader.now) }
         ensures traced { IfOk result (λ scanner. scanner.traced ≡ traced) }
         ensures begun { IfOk result (HasScanned (grammars_of (R.spells reader.now) (R.knows reader.now) (R.comments reader.now) traced) decided.new.refused rules.now most []) }
