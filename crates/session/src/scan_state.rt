@@ -13,7 +13,7 @@ ghost use Rattle.decided_texts.specs.Deciding.{Grows, TakesAll};
 ghost use Rattle.scan_session.specs.declared.fault.ScanFault.TheVariants as faults;
 ghost use Rattle.scan_session.specs.Quieted.{grammars_of};
 ghost use Rattle.seen_files.specs.Seen.{HasSeenNone, HasRightLeaves};
-ghost use Rattle.workspace.specs.Reports.{readings_of, AreAsked, AreAllDecided};
+ghost use Rattle.workspace.specs.Reports.{readings_of, AreAsked, AreAllDecided, SettlesRules};
 ghost use Rattle.workspace.specs.Work.{Works};
 ghost use Rattle.session.specs.Reporting.{TellsReport};
 
@@ -127,6 +127,7 @@ impl<'r, R: TreeReader + CommentReader + PatternReader> ScanState<'r, R> {
         ensures kept { Grows self.old.decided self.new.decided (gained (P.refusals patterns.old) (P.refusals patterns.new)) }
         ensures refused { (result ≡ Err faults.Memory → ⊥) → TakesAll self.old.decided self.new.decided (P.refusals patterns.old) (P.refusals patterns.new) }
         ensures decided { (result ≡ Err faults.Memory → ⊥) → AreAllDecided (R.writes self.old.rules.reader) self.old.rules.files self.new.decided }
+        ensures settled { (result ≡ Err faults.Memory → ⊥) → SettlesRules (R.writes self.old.rules.reader) self.old.rules.files self.old.decided self.new.decided (P.asked patterns.old) (P.asked patterns.new) }
     {
         let same_rules = self.same_rules;
         self.same_rules = false;

@@ -1,5 +1,5 @@
 -- What a scan of a workspace reports.
-use Rattle.std.specs.Prelude.{◌≡◌, ℕ, Bool, List, ◌++◌, true, false}
+use Rattle.std.specs.Prelude.{◌≡◌, ℕ, Bool, List, Option, ◌++◌, true, false}
 use Rattle.scan_world.specs.Files.{Files}
 use Rattle.rule_entries.specs.Finds.{Writes}
 use Rattle.rule_files.specs.declared.rule_file.RuleFile.{RuleFile}
@@ -7,6 +7,7 @@ use Rattle.rule_map.specs.RuleMap.{AreRuleFiles}
 use Rattle.node_match.specs.Sets.{Among}
 use Rattle.report_form.specs.declared.report.Report.{Report}
 use Rattle.decided_texts.specs.Decided.{Decisions, is_decided}
+use Rattle.decided_texts.specs.Asking.{Settles}
 use Rattle.scan_session.specs.Sets.{HasMore}
 use Rattle.scan_session.specs.Reports.{reported_cmp}
 use Rattle.running_rules.specs.Running.{running, texts_of, stated}
@@ -48,6 +49,13 @@ AreAllDecided writes rules decided =
 -- what was decided stays so
 abbrev pub StayDecided : Decisions → Decisions → Type 0
 StayDecided old new = (text : List ℕ) → is_decided old text ≡ true → is_decided new text ≡ true
+
+-- The builder was asked for the texts of the good rules that weren't decided, in order and each once, where it tells that, and
+-- just these texts were decided then.
+pub record SettlesRules (writes : Writes) (rules : Files) (old new : Decisions) (before after : Option (List (List ℕ))) : Type 0 where
+  pub contents : List RuleFile
+  pub are : AreRuleFiles writes rules contents
+  pub settles : Settles (texts_of (stated contents)) old new before after
 
 -- the list of refused texts is longer by some of these
 pub record GainsSome (old new : Decisions) (texts : List (List ℕ)) : Type 0 where

@@ -14,7 +14,7 @@ ghost use Rattle.decided_texts.specs.Refused.{gained, Gains};
 ghost use Rattle.scan_session.specs.declared.fault.ScanFault.TheVariants as scan_faults;
 ghost use Rattle.workspace.specs.declared.fault.FixFault.TheVariants as fix_faults;
 ghost use Rattle.workspace.specs.State.{State, with_files, with_rules, with_decided, files_put};
-ghost use Rattle.workspace.specs.Reports.{Readings, IsReport, HasMoreResults, AreAsked, AreAllDecided, StayDecided, GainsSome};
+ghost use Rattle.workspace.specs.Reports.{Readings, IsReport, HasMoreResults, AreAsked, AreAllDecided, SettlesRules, StayDecided, GainsSome};
 ghost use Rattle.seen_files.specs.declared.seen.SeenFiles.{SeenFiles as a_seen};
 ghost use Rattle.seen_files.specs.Seen.{HasSeenNone, HasRightLeaves};
 ghost use Rattle.workspace.specs.Fixes.{IsFixReport, FixesPass, files_fixed};
@@ -100,7 +100,8 @@ pub trait Workspace {
 
     /// What a fresh scan of the files by the rules reports. It takes a step for each file that changed since the last scan, and one
     /// for each piece and pattern that weren't needed then (`specs/Work.antt`). A text of a regular expression is given to `build` once in the life of
-    /// a workspace, at the first scan by a good rule that has it; the refused ones are those that the builder's list gained.
+    /// a workspace, at the first scan by a good rule that has it, in order of rule file, entry and place; the refused ones are those
+    /// that the builder's list gained.
     fn scan<P: Patterns, L: Ledger>(
         &mut self,
         patterns: &mut P,
@@ -120,6 +121,7 @@ pub trait Workspace {
         ensures refused { (result ≡ Err scan_faults.Memory → ⊥) → (state self.new).decided.refused ≡ (state self.old).decided.refused ++ gained (P.refusals patterns.old) (P.refusals patterns.new) }
         ensures refused_some { GainsSome (state self.old).decided (state self.new).decided (gained (P.refusals patterns.old) (P.refusals patterns.new)) }
         ensures all_decided { (result ≡ Err scan_faults.Memory → ⊥) → AreAllDecided (readings (reader self.old)).writes (state self.old).rules (state self.new).decided }
+        ensures settled { (result ≡ Err scan_faults.Memory → ⊥) → SettlesRules (readings (reader self.old)).writes (state self.old).rules (state self.old).decided (state self.new).decided (P.asked patterns.old) (P.asked patterns.new) }
         ensures stay { StayDecided (state self.old).decided (state self.new).decided }
         ensures asked { AreAsked (readings (reader self.old)).writes (state self.old).rules (state self.old).decided (gained (P.refusals patterns.old) (P.refusals patterns.new)) }
         ensures grows { Gains (P.refusals patterns.old) (P.refusals patterns.new) };
@@ -152,6 +154,7 @@ pub trait Workspace {
         ensures refused { (result ≡ Err fix_faults.Memory → ⊥) → (state self.new).decided.refused ≡ (state self.old).decided.refused ++ gained (P.refusals patterns.old) (P.refusals patterns.new) }
         ensures refused_some { GainsSome (state self.old).decided (state self.new).decided (gained (P.refusals patterns.old) (P.refusals patterns.new)) }
         ensures all_decided { (result ≡ Err fix_faults.Memory → ⊥) → AreAllDecided (readings (reader self.old)).writes (state self.old).rules (state self.new).decided }
+        ensures settled { (result ≡ Err fix_faults.Memory → ⊥) → SettlesRules (readings (reader self.old)).writes (state self.old).rules (state self.old).decided (state self.new).decided (P.asked patterns.old) (P.asked patterns.new) }
         ensures stay { StayDecided (state self.old).decided (state self.new).decided }
         ensures asked { AreAsked (readings (reader self.old)).writes (state self.old).rules (state self.old).decided (gained (P.refusals patterns.old) (P.refusals patterns.new)) }
         ensures grows { Gains (P.refusals patterns.old) (P.refusals patterns.new) };
