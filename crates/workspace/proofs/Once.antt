@@ -3,7 +3,6 @@ use Rattle.std.proofs.Common.{◌≡◌, ◌⊎◌, inl, inr, ℕ, ◌≤◌, Li
 use Rattle.scan_world.specs.Files.{Files}
 use Rattle.file_map.specs.FileMap.{File}
 use Rattle.rule_files.specs.declared.rule_file.RuleFile.{RuleFile}
-use Rattle.rule_map.specs.RuleMap.{AreRuleFiles}
 use Rattle.report_form.specs.declared.edit.Edit.{Edit}
 use Rattle.report_form.specs.declared.report.Report.{Report}
 use Rattle.report_form.specs.declared.report.Reported.{Reported}
@@ -14,7 +13,7 @@ use Rattle.fix_apply.specs.Choices.{AreTaken, AreChosen, offers}
 use Rattle.fix_apply.specs.Order.{results_at}
 use Rattle.scan_session.specs.Fresh.{IsFresh}
 use Rattle.scan_session.proofs.Laws.{fresh_once, exclusive}
-use Rattle.workspace.specs.Reports.{Readings, IsReport, HasMoreResults}
+use Rattle.workspace.specs.Reports.{Readings, IsReport, HasMoreResults, AreReadOnce}
 use Rattle.workspace.specs.Fixes.{IsFixed, AreFixed, IsFixReport}
 
 -- ---- fixes
@@ -47,7 +46,7 @@ fixed_once results (file ∷ files) xs ys (inr (x, is, (rest, e, r))) (inr (y, i
 
 -- ---- reports
 
-module _ (readings : Readings) (refused : List (List ℕ)) (files rules : Files) (one : (c d : List RuleFile) → AreRuleFiles readings.writes rules c → AreRuleFiles readings.writes rules d → d ≡ c) where
+module _ (readings : Readings) (refused : List (List ℕ)) (files rules : Files) (one : AreReadOnce readings.writes rules) where
   pub report_once : (r s : Report) → IsReport readings refused files rules r → IsReport readings refused files rules s → s ≡ r
   report_once r s h k =
       let P : List RuleFile → Type 0 = λ c. IsFresh readings.grammars refused files c s in

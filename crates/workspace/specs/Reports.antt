@@ -33,6 +33,10 @@ pub record HasMoreResults (readings : Readings) (refused : List (List ℕ)) (fil
   pub are : AreRuleFiles readings.writes rules contents
   pub more : HasMore reported_cmp (IsResult readings.grammars (running refused contents) files) most
 
+-- there is one way to read the rule files
+abbrev pub AreReadOnce : Writes → Files → Type 0
+AreReadOnce writes rules = (c d : List RuleFile) → AreRuleFiles writes rules c → AreRuleFiles writes rules d → d ≡ c
+
 -- a text of a regular expression of one of the good rules
 abbrev pub IsRuleText : Writes → Files → List ℕ → Type 0
 IsRuleText writes rules text = (contents : List RuleFile) → AreRuleFiles writes rules contents → Among (texts_of (stated contents)) text

@@ -1,20 +1,20 @@
 //! Files and rule files that are put, taken away, scanned and fixed.
 
-ghost use Rattle.std.specs.Prelude.{◌≡◌, ◌⊎◌, ◌≤◌, ◌++◌, ℕ, length, None, Some, Err, IfOk, IfErr, OnOk, OnErr};
+ghost use Rattle.std.specs.Prelude.{◌≡◌, ◌⊎◌, ◌≤◌, ◌++◌, ℕ, length, Option as option, None, Some, Err, IfOk, IfErr, OnOk, OnErr};
 ghost use Rattle.std.specs.Option.{option_map, is_some};
 ghost use Rattle.scan_world.specs.Trees.{KeepsFiles};
 ghost use Rattle.file_map.specs.FileMap.{bytes_at, with_file, without_file, over_limit, TellsOver, TellsPut};
 ghost use Rattle.file_map.specs.Sync.{Syncs, SyncPasses};
 ghost use Rattle.file_map.specs.Faults.{HasSyncCause, TellsLimit};
 ghost use Rattle.file_map.specs.declared.limit.LimitKind.{LimitKind as limit_kind};
-ghost use Rattle.rule_map.specs.RuleMap.{PutRuleEnds};
+ghost use Rattle.rule_map.specs.RuleMap.{PutRuleEnds, TellsEnd};
 ghost use Rattle.report_form.specs.declared.report.Report.{Report as a_report};
 ghost use Rattle.fix_apply.specs.declared.fixed.FixReport.{FixReport as a_fix_report};
 ghost use Rattle.decided_texts.specs.Refused.{gained, Gains};
 ghost use Rattle.scan_session.specs.declared.fault.ScanFault.TheVariants as scan_faults;
 ghost use Rattle.workspace.specs.declared.fault.FixFault.TheVariants as fix_faults;
 ghost use Rattle.workspace.specs.State.{State, with_files, with_rules, with_decided, files_put};
-ghost use Rattle.workspace.specs.Reports.{Readings, IsReport, HasMoreResults, AreAsked, AreAllDecided, SettlesRules, StayDecided, GainsSome};
+ghost use Rattle.workspace.specs.Reports.{Readings, IsReport, HasMoreResults, AreAsked, AreAllDecided, AreReadOnce, StayDecided, GainsSome};
 ghost use Rattle.seen_files.specs.declared.seen.SeenFiles.{SeenFiles as a_seen};
 ghost use Rattle.seen_files.specs.Seen.{HasSeenNone, HasRightLeaves};
 ghost use Rattle.workspace.specs.Fixes.{IsFixReport, FixesPass, files_fixed};
@@ -68,6 +68,7 @@ pub trait Workspace {
         ensures put { OnOk result (state self.new ≡ with_rules (state self.old) (with_file (state self.old).rules (name.now, bytes.now))) }
         ensures within { OnOk result (PutRuleEnds (readings (reader self.old)).writes (state self.old).rules (name.now, bytes.now) None) }
         ensures over { IfErr result (TellsPut (PutRuleEnds (readings (reader self.old)).writes (state self.old).rules (name.now, bytes.now))) }
+        ensures only { (over : option (limit_kind × ℕ)) → PutRuleEnds (readings (reader self.old)).writes (state self.old).rules (name.now, bytes.now) over → TellsEnd (λ told. told ≡ over) result }
         ensures refused { OnErr result (state self.new ≡ state self.old) }
         ensures same_reader { reader self.new ≡ reader self.old }
         ensures unseen { seen self.new ≡ seen self.old };
@@ -110,6 +111,8 @@ pub trait Workspace {
         ensures report { IfOk result (IsReport (readings (reader self.old)) (state self.new).decided.refused (state self.old).files (state self.old).rules) }
         ensures few { IfOk result (λ report. length report.results ≤ (state self.old).most) }
         ensures too_many { (n : ℕ) → result ≡ Err (scan_faults.TooMany n) → (n ≡ (state self.old).most) × HasMoreResults (readings (reader self.old)) (state self.new).decided.refused (state self.old).files (state self.old).rules n }
+        // There is one way to read the rule files, so there is one report.
+        ensures one { AreReadOnce (readings (reader self.old)).writes (state self.old).rules }
         ensures only { IfOk result (λ report. (r : a_report) → IsReport (readings (reader self.old)) (state self.new).decided.refused (state self.old).files (state self.old).rules r → r ≡ report) }
         // After want of memory nothing was seen, or what was seen is as before.
         ensures work { (result ≡ Err scan_faults.Memory → ⊥) → Works (readings (reader self.old)) (state self.new).decided.refused (state self.old).files (state self.old).rules (seen self.old) (seen self.new) steps.old steps.new }
@@ -141,6 +144,7 @@ pub trait Workspace {
         ensures within { IfOk result (λ fixed. over_limit (files_fixed (state self.old).files fixed.files) ≡ None) }
         ensures too_many { (n : ℕ) → result ≡ Err (fix_faults.TooMany n) → (n ≡ (state self.old).most) × HasMoreResults (readings (reader self.old)) (state self.new).decided.refused (state self.old).files (state self.old).rules n }
         ensures over { (kind : limit_kind) (n : ℕ) → result ≡ Err (fix_faults.OverLimit kind n) → FixesPass (readings (reader self.old)) (state self.new).decided.refused (state self.old).files (state self.old).rules (state self.old).most kind n }
+        ensures one { AreReadOnce (readings (reader self.old)).writes (state self.old).rules }
         ensures only { IfOk result (λ fixed. (f : a_fix_report) → IsFixReport (readings (reader self.old)) (state self.new).decided.refused (state self.old).files (state self.old).rules f → f ≡ fixed) }
         // The files were seen before they were fixed.
         ensures work { (result ≡ Err fix_faults.Memory → ⊥) → Works (readings (reader self.old)) (state self.new).decided.refused (state self.old).files (state self.old).rules (seen self.old) (seen self.new) steps.old steps.new }
