@@ -5,6 +5,7 @@ use Rattle.scan_world.specs.Files.{Files}
 use Rattle.file_map.specs.declared.limit.LimitKind.{LimitKind}
 use Rattle.file_map.specs.declared.fault.PutFault.{PutFault}
 use Rattle.file_map.specs.FileMap.{TellsPut}
+use Rattle.rule_entries.specs.Finds.{Writes}
 use Rattle.rule_files.specs.declared.rule_file.RuleFile.{RuleFile}
 use Rattle.rule_map.specs.RuleMap.{AreRuleFiles, TellsEnd}
 use Rattle.node_match.specs.Sets.{Among}
@@ -16,7 +17,7 @@ use Rattle.scan_session.specs.Sets.{HasMore}
 use Rattle.scan_session.specs.Reports.{reported_cmp}
 use Rattle.running_rules.specs.Running.{running, texts_of, stated, AreTextsOf}
 use Rattle.scan_session.specs.Fresh.{IsFresh, IsResult}
-use Rattle.workspace.specs.Reports.{Readings, IsReport, HasMoreResults, AreAsked, AreAllDecided, GainsSome}
+use Rattle.workspace.specs.Reports.{Readings, IsReport, HasMoreResults, AreAsked, AreAllDecided, AreReadOnce, GainsSome}
 
 -- what holds of every value with this holds of an answer with it
 pub if_ok : {X F : Type 0} (P Q : X → Type 0) → ((x : X) → P x → Q x) → (r : Result X F) → IfOk r P → IfOk r Q
@@ -44,6 +45,10 @@ gains_some old new texts g = record {
   is = g.refused;
   among = λ text h. let P : List (List ℕ) → Type 0 = λ ts. Among ts text in subst P (sym g.parts) (among_front g.first g.rest text h);
 }
+
+-- there is one way to read the rule files where each way is this one
+pub read_once : (writes : Writes) (rules : Files) (contents : List RuleFile) → ((others : List RuleFile) → AreRuleFiles writes rules others → others ≡ contents) → AreReadOnce writes rules
+read_once writes rules contents only c d h k = only d k ∙ sym (only c h)
 
 -- The reader with which files are scanned is that of the rules.
 module _ {R : Type 0} (readings : R → Readings) (used reader : R) (same : used ≡ reader) (files rules : Files) (contents : List RuleFile) (are : AreRuleFiles (readings reader).writes rules contents) where

@@ -12,8 +12,8 @@ ghost use Rattle.decided_texts.specs.Decided.{AreUndecided};
 ghost use Rattle.decided_texts.specs.Deciding.{Grows, TakesAll};
 ghost use Rattle.scan_session.specs.declared.fault.ScanFault.TheVariants as faults;
 ghost use Rattle.scan_session.specs.Quieted.{grammars_of};
-ghost use Rattle.seen_files.specs.Seen.{HasSeenNone, HasRightLeaves};
-ghost use Rattle.workspace.specs.Reports.{readings_of, AreAsked, AreAllDecided, SettlesRules};
+ghost use Rattle.seen_files.specs.Seen.{HasSeenNone};
+ghost use Rattle.workspace.specs.Reports.{readings_of, AreAsked, AreAllDecided, AreReadOnce};
 ghost use Rattle.workspace.specs.Work.{Works};
 ghost use Rattle.session.specs.Reporting.{TellsReport};
 
@@ -117,6 +117,7 @@ impl<'r, R: TreeReader + CommentReader + PatternReader> ScanState<'r, R> {
     ) -> Result<Report, ScanFault>
         ensures report { (contents : list a_rule_file) → AreRuleFiles (R.writes self.old.rules.reader) self.old.rules.files contents
             → TellsReport (grammars_of (R.spells self.old.rules.reader) (R.knows self.old.rules.reader) (R.comments self.old.rules.reader) self.old.traced) self.new.decided.refused contents most files.now result }
+        ensures one { AreReadOnce (R.writes self.old.rules.reader) self.old.rules.files }
         ensures work { (result ≡ Err faults.Memory → ⊥) → Works (readings_of (R.spells self.old.rules.reader) (R.knows self.old.rules.reader) (R.comments self.old.rules.reader) (R.writes self.old.rules.reader) self.old.traced) self.new.decided.refused files.now self.old.rules.files self.old.seen self.new.seen steps.old steps.new }
         ensures forgotten { result ≡ Err faults.Memory → HasSeenNone self.new.seen ⊎ (self.new.seen ≡ self.old.seen) }
         ensures leaves { (result ≡ Err faults.Memory → ⊥) → HasRightLeaves self.new.seen }
