@@ -12,8 +12,8 @@ ghost use Rattle.decided_texts.specs.Decided.{AreUndecided};
 ghost use Rattle.decided_texts.specs.Deciding.{Grows, TakesAll};
 ghost use Rattle.scan_session.specs.declared.fault.ScanFault.TheVariants as faults;
 ghost use Rattle.scan_session.specs.Quieted.{grammars_of};
-ghost use Rattle.seen_files.specs.Seen.{HasSeenNone};
-ghost use Rattle.workspace.specs.Reports.{readings_of, AreAsked, AreAllDecided, AreReadOnce};
+ghost use Rattle.seen_files.specs.Seen.{HasSeenNone, HasRightLeaves};
+ghost use Rattle.workspace.specs.Reports.{readings_of, AreAsked, AreAllDecided, AreReadOnce, SettlesRules};
 ghost use Rattle.workspace.specs.Work.{Works};
 ghost use Rattle.session.specs.Reporting.{TellsReport};
 

@@ -1,2 +1,3 @@
+pub use Rattle.scan_session.proofs.Later as ScanLater
 pub mod Later
 pub mod Once

@@ -8,4 +8,5 @@ mod fault;
 mod workspace;
 
 pub use fault::FixFault;
+pub use scan_session::ScanFault;
 pub use workspace::Workspace;

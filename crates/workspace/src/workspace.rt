@@ -14,7 +14,7 @@ ghost use Rattle.decided_texts.specs.Refused.{gained, Gains};
 ghost use Rattle.scan_session.specs.declared.fault.ScanFault.TheVariants as scan_faults;
 ghost use Rattle.workspace.specs.declared.fault.FixFault.TheVariants as fix_faults;
 ghost use Rattle.workspace.specs.State.{State, with_files, with_rules, with_decided, files_put};
-ghost use Rattle.workspace.specs.Reports.{Readings, IsReport, HasMoreResults, AreAsked, AreAllDecided, AreReadOnce, StayDecided, GainsSome};
+ghost use Rattle.workspace.specs.Reports.{Readings, IsReport, HasMoreResults, AreAsked, AreAllDecided, AreReadOnce, SettlesRules, StayDecided, GainsSome};
 ghost use Rattle.seen_files.specs.declared.seen.SeenFiles.{SeenFiles as a_seen};
 ghost use Rattle.seen_files.specs.Seen.{HasSeenNone, HasRightLeaves};
 ghost use Rattle.workspace.specs.Fixes.{IsFixReport, FixesPass, files_fixed};
@@ -150,8 +150,6 @@ pub trait Workspace {
         ensures work { (result ≡ Err fix_faults.Memory → ⊥) → Works (readings (reader self.old)) (state self.new).decided.refused (state self.old).files (state self.old).rules (seen self.old) (seen self.new) steps.old steps.new }
         // After want of memory nothing was seen, or what was seen is as before, or the files were seen.
         ensures forgotten { result ≡ Err fix_faults.Memory → HasSeenNone (seen self.new) ⊎ (seen self.new ≡ seen self.old) ⊎ Works (readings (reader self.old)) (state self.new).decided.refused (state self.old).files (state self.old).rules (seen self.old) (seen self.new) steps.old steps.new }
-        // Each leaf that is kept then has the members of its pattern in its piece.
-        ensures leaves { (result ≡ Err fix_faults.Memory → ⊥) → HasRightLeaves (seen self.new) }
         ensures refused_fix { OnErr result ((state self.new).files ≡ (state self.old).files) }
         ensures same { state self.new ≡ with_decided (with_files (state self.old) (state self.new).files) (state self.new).decided }
         ensures same_reader { reader self.new ≡ reader self.old }

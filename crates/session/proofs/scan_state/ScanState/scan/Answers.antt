@@ -1,5 +1,6 @@
 use Rattle.std.proofs.Common.{false, refl}
 use Rattle.scan_session.specs.Quieted.{grammars_of}
+use Rattle.workspace.specs.Reports.{SettlesRules}
 use Rattle.session.proofs.Reports.{read_once}
 use Rattle.session.proofs.Keeping.{none_seen, up_to_date, works, answers, all_decided}
 use Rattle.session.proofs.scan_state.ScanState.scan.Goals as goal
@@ -37,6 +38,13 @@ returns-clause-decided g c =
     rw (← c.self.view_is) (λ remembered. all_decided (λ r traced. grammars_of (g.R.TreeReader.spells r) (g.R.TreeReader.knows r) (g.R.CommentReader.comments r) traced) c.self.inside.traced (λ r. g.R.PatternReader.writes r) c.reader-reader.result.now c.self.inside.rules.reader c.reader-reader.ensures c.self.inside.rules.files c.contents-rules.result.now c.contents-rules.ensures.contents c.contents-rules.ensures.only
     c.self.inside.decided c.of.new.decided _ c.of.ensures.kept c.of.ensures.undecided c.in_ok-scanner.ensures.decided c.self.inside.same_rules c.self.inside.seen c.self.invariant
     c.args.most c.in_ok-scanner.scanner c.in_ok-scanner.ensures.begun c.running.result.now c.running.ensures)
+
+pub returns-clause-settled : goal.returns-clause-settled
+returns-clause-settled g c =
+    let rules = c.self.inside.rules in
+    let settles : SettlesRules (g.R.PatternReader.writes rules.reader) rules.files c.self.inside.decided c.of.new.decided (g.P.Patterns.asked c.args.patterns.now) (g.P.Patterns.asked c.of.new.patterns) =
+    record { contents = c.contents-rules.result.now; are = c.contents-rules.ensures.contents; settles = c.in_ok-scanner.ensures.settled } in
+    rw (← c.self.view_is) (λ remembered. settles)
 
 pub returns-in_err-scanner-clause-one : goal.returns-in_err-scanner-clause-one
 returns-in_err-scanner-clause-one g c = rw (← c.self.view_is) (read_once (g.R.PatternReader.writes c.self.inside.rules.reader) c.self.inside.rules.files c.contents-rules.result.now c.contents-rules.ensures.only)
