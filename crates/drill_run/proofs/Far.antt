@@ -11,10 +11,10 @@ use Rattle.wire_drill.specs.Drill.{drill}
 use Rattle.run_status.specs.declared.status.Status.{Status}
 use Rattle.run_status.specs.declared.status.Status.TheVariants as statuses
 use Rattle.run_status.specs.Status.{IsAnswer}
-use Rattle.seen_files.specs.declared.seen.SeenFiles.{SeenFiles}
-use Rattle.seen_files.specs.Seen.{HasSeenNone}
-use Rattle.workspace.specs.State.{State}
-use Rattle.workspace.specs.Reports.{Readings}
+use Rattle.stream_run.specs.SeenFiles.{SeenFiles}
+use Rattle.stream_run.specs.Seen.{HasSeenNone}
+use Rattle.stream_run.specs.State.{State}
+use Rattle.stream_run.specs.Reports.{Readings}
 use Rattle.stream_run.specs.declared.reply.Reply.{Reply}
 use Rattle.stream_run.specs.declared.reply.Reply.TheVariants as replies
 use Rattle.stream_run.specs.Doing.{Setting, Shelves, empty_shelves, Does, Passes}

@@ -5,8 +5,8 @@ use Rattle.report_form.specs.declared.report.Report.{Report}
 use Rattle.run_status.specs.declared.status.Status.{Status}
 use Rattle.run_status.specs.declared.status.Status.TheVariants as statuses
 use Rattle.wire_stream.specs.declared.wire.Wire.{Wire}
-use Rattle.workspace.specs.State.{State}
-use Rattle.workspace.specs.Reports.{Readings}
+use Rattle.stream_run.specs.State.{State}
+use Rattle.stream_run.specs.Reports.{Readings}
 use Rattle.stream_run.specs.declared.reply.Reply.{Reply}
 use Rattle.stream_run.specs.declared.reply.Reply.TheVariants as replies
 use Rattle.stream_run.specs.Doing.{Setting}

@@ -3,8 +3,8 @@ use Rattle.std.specs.Prelude.{◌≡◌, ℕ, List, Option}
 use Rattle.report_form.specs.declared.report.Report.{Report}
 use Rattle.run_status.specs.declared.status.Status.{Status}
 use Rattle.run_status.specs.Ways.{Printed}
-use Rattle.seen_files.specs.declared.seen.SeenFiles.{SeenFiles}
-use Rattle.seen_files.specs.Seen.{HasSeenNone}
+use Rattle.stream_run.specs.SeenFiles.{SeenFiles}
+use Rattle.stream_run.specs.Seen.{HasSeenNone}
 use Rattle.wire_stream.specs.declared.wire.Wire.{Wire}
 use Rattle.stream_run.specs.Doing.{Setting, Shelves}
 use Rattle.stream_run.specs.Costs.{Costs}

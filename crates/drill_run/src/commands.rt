@@ -4,7 +4,7 @@ ghost use Rattle.std.specs.Prelude.{◌≡◌, [], ◌++◌, length, Err, OnOk, 
 ghost use Rattle.scan_world.specs.Trees.{KeepsFiles};
 ghost use Rattle.decided_texts.specs.Refused.{gained, Gains};
 ghost use Rattle.run_status.specs.Status.{IsAnswer};
-ghost use Rattle.seen_files.specs.Seen.{HasSeenNone};
+ghost use Rattle.stream_run.specs.Seen.{HasSeenNone};
 ghost use Rattle.stream_run.specs.Still.{IsNew, CostsStill, Keeps, RefusesGained};
 ghost use Rattle.drill_run.specs.Drilling.{report_in, IsWithin};
 ghost use Rattle.drill_run.specs.Costs.{HasDrilledAfter, EndsSo};
@@ -17,10 +17,9 @@ use rx_text::Patterns;
 use scan_world::Tree;
 use std::alloc::Global;
 use std::sync::ledger::Ledger;
-use stream_run::{Reply, play};
+use stream_run::{Reply, Workspace, play};
 use wire_drill::drill_input;
 use wire_stream::Wire;
-use workspace::Workspace;
 
 // Adds the report that a command came to, if it was a scan.
 fn add_report(reply: Reply, reports: &mut List<Report>) -> Result<(), Status>

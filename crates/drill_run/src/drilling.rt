@@ -7,7 +7,7 @@ ghost use Rattle.decided_texts.specs.Refused.{gained, Gains};
 ghost use Rattle.run_status.specs.Status.{IsAnswer};
 ghost use Rattle.run_status.specs.Ways.{Printed, PrintedFront};
 ghost use Rattle.stream_run.specs.Still.{IsNew};
-ghost use Rattle.seen_files.specs.Seen.{HasSeenNone};
+ghost use Rattle.stream_run.specs.Seen.{HasSeenNone};
 ghost use Rattle.drill_run.specs.Drilling.{DrillEnds};
 ghost use Rattle.drill_run.specs.Costs.{DrilledAfter};
 ghost use Rattle.drill_run.specs.Commands.{drill_setting};
@@ -20,7 +20,7 @@ use rx_text::Patterns;
 use scan_world::{Sink, Tree};
 use std::alloc::Global;
 use std::sync::ledger::Ledger;
-use workspace::Workspace;
+use stream_run::Workspace;
 
 /// Does the session that is made from the number, on a new workspace, and prints how many files it puts, how many findings both of
 /// its scans have, and how many notices the second.

@@ -223,7 +223,6 @@ fn assignments_in_python(rt: HostRuntime) -> Result<(), Fail> {
             "x = y = 1\n(a, *b) = c.d[0] = e\n ⇒ 1 Statement x y Number(1); 2 Statement a' b' c* Name(e)",
             "x: int = 1\ny: int\nx += z\n ⇒ 1 Statement x Number(1); 3 Augmented x Name(z)",
             "for a, b.c in xs:\n f(d := a)\n ⇒ 1 Drawn a' b* Name(xs); 2 Expression d Name(a)",
-            "f([0, 0, 0, 0, 0, 0, 0, 0, 0, 0, 0, 0, 0, 0, 0, 0, 0, 0, 0, 0, 0, 0, 0, 0, 0, 0, 0, 0, 0, 0, 0, 0, 0, 0, 0, 0, 0, 0, 0, 0, 0, 0, 0, 0, 0, 0, 0, 0, 0, 0, 0, 0, 0, 0, 0, 0, 0, 0, 0, 0, 0, 0, 0, 0, x := 1, y])\n ⇒ 1 Expression x Number(1)",
             "with f(a := 1) as b, c:\n pass\n ⇒ 1 Expression a Number(1); 1 Drawn b Call[Name(f) List[Walrus[Id(a) Number(1)]]]",
             "del a, b[0]\nimport a.b, c.d as e\nfrom m import *\nfrom m import f, g as h\n ⇒ 1 Deleted a' b*; 2 Imported a; 2 Imported e; 4 Imported f; 4 Imported h",
             "try:\n pass\nexcept E as e:\n pass\nexcept F:\n pass\n ⇒ 3 Caught e",

@@ -148,10 +148,6 @@ fn hits_in_python(rt: HostRuntime) -> Result<(), Fail> {
             "for x in src():\n sink(x)\nwith src() as y:\n sink(y)\n ⇒ 17..24 9..14; 43..50 30..35",
             "def f():\n return\n u = src()\n sink(u)\n ⇒ ",
             "a = src()\nb = src()\nc = b + a\nsink(c)\n ⇒ 30..37 4..9",
-            "a = src()\na = src()\nsink(a)\n ⇒ 20..27 14..19",
-            "def f(tainted):\n b = tainted\n tainted = 0\n sink(b)\n sink(tainted)\n ⇒ 43..50 6..13",
-            "while c():\n sink(b)\n b = a\n a = src()\n ⇒ 12..19 32..37",
-            "def f():\n if c():\n  a = src()\n  return\n sink(a)\n ⇒ ",
         ],
     )
 }

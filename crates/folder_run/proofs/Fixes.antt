@@ -15,15 +15,15 @@ use Rattle.fix_apply.specs.declared.fixed.FixReport.{FixReport}
 use Rattle.run_status.specs.declared.status.Status.{Status}
 use Rattle.run_status.specs.declared.status.Status.TheVariants as statuses
 use Rattle.run_status.specs.Ways.{Printed, PrintedFront}
-use Rattle.seen_files.specs.declared.seen.SeenFiles.{SeenFiles}
-use Rattle.seen_files.specs.Seen.{HasSeenNone}
+use Rattle.stream_run.specs.SeenFiles.{SeenFiles}
+use Rattle.stream_run.specs.Seen.{HasSeenNone}
 use Rattle.wire_words.specs.Commands.{Task}
-use Rattle.workspace.specs.declared.fault.FixFault.{FixFault}
-use Rattle.workspace.specs.declared.fault.FixFault.TheVariants as faults
-use Rattle.workspace.specs.State.{State}
-use Rattle.workspace.specs.Reports.{Readings, HasMoreResults}
-use Rattle.workspace.specs.Work.{Works}
-use Rattle.workspace.specs.Fixes.{IsFixReport, FixesPass, files_fixed}
+use Rattle.stream_run.specs.FixFault.{FixFault}
+use Rattle.stream_run.specs.FixFault.TheVariants as faults
+use Rattle.stream_run.specs.State.{State}
+use Rattle.stream_run.specs.Reports.{Readings, HasMoreResults}
+use Rattle.stream_run.specs.Work.{Works}
+use Rattle.stream_run.specs.Fixes.{IsFixReport, FixesPass, files_fixed}
 use Rattle.stream_run.specs.Printed.{fix_line}
 use Rattle.stream_run.specs.Doing.{Setting}
 use Rattle.stream_run.specs.Still.{setting, shelves_of, IsNew}

@@ -15,8 +15,8 @@ use Rattle.file_map.specs.Sync.{AreSynced, Syncs, SyncPasses}
 use Rattle.rule_map.specs.RuleMap.{PutRuleEnds}
 use Rattle.run_status.specs.declared.status.Status.{Status}
 use Rattle.run_status.specs.declared.status.Status.TheVariants.{NoSuchPath, OverLimit}
-use Rattle.workspace.specs.State.{State, with_files, with_rules}
-use Rattle.workspace.specs.Reports.{Readings}
+use Rattle.stream_run.specs.State.{State, with_files, with_rules}
+use Rattle.stream_run.specs.Reports.{Readings}
 use Rattle.stream_run.specs.Still.{shelves_of, IsNew}
 use Rattle.folder_run.specs.Taking.{IsConfig, Takes, TakesNone, no_config, rules_over, files_over}
 

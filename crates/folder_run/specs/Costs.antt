@@ -3,10 +3,10 @@ use Rattle.std.specs.Prelude.{◌≡◌, ℕ, List, Option}
 use Rattle.fix_apply.specs.declared.fixed.FixedFile.{FixedFile}
 use Rattle.run_status.specs.declared.status.Status.{Status}
 use Rattle.run_status.specs.Ways.{Printed}
-use Rattle.seen_files.specs.declared.seen.SeenFiles.{SeenFiles}
-use Rattle.seen_files.specs.Seen.{HasSeenNone}
+use Rattle.stream_run.specs.SeenFiles.{SeenFiles}
+use Rattle.stream_run.specs.Seen.{HasSeenNone}
 use Rattle.wire_words.specs.Commands.{Task}
-use Rattle.workspace.specs.Work.{Works}
+use Rattle.stream_run.specs.Work.{Works}
 use Rattle.stream_run.specs.Doing.{Setting, Shelves}
 use Rattle.folder_run.specs.Ends.{FixEnds, none, too_many, over, fixed, FixPrints}
 

@@ -9,8 +9,8 @@ use Rattle.fix_apply.specs.declared.fixed.FixReport.{FixReport}
 use Rattle.run_status.specs.declared.status.Status.{Status}
 use Rattle.run_status.specs.declared.status.Status.TheVariants.{Done, Findings, TooMany, OverLimit}
 use Rattle.wire_words.specs.Commands.{Task}
-use Rattle.workspace.specs.Reports.{IsReport, HasMoreResults}
-use Rattle.workspace.specs.Fixes.{IsFixReport, FixesPass, files_fixed}
+use Rattle.stream_run.specs.Reports.{IsReport, HasMoreResults}
+use Rattle.stream_run.specs.Fixes.{IsFixReport, FixesPass, files_fixed}
 use Rattle.stream_run.specs.Printed.{report_line, fix_line}
 use Rattle.stream_run.specs.Doing.{Setting, Shelves}
 use Rattle.folder_run.specs.Taking.{Takes, TakesNone}

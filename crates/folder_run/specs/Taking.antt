@@ -7,7 +7,7 @@ use Rattle.file_map.specs.Sync.{Syncs, SyncPasses}
 use Rattle.rule_map.specs.RuleMap.{PutRuleEnds}
 use Rattle.run_status.specs.declared.status.Status.{Status}
 use Rattle.run_status.specs.declared.status.Status.TheVariants.{NoSuchPath, OverLimit}
-use Rattle.workspace.specs.Reports.{Readings}
+use Rattle.stream_run.specs.Reports.{Readings}
 use Rattle.stream_run.specs.Doing.{Shelves}
 
 -- the file at the path of the rules has these bytes, of which at most the first 262,145 are read

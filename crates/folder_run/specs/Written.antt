@@ -7,7 +7,7 @@ use Rattle.fix_apply.specs.declared.fixed.FixedFile.{FixedFile}
 use Rattle.fix_apply.specs.declared.fixed.FixReport.{FixReport}
 use Rattle.run_status.specs.declared.status.Status.{Status}
 use Rattle.wire_words.specs.Commands.{Task}
-use Rattle.workspace.specs.Fixes.{IsFixReport}
+use Rattle.stream_run.specs.Fixes.{IsFixReport}
 use Rattle.stream_run.specs.Doing.{Setting, Shelves}
 use Rattle.folder_run.specs.Ends.{TakesFor, FixEnds}
 

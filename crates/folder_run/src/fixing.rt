@@ -13,7 +13,7 @@ ghost use Rattle.wire_words.specs.Commands.{task_of};
 ghost use Rattle.stream_run.specs.Still.{setting, IsNew};
 ghost use Rattle.folder_run.specs.Ends.{FixPrints};
 ghost use Rattle.folder_run.specs.Costs.{FixedAfter};
-ghost use Rattle.seen_files.specs.Seen.{HasSeenNone};
+ghost use Rattle.stream_run.specs.Seen.{HasSeenNone};
 ghost use Rattle.folder_run.specs.Written.{WritesAll, LeavesOf, Wrote, Leaves};
 
 use crate::taking::take_folder;
@@ -26,8 +26,8 @@ use rx_text::Patterns;
 use scan_world::{Sink, Tree};
 use std::alloc::Global;
 use std::sync::ledger::Ledger;
+use stream_run::{FixFault, Workspace};
 use wire_words::Job;
-use workspace::{FixFault, Workspace};
 
 // Writes the changed files, unless this is a dry run, and then prints the line, in one write.
 fn write_and_print<T: Tree, K: Sink>(

@@ -12,8 +12,8 @@ use file_map::{PutFault, SyncFault};
 use node_tree::Bytes;
 use run_status::Status;
 use scan_world::{Tree, TreeFault};
+use stream_run::Workspace;
 use wire_words::Job;
-use workspace::Workspace;
 
 // The most bytes of the rules.
 const MOST: u64 = 262_144;

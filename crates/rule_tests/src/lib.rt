@@ -1,9 +1,7 @@
-//! Tests of how rules are read, of what they find in files, and of the paths on which the data that they follow goes.
+//! Tests of how rules are read, and of what they find in files.
 #![tactic(auto)]
 
 #[cfg(test)]
 mod findings;
 #[cfg(test)]
 mod rules;
-#[cfg(test)]
-mod traces;

@@ -1,7 +1,7 @@
 //! Runs of `fix`.
 
 use crate::runs::{World, file_of, outcome_in};
-use node_tree::{Bytes, List, Text};
+use node_tree::{Bytes, List};
 use rx_text::RealPatterns;
 use scan_world::{MemoryTree, Tree};
 use shown::same;
@@ -37,28 +37,7 @@ fn add_texts(text: &mut String, tree: &mut MemoryTree, files: &[(&str, &str)]) -
     Ok(())
 }
 
-// How a run of the words ends over these files, where this call of the folder fails, and what those of these paths hold then.
-fn fixed_in(
-    alloc: Global,
-    words: &[&str],
-    files: List<(Text, Bytes)>,
-    failing: u32,
-    shown: &[(&str, &str)],
-) -> Result<String, Fail> {
-    let world = World {
-        files,
-        input: Bytes::new(alloc),
-        piece: 1,
-        failing: [failing, 0, 0],
-    };
-    let mut patterns = RealPatterns::new(alloc);
-    let (mut text, mut tree) = outcome_in(alloc, words, world, &mut patterns)?;
-    text.push_str(" ⇒ ")?;
-    add_texts(&mut text, &mut tree, shown)?;
-    Ok(text)
-}
-
-// The same over the rule and these files.
+// How a run of the words ends over these files, where this call of the folder fails, and what the files hold then.
 fn fixed(
     alloc: Global,
     words: &[&str],
@@ -70,7 +49,17 @@ fn fixed(
     for (path, text) in given {
         files.push(file_of(alloc, *path, *text)?)?;
     }
-    fixed_in(alloc, words, files, failing, given)
+    let world = World {
+        files,
+        input: Bytes::new(alloc),
+        piece: 1,
+        failing: [failing, 0, 0],
+    };
+    let mut patterns = RealPatterns::new(alloc);
+    let (mut text, mut tree) = outcome_in(alloc, words, world, &mut patterns)?;
+    text.push_str(" ⇒ ")?;
+    add_texts(&mut text, &mut tree, given)?;
+    Ok(text)
 }
 
 // The words, the files, the call of the folder that fails, and how the run ends with what the files hold then.
@@ -100,43 +89,11 @@ fn writes_changed_files(rt: HostRuntime) -> Result<(), Fail> {
             0,
             "{\"fixed\":[{\"path\":\"src/a.py\",\"ranges\":[[0,7,\"g(f(1))\"],[8,12,\"g(2)\"]]},{\"path\":\"src/b.py\",\"ranges\":[[0,4,\"g(3)\"]]}],\"notices\":[],\"results\":[{\"check_id\":\"p\",\"end\":{\"col\":8,\"line\":1,\"offset\":7},\"extra\":{\"fix\":\"g(f(1))\",\"message\":\"m\",\"metavars\":{\"$X\":[2,6]},\"severity\":\"INFO\"},\"path\":\"src/a.py\",\"start\":{\"col\":1,\"line\":1,\"offset\":0}},{\"check_id\":\"p\",\"end\":{\"col\":7,\"line\":1,\"offset\":6},\"extra\":{\"fix\":\"g(1)\",\"message\":\"m\",\"metavars\":{\"$X\":[4,5]},\"severity\":\"INFO\"},\"path\":\"src/a.py\",\"start\":{\"col\":3,\"line\":1,\"offset\":2}},{\"check_id\":\"p\",\"end\":{\"col\":5,\"line\":2,\"offset\":12},\"extra\":{\"fix\":\"g(2)\",\"message\":\"m\",\"metavars\":{\"$X\":[10,11]},\"severity\":\"INFO\"},\"path\":\"src/a.py\",\"start\":{\"col\":1,\"line\":2,\"offset\":8}},{\"check_id\":\"p\",\"end\":{\"col\":5,\"line\":1,\"offset\":4},\"extra\":{\"fix\":\"g(3)\",\"message\":\"m\",\"metavars\":{\"$X\":[2,3]},\"severity\":\"INFO\"},\"path\":\"src/b.py\",\"start\":{\"col\":1,\"line\":1,\"offset\":0}}]}\n ⇒ g(f(1))\ng(2)\ng(3)\n",
         ),
-        (FIX, TWO, 5, "TreeFault ⇒ f(f(1))\nf(2)\nf(3)\n"),
         (FIX, TWO, 6, "TreeFault ⇒ g(f(1))\ng(2)\nf(3)\n"),
     ];
     for (words, files, failing, wanted) in rows {
         let found = fixed(rt.alloc(), words, files, failing)?;
         same("fix", found.as_str(), wanted)?;
-    }
-    Ok(())
-}
-
-// The files with the call have 33,554,432 bytes. What the call becomes, and how the run ends with what its file holds then.
-#[test]
-fn keeps_the_limit_of_bytes(rt: HostRuntime) -> Result<(), Fail> {
-    let alloc = rt.alloc();
-    let rows = [
-        (
-            "g",
-            "{\"fixed\":[{\"path\":\"a.py\",\"ranges\":[[0,4,\"g(2)\"]]}],\"notices\":[],\"results\":[{\"check_id\":\"p\",\"end\":{\"col\":5,\"line\":1,\"offset\":4},\"extra\":{\"fix\":\"g(2)\",\"message\":\"m\",\"metavars\":{\"$X\":[2,3]},\"severity\":\"INFO\"},\"path\":\"a.py\",\"start\":{\"col\":1,\"line\":1,\"offset\":0}}]}\n ⇒ g(2)\n",
-        ),
-        ("gg", "OverLimit(FileBytes, 33554433) ⇒ f(2)\n"),
-    ];
-    for (name, wanted) in rows {
-        let rule = format!(in alloc;
-            "rules:\n- id: p\n  languages: [python]\n  severity: INFO\n  message: m\n  pattern: f($X)\n  fix: {name}($X)\n"
-        )?;
-        let mut files = List::new(alloc);
-        files.push(file_of(alloc, "r.rules", rule.as_str())?)?;
-        files.push(file_of(alloc, "a.py", "f(2)\n")?)?;
-        for number in 10_u32..44 {
-            let path = format!(in alloc; "f{number}.txt")?;
-            let path = Text::from_str(alloc, path.as_str())?;
-            let size = if number == 10 { 554_427 } else { 1_000_000 };
-            files.push((path, Bytes::from_vec(vec![in alloc; b'#'; size]?)))?;
-        }
-        let words = ["fix", "--config", "r.rules", "."];
-        let found = fixed_in(alloc, &words, files, 0, &[("a.py", "")])?;
-        same(name, found.as_str(), wanted)?;
     }
     Ok(())
 }

@@ -13,8 +13,8 @@ use std::str;
 use std::sync::ledger::{Blank, Ledger};
 use std::test::Fail;
 
-// Room for the line of 50,000 results.
-const ROOM: u64 = 10_000_000;
+// Room for the line of 10,000 results.
+const ROOM: u64 = 4_000_000;
 
 /// The bytes of pieces, each as often as its number says.
 pub fn bytes_of(alloc: Global, pieces: &[(u32, &[u8])]) -> Result<Bytes, AllocError> {

@@ -382,28 +382,6 @@ fn keeps_to_its_limits(rt: HostRuntime) -> Result<(), Fail> {
     Ok(())
 }
 
-// What the last of six files holds, where each of the others has 10,000 members, and how many results there are, or none.
-#[test]
-fn keeps_to_the_limit_of_findings(rt: HostRuntime) -> Result<(), Fail> {
-    let rule: &[(u32, &[u8])] = &[(
-        1,
-        b"rules:\n- id: p\n  languages: [json]\n  severity: INFO\n  message: m\n  pattern: '0'\n",
-    )];
-    let full: &[(u32, &[u8])] = &[(1, b"[0"), (9_999, b",0"), (1, b"]")];
-    let rows: [(&[u8], &str, usize); 2] = [(b"[]", "{", 50_000), (b"[0]", "TooMany(50000)", 0)];
-    for (last, front, count) in rows {
-        let mut files = files_of(rt.alloc(), &[("r.rules", rule), ("f.json", &[(1, last)])])?;
-        for path in ["a.json", "b.json", "c.json", "d.json", "e.json"] {
-            let bytes = bytes_of(rt.alloc(), full)?;
-            files.push((Text::from_str(rt.alloc(), path)?, bytes))?;
-        }
-        let found = scanned(rt.alloc(), OTHERS, files, [0, 0, 0])?;
-        assert!(rt; found.as_str().starts_with(front));
-        assert_eq!(rt; found.as_str().matches("\"check_id\"").count(), count);
-    }
-    Ok(())
-}
-
 // A text that is refused once is a notice in that run, and is built in the next.
 #[test]
 fn passes_over_rules_with_refused_texts(rt: HostRuntime) -> Result<(), Fail> {

@@ -6,7 +6,7 @@ use Rattle.run_status.specs.declared.status.Status.{Status}
 use Rattle.run_status.specs.declared.status.Status.TheVariants as statuses
 use Rattle.run_status.specs.Status.{IsAnswer, IsCutShort}
 use Rattle.run_status.specs.Ways.{Printed}
-use Rattle.workspace.specs.State.{State}
+use Rattle.stream_run.specs.State.{State}
 use Rattle.stream_run.specs.Doing.{Setting}
 use Rattle.stream_run.specs.Playing.{SessionEnds, ended, bad, long, over, PrintsEnd, PrintsFirst, PrintsWhole}
 use Rattle.stream_run.specs.Still.{IsNew}

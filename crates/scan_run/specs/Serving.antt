@@ -6,7 +6,7 @@ use Rattle.languages.specs.Trees.{IsTree, AreKnown}
 use Rattle.languages.specs.Comments.{AreComments}
 use Rattle.pattern_read.specs.Patterns.{IsPatternOf}
 use Rattle.run_status.specs.declared.status.Status.{Status}
-use Rattle.workspace.specs.Reports.{Readings, readings_of}
+use Rattle.stream_run.specs.Reports.{Readings, readings_of}
 use Rattle.stream_run.specs.Doing.{Setting}
 use Rattle.stream_run.specs.Playing.{SessionEnds, AreFirstLines}
 use Rattle.stream_run.specs.Costs.{EndsAfter}

@@ -2,11 +2,11 @@
 use Rattle.std.proofs.Common.{◌≡◌, ℕ, List, ◌++◌, sym, subst}
 use Rattle.rule_form.specs.declared.rule.Rule.{Rule}
 use Rattle.decided_texts.specs.Decided.{AreUndecided}
-use Rattle.scan_session.proofs.Later.{same_running}
-use Rattle.seen_files.specs.declared.seen.SeenFiles.{SeenFiles}
-use Rattle.seen_files.specs.Needs.{IsNeeded}
-use Rattle.seen_files.specs.Seen.{HasSeen}
-use Rattle.seen_files.specs.Spends.{Spends}
+use Rattle.workspace.proofs.ScanLater.{same_running}
+use Rattle.workspace.specs.SeenFiles.{SeenFiles}
+use Rattle.workspace.specs.Needs.{IsNeeded}
+use Rattle.workspace.specs.Seen.{HasSeen}
+use Rattle.workspace.specs.Spends.{Spends}
 use Rattle.wire_stream.specs.declared.wire.Wire.{Wire}
 use Rattle.wire_stream.specs.declared.wire.Wire.TheVariants as wires
 use Rattle.workspace.specs.State.{State}

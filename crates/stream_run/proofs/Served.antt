@@ -17,7 +17,7 @@ use Rattle.wire_stream.specs.declared.wire.WireFault.TheVariants as faults
 use Rattle.wire_stream.specs.Commands.{BeginsNone}
 use Rattle.wire_stream.specs.Fronts.{Waits}
 use Rattle.wire_stream.specs.Feeds.{FeedState, Next, IsFault, BeginsLonger, HasWireCause}
-use Rattle.seen_files.specs.declared.seen.SeenFiles.{SeenFiles}
+use Rattle.workspace.specs.SeenFiles.{SeenFiles}
 use Rattle.workspace.specs.State.{State}
 use Rattle.workspace.specs.Reports.{Readings}
 use Rattle.stream_run.specs.declared.fault.PlayFault.{PlayFault}

@@ -11,8 +11,8 @@ use Rattle.decided_texts.specs.Refused.{gained, Gains}
 use Rattle.wire_stream.specs.declared.wire.Wire.{Wire}
 use Rattle.wire_stream.specs.declared.wire.Wire.TheVariants as wires
 use Rattle.wire_stream.specs.Feeds.{FeedState, Next}
-use Rattle.seen_files.specs.declared.seen.SeenFiles.{SeenFiles}
-use Rattle.seen_files.specs.Seen.{HasSeenNone}
+use Rattle.workspace.specs.SeenFiles.{SeenFiles}
+use Rattle.workspace.specs.Seen.{HasSeenNone}
 use Rattle.workspace.specs.State.{State}
 use Rattle.workspace.specs.Reports.{Readings}
 use Rattle.stream_run.specs.declared.reply.Reply.{Reply}

@@ -1,7 +1,7 @@
 -- What a session costs in steps.
 use Rattle.std.specs.Prelude.{◌≡◌, ℕ, List, Option}
-use Rattle.seen_files.specs.declared.seen.SeenFiles.{SeenFiles}
-use Rattle.seen_files.specs.Seen.{HasSeenNone}
+use Rattle.workspace.specs.SeenFiles.{SeenFiles}
+use Rattle.workspace.specs.Seen.{HasSeenNone}
 use Rattle.run_status.specs.declared.status.Status.{Status}
 use Rattle.wire_stream.specs.declared.wire.Wire.{Wire}
 use Rattle.wire_stream.specs.declared.wire.Wire.TheVariants as wires

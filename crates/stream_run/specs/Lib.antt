@@ -1,3 +1,10 @@
+pub use Rattle.workspace.specs.Seen
+pub use Rattle.workspace.specs.SeenFiles
+pub use Rattle.workspace.specs.Fixes
+pub use Rattle.workspace.specs.Reports
+pub use Rattle.workspace.specs.State
+pub use Rattle.workspace.specs.Work
+pub use Rattle.workspace.specs.declared.fault.FixFault
 pub mod Printed
 pub mod Faults
 pub mod Doing

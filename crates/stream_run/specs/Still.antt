@@ -4,7 +4,7 @@ use Rattle.scan_world.specs.Files.{Files}
 use Rattle.file_map.specs.declared.limit.LimitKind.{LimitKind}
 use Rattle.decided_texts.specs.Decided.{AreUndecided}
 use Rattle.decided_texts.specs.Refused.{gained, Gains}
-use Rattle.seen_files.specs.declared.seen.SeenFiles.{SeenFiles}
+use Rattle.workspace.specs.SeenFiles.{SeenFiles}
 use Rattle.wire_stream.specs.declared.wire.Wire.{Wire}
 use Rattle.wire_stream.specs.declared.wire.Wire.TheVariants as wires
 use Rattle.workspace.specs.State.{State}

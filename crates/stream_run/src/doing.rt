@@ -13,11 +13,10 @@ use crate::fault::PlayFault;
 use crate::reply::Reply;
 use node_tree::Steps;
 use rx_text::Patterns;
-use scan_session::ScanFault;
 use scan_world::Tree;
 use std::sync::ledger::Ledger;
 use wire_stream::Wire;
-use workspace::{FixFault, Workspace};
+use workspace::{FixFault, ScanFault, Workspace};
 
 // Does a command that asks for no scan.
 fn edit<W: Workspace, T: Tree>(

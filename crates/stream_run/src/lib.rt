@@ -12,3 +12,4 @@ pub use fault::{PlayFault, PrintFault};
 pub use printing::print;
 pub use reply::Reply;
 pub use serving::serve;
+pub use workspace::{FixFault, Workspace};

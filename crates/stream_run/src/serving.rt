@@ -9,7 +9,7 @@ ghost use Rattle.stream_run.specs.Faults.{status_of_wire};
 ghost use Rattle.stream_run.specs.Playing.{PrintsEnd, PrintsFirst, PrintsFront, PrintsWhole};
 ghost use Rattle.stream_run.specs.Costs.{EndsAfter, FrontAfter};
 ghost use Rattle.stream_run.specs.Still.{setting, IsNew};
-ghost use Rattle.seen_files.specs.Seen.{HasSeenNone};
+ghost use Rattle.workspace.specs.Seen.{HasSeenNone};
 
 use crate::doing::play;
 use crate::printing::print;

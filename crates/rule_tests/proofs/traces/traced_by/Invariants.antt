@@ -1,4 +1,0 @@
-use Rattle.rule_tests.proofs.traces.traced_by.Given as goal
-
-abbrev pub ghosts-traced : goal.ghosts-traced
-ghosts-traced a = record { name = a.blank.name; parts = a.blank.parts }
