@@ -1,15 +1,16 @@
 -- How a drill ends, and what it prints then.
-use Rattle.std.proofs.Common.{◌≡◌, ℕ, List, [], ◌∷◌, refl, sym, subst}
+use Rattle.std.proofs.Common.{◌≡◌, ◌∙◌, ℕ, List, [], ◌∷◌, refl, sym, subst}
 use Rattle.std.specs.Prelude.{Option}
+use Rattle.std.specs.List.{concat}
 use Rattle.std.specs.Io.KnownBytes.{Appends}
 use Rattle.scan_world.specs.Streams.{AppendsFront}
 use Rattle.report_form.specs.declared.report.Report.{Report}
 use Rattle.run_status.specs.declared.status.Status.{Status}
 use Rattle.run_status.specs.declared.status.Status.TheVariants.{Done}
-use Rattle.run_status.specs.Ways.{PrintedFront}
+use Rattle.run_status.specs.Ways.{PrintedFront, IsOnlyEnd}
 use Rattle.stream_run.specs.Doing.{Setting}
 use Rattle.stream_run.proofs.Streaming.{nothing_written, one_line, one_front}
-use Rattle.drill_run.specs.Drilling.{drill_line, DrillEnds, done}
+use Rattle.drill_run.specs.Drilling.{drill_line, DrillEnds, done, EndsOnlySo, EndsOnlyWith}
 use Rattle.drill_run.specs.Costs.{HasDrilledAfter, DrilledAfter, EndsSo}
 
 module _ (s : Setting) (count before after : ℕ) (written : Option (List ℕ)) where
@@ -41,3 +42,17 @@ module _ (s : Setting) (count before after : ℕ) (written : Option (List ℕ)) 
   -- it came to no line
   pub ends_early : (status : Status) → EndsSo s count status [] before after → DrilledAfter s count written written status before after
   ends_early status ends = record { prints = record { lines = []; ends = ends.0; printed = nothing_written written }; takes = ends.1 }
+
+module _ (s : Setting) (count : ℕ) (written : Option (List ℕ)) where
+  -- nor could it come to any
+  pub only_early : (status : Status) → EndsOnlySo s count status [] → IsOnlyEnd (DrillEnds s count) written written status
+  only_early status only other lines ends =
+      let same = only other lines ends in
+      (same.0, subst (λ (ls : List (List ℕ)). Appends written written (concat ls)) (sym same.1) (nothing_written written))
+
+  pub only_after : (reports : List Report) → EndsOnlyWith s count reports → (first second : Report) → reports ≡ first ∷ second ∷ [] → (written_after : Option (List ℕ)) (status : Status) → status ≡ Done → Appends written written_after (drill_line count first second)
+      → IsOnlyEnd (DrillEnds s count) written written_after status
+  only_after reports only first second are written_after status is put other lines ends =
+      let same = only first second are other lines ends in
+      let line = drill_line count first second in
+      (same.0 ∙ sym is, subst (λ (ls : List (List ℕ)). Appends written written_after (concat ls)) (sym same.1) (one_line written written_after line line refl put))

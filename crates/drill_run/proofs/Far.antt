@@ -19,15 +19,22 @@ use Rattle.stream_run.specs.declared.reply.Reply.{Reply}
 use Rattle.stream_run.specs.declared.reply.Reply.TheVariants as replies
 use Rattle.stream_run.specs.Doing.{Setting, Shelves, empty_shelves, Does, Passes}
 use Rattle.stream_run.specs.Costs.{Costs}
+use Rattle.stream_run.specs.Reading.{ReadsOnce}
 use Rattle.stream_run.specs.Still.{shelves_of, IsNew, DoesStill, CostsStill, Keeps, RefusesGained}
 use Rattle.stream_run.proofs.Gained.{Texts, gained_none, gains_none, gained_on, gains_on, undecided_none, undecided_before, undecided_both}
-use Rattle.drill_run.specs.Drilling.{Drills, begun, more, too_many, over}
-use Rattle.drill_run.specs.Costs.{Take, HasDrilledAfter, EndsSo}
+use Rattle.drill_run.specs.Drilling.{Drills, begun, more, drill_line, DrillEnds, done, too_many, over, EndsOnlyWith}
+use Rattle.drill_run.specs.Costs.{Take, HasDrilledAfter, EndTakes}
 use Rattle.drill_run.specs.Commands.{drill_setting, DoesNext, StopsAt}
+use Rattle.stream_run.proofs.Sure.{Reads}
+use Rattle.drill_run.proofs.Once.{AtEach, AtEnd, only_end}
 
--- the first commands were done, and took the steps
+-- the first commands were done, took the steps, and each read its rule files in the one way that there is
 abbrev pub DrillsSo : Setting → List Wire → ℕ → List Wire → Shelves → List Report → SeenFiles → ℕ → Type 0
-DrillsSo s all before left shelves reports seen after = (drills : Drills s all left shelves reports) × Take drills seen before after
+DrillsSo s all before left shelves reports seen after = (drills : Drills s all left shelves reports) × Take drills seen before after × AtEach (Reads s) drills
+
+-- the drill ends so, takes these steps, and each command read its rule files in the one way that there is
+abbrev pub EndsSurely : Setting → ℕ → Status → List (List ℕ) → ℕ → ℕ → Type 0
+EndsSurely s count status lines before after = (ends : DrillEnds s count status lines) × EndTakes ends before after × AtEnd (Reads s) ends
 
 -- The first commands were done, and no text that was not decided by then makes a difference. What is refused is what the
 -- builder's list gained since the start.
@@ -53,7 +60,7 @@ module _ (readings : Readings) (most : ℕ) (start : Texts) (count before : ℕ)
       at : (s : Setting) → DrillsSo s (drill count) before left (shelves_of state) reports seen before
       at s =
           let D : List Wire → Shelves → List Report → Type 0 = λ ws shelves rs. DrillsSo s (drill count) before ws shelves rs seen before in
-          subst (λ (ws : List Wire). D ws (shelves_of state) reports) (sym same) (subst (λ (shelves : Shelves). D (drill count) shelves reports) (sym empty) (subst (λ (rs : List Report). D (drill count) empty_shelves rs) (sym none) (begun, (unseen, refl))))
+          subst (λ (ws : List Wire). D ws (shelves_of state) reports) (sym same) (subst (λ (shelves : Shelves). D (drill count) shelves reports) (sym empty) (subst (λ (rs : List Report). D (drill count) empty_shelves rs) (sym none) (begun, (unseen, refl), tt)))
 
   module _ (state : State) (seen : SeenFiles) (steps : ℕ) (texts : Texts) (wire : Wire) (left : List Wire) (reports : List Report) (far : IsDrilling readings most start count before state seen steps texts (wire ∷ left) reports) (state_after : State) (texts_after : Texts) (kept : Keeps state state_after texts texts_after) where
     more_gained : gained start texts_after ≡ gained start texts ++ gained texts texts_after
@@ -86,12 +93,12 @@ module _ (readings : Readings) (most : ℕ) (start : Texts) (count before : ℕ)
             subst (λ (refused : Texts). Costs readings refused (shelves_of state) wire seen seen_after steps steps_after) (append-nil (gained start texts_after)) (costs_then [] (undecided_none state_after.decided))
 
         -- it was done
-        pub one_far : (reports_after : List Report) → DoesNext readings state wire state_after reports reports_after → IsDrilling readings most start count before state_after seen_after steps_after texts_after left reports_after
-        one_far reports_after next = record {
+        pub one_far : ReadsOnce readings state.rules wire → (reports_after : List Report) → DoesNext readings state wire state_after reports reports_after → IsDrilling readings most start count before state_after seen_after steps_after texts_after left reports_after
+        one_far once reports_after next = record {
           drills = λ later free.
               let was = drills_later later (undecided_before state.decided state_after.decided later kept.stay free) in
               subst (λ (rs : List Report). DrillsSo (drill_setting readings most (gained start texts_after ++ later)) (drill count) before left (shelves_of state_after) rs seen_after steps_after) (sym next.added)
-              (more wire left (shelves_of state) (shelves_of state_after) reports next.reply was.0 (does_then next.reply next.does later free) next.within, (seen, steps, was.1, costs_then later free));
+              (more wire left (shelves_of state) (shelves_of state_after) reports next.reply was.0 (does_then next.reply next.does later free) next.within, (seen, steps, was.1, costs_then later free), (was.2, once));
           refused = refused_then;
           grows = gains_on start texts texts_after far.grows kept.grows;
           most_is = kept.most ∙ far.most_is;
@@ -104,29 +111,31 @@ module _ (readings : Readings) (most : ℕ) (start : Texts) (count before : ℕ)
 
       -- it ends the drill
       module _ (seen_after : SeenFiles) (steps_after : ℕ) (costs : CostsStill readings state wire state_after seen seen_after steps steps_after) where
-        pub stopped : (status : Status) → StopsAt readings state wire state_after status → IsAnswer status → EndsSo (drill_setting readings most (gained start texts_after)) count status [] before steps_after
-        stopped statuses.Memory stops is = absurd is
-        stopped statuses.TreeFault stops is = absurd is
-        stopped (statuses.TooMany n) stops is = (
+        pub stopped : ReadsOnce readings state.rules wire → (status : Status) → StopsAt readings state wire state_after status → IsAnswer status → EndsSurely (drill_setting readings most (gained start texts_after)) count status [] before steps_after
+        stopped once statuses.Memory stops is = absurd is
+        stopped once statuses.TreeFault stops is = absurd is
+        stopped once (statuses.TooMany n) stops is = (
           too_many wire left (shelves_of state) (shelves_of state_after) reports n drills_then.0
               (subst (λ (refused : Texts). Does (drill_setting readings most refused) (shelves_of state) wire (shelves_of state_after) (replies.TooMany n)) (append-nil (gained start texts_after))
               (does_then (replies.TooMany n) stops [] (undecided_none state_after.decided))),
           (seen, seen_after, steps, drills_then.1, costs_now seen_after steps_after costs),
+          (drills_then.2, once),
         )
-        stopped (statuses.OverLimit kind n) stops is =
+        stopped once (statuses.OverLimit kind n) stops is =
             let P : ℕ → Texts → Type 0 = λ m texts. Passes (drill_setting readings m texts) (shelves_of state) kind n wire in (
               over wire left (shelves_of state) reports kind n drills_then.0 (subst (P most) refused_then (subst (λ (m : ℕ). P m state_after.decided.refused) far.most_is stops)),
               (seen, seen_after, steps, drills_then.1, costs_now seen_after steps_after costs),
+              (drills_then.2, once),
             )
-        stopped statuses.Done stops is = absurd stops
-        stopped statuses.Findings stops is = absurd stops
-        stopped statuses.Usage stops is = absurd stops
-        stopped statuses.InputFault stops is = absurd stops
-        stopped statuses.OutputFault stops is = absurd stops
-        stopped (statuses.BadCommand place) stops is = absurd stops
-        stopped statuses.NoSuchPath stops is = absurd stops
-        stopped statuses.BadTarget stops is = absurd stops
-        stopped statuses.BadPattern stops is = absurd stops
+        stopped once statuses.Done stops is = absurd stops
+        stopped once statuses.Findings stops is = absurd stops
+        stopped once statuses.Usage stops is = absurd stops
+        stopped once statuses.InputFault stops is = absurd stops
+        stopped once statuses.OutputFault stops is = absurd stops
+        stopped once (statuses.BadCommand place) stops is = absurd stops
+        stopped once statuses.NoSuchPath stops is = absurd stops
+        stopped once statuses.BadTarget stops is = absurd stops
+        stopped once statuses.BadPattern stops is = absurd stops
 
 -- a run that answers has had its memory
 pub not_memory : (status : Status) (r : Result (Unit {0}) Status) → r ≡ Err status → IsAnswer status → r ≡ Err statuses.Memory → ⊥
@@ -142,20 +151,30 @@ module _ (readings : Readings) (most : ℕ) (start : Texts) (count before : ℕ)
   at_wire =
       subst (λ (left : List Wire). IsDrilling readings most start count before state seen steps texts left reports) (drop_more wires i other lt ∙ ap (λ (w : Wire). w ∷ drop (i + 1) wires) (sym is)) far
 
-  pub next_far : RefusesGained state state_after texts texts_after → CostsStill readings state wire state_after seen seen_after steps steps_after → (reports_after : List Report) → DoesNext readings state wire state_after reports reports_after
+  pub next_far : ReadsOnce readings state.rules wire → RefusesGained state state_after texts texts_after → CostsStill readings state wire state_after seen seen_after steps steps_after → (reports_after : List Report) → DoesNext readings state wire state_after reports reports_after
       → IsDrilling readings most start count before state_after seen_after steps_after texts_after (drop (i + 1) wires) reports_after
-  next_far refuses costs reports_after next = one_far readings most start count before state seen steps texts wire (drop (i + 1) wires) reports at_wire state_after texts_after kept refuses seen_after steps_after costs reports_after next
+  next_far once refuses costs reports_after next = one_far readings most start count before state seen steps texts wire (drop (i + 1) wires) reports at_wire state_after texts_after kept refuses seen_after steps_after costs once reports_after next
 
-  pub next_ends : (status : Status) → (IsAnswer status → RefusesGained state state_after texts texts_after) → (IsAnswer status → CostsStill readings state wire state_after seen seen_after steps steps_after) → StopsAt readings state wire state_after status
-      → IsAnswer status → EndsSo (drill_setting readings most (gained start texts_after)) count status [] before steps_after
-  next_ends status refuses costs stops is =
-      stopped readings most start count before state seen steps texts wire (drop (i + 1) wires) reports at_wire state_after texts_after kept (refuses is) seen_after steps_after (costs is) status stops is
+  pub next_ends : (status : Status) → (IsAnswer status → ReadsOnce readings state.rules wire) → (IsAnswer status → RefusesGained state state_after texts texts_after) → (IsAnswer status → CostsStill readings state wire state_after seen seen_after steps steps_after) → StopsAt readings state wire state_after status
+      → IsAnswer status → EndsSurely (drill_setting readings most (gained start texts_after)) count status [] before steps_after
+  next_ends status once refuses costs stops is =
+      stopped readings most start count before state seen steps texts wire (drop (i + 1) wires) reports at_wire state_after texts_after kept (refuses is) seen_after steps_after (costs is) (once is) status stops is
 
--- the reports of a drill that came to its end, and its steps
-pub all_far : (readings : Readings) (most : ℕ) (start : Texts) (count before : ℕ) (state : State) (seen : SeenFiles) (steps : ℕ) (texts : Texts) (left : List Wire) (reports : List Report)
-    → IsDrilling readings most start count before state seen steps texts left reports → left ≡ [] → HasDrilledAfter (drill_setting readings most (gained start texts)) count reports before steps
-all_far readings most start count before state seen steps texts left reports far none =
-    let D : List Wire → Type 0 = λ ws. DrillsSo (drill_setting readings most (gained start texts)) (drill count) before ws (shelves_of state) reports seen steps in
-    let all : D [] =
-    subst D none (subst (λ (refused : Texts). DrillsSo (drill_setting readings most refused) (drill count) before left (shelves_of state) reports seen steps) (append-nil (gained start texts)) (far.drills [] (undecided_none state.decided))) in
-    ((shelves_of state, all.0), (seen, all.1))
+-- a drill that came to its end
+module _ (readings : Readings) (most : ℕ) (start : Texts) (count before : ℕ) (state : State) (seen : SeenFiles) (steps : ℕ) (texts : Texts) (left : List Wire) (reports : List Report)
+    (far : IsDrilling readings most start count before state seen steps texts left reports) (none : left ≡ []) where
+  all_done : DrillsSo (drill_setting readings most (gained start texts)) (drill count) before [] (shelves_of state) reports seen steps
+  all_done =
+      subst (λ (ws : List Wire). DrillsSo (drill_setting readings most (gained start texts)) (drill count) before ws (shelves_of state) reports seen steps) none
+      (subst (λ (refused : Texts). DrillsSo (drill_setting readings most refused) (drill count) before left (shelves_of state) reports seen steps) (append-nil (gained start texts)) (far.drills [] (undecided_none state.decided)))
+
+  -- its reports, and its steps
+  pub all_far : HasDrilledAfter (drill_setting readings most (gained start texts)) count reports before steps
+  all_far = ((shelves_of state, all_done.0), (seen, all_done.1))
+
+  -- it could come to no other end
+  pub only_far : EndsOnlyWith (drill_setting readings most (gained start texts)) count reports
+  only_far first second are =
+      let s = drill_setting readings most (gained start texts) in
+      let all = subst (λ (rs : List Report). DrillsSo s (drill count) before [] (shelves_of state) rs seen steps) are all_done in
+      only_end s count statuses.Done (drill_line count first second ∷ []) (done first second (shelves_of state, all.0)) all.2

@@ -1,4 +1,5 @@
 pub mod Anyhow
 pub mod Counts
+pub mod Once
 pub mod Far
 pub mod Ends

@@ -1,5 +1,5 @@
 -- What a drill does: the session of `wire_drill`, of which the numbers of findings and notices are printed.
-use Rattle.std.specs.Prelude.{ℕ, List, [], ◌∷◌, ◌++◌, length, codes}
+use Rattle.std.specs.Prelude.{◌≡◌, ℕ, List, [], ◌∷◌, ◌++◌, length, codes}
 use Rattle.std.specs.Fmt.{decimal}
 use Rattle.file_map.specs.declared.limit.LimitKind.{LimitKind}
 use Rattle.report_form.specs.declared.report.Report.{Report}
@@ -46,3 +46,11 @@ pub data DrillEnds (s : Setting) (count : ℕ) : Status → List (List ℕ) → 
       → Drills s (drill count) (wire ∷ left) old reports → Does s old wire new (replies.TooMany most) → DrillEnds s count (TooMany most) []
   over : (wire : Wire) (left : List Wire) (old : Shelves) (reports : List Report) (kind : LimitKind) (n : ℕ)
       → Drills s (drill count) (wire ∷ left) old reports → Passes s old kind n wire → DrillEnds s count (OverLimit kind n) []
+
+-- a drill ends in no other way
+abbrev pub EndsOnlySo : Setting → ℕ → Status → List (List ℕ) → Type 0
+EndsOnlySo s count status lines = (other : Status) (others : List (List ℕ)) → DrillEnds s count other others → (other ≡ status) × (others ≡ lines)
+
+-- it ends with two reports and their line in no other way
+abbrev pub EndsOnlyWith : Setting → ℕ → List Report → Type 0
+EndsOnlyWith s count reports = (first second : Report) → reports ≡ first ∷ second ∷ [] → EndsOnlySo s count Done (drill_line count first second ∷ [])

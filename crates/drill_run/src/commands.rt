@@ -5,8 +5,9 @@ ghost use Rattle.scan_world.specs.Trees.{KeepsFiles};
 ghost use Rattle.decided_texts.specs.Refused.{gained, Gains};
 ghost use Rattle.run_status.specs.Status.{IsAnswer};
 ghost use Rattle.stream_run.specs.Seen.{HasSeenNone};
+ghost use Rattle.stream_run.specs.Reading.{ReadsOnce};
 ghost use Rattle.stream_run.specs.Still.{IsNew, CostsStill, Keeps, RefusesGained};
-ghost use Rattle.drill_run.specs.Drilling.{report_in, IsWithin};
+ghost use Rattle.drill_run.specs.Drilling.{report_in, IsWithin, EndsOnlySo, EndsOnlyWith};
 ghost use Rattle.drill_run.specs.Costs.{HasDrilledAfter, EndsSo};
 ghost use Rattle.drill_run.specs.Commands.{drill_setting, EndsAdding, DoesNext, StopsAt, HasStopCause};
 
@@ -45,6 +46,7 @@ fn do_one<W: Workspace, T: Tree, P: Patterns, L: Ledger>(
 ) -> Result<(), Status>
     ensures does { OnOk result (DoesNext (W.readings (W.reader workspace.old)) (W.state workspace.old) wire.now (W.state workspace.new) reports.old reports.new) }
     ensures stops { IfErr result (StopsAt (W.readings (W.reader workspace.old)) (W.state workspace.old) wire.now (W.state workspace.new)) }
+    ensures once { (result ≡ Err Status.Memory → ⊥) → ReadsOnce (W.readings (W.reader workspace.old)) (W.state workspace.old).rules wire.now }
     ensures work { (result ≡ Err Status.Memory → ⊥) → CostsStill (W.readings (W.reader workspace.old)) (W.state workspace.old) wire.now (W.state workspace.new) (W.seen workspace.old) (W.seen workspace.new) steps.old steps.new }
     ensures refused { (result ≡ Err Status.Memory → ⊥) → RefusesGained (W.state workspace.old) (W.state workspace.new) (P.refusals patterns.old) (P.refusals patterns.new) }
     ensures keeps { Keeps (W.state workspace.old) (W.state workspace.new) (P.refusals patterns.old) (P.refusals patterns.new) }
@@ -72,8 +74,10 @@ pub fn do_all<W: Workspace, T: Tree, P: Patterns, L: Ledger>(
     requires new { IsNew (W.state workspace.old) }
     requires unseen { HasSeenNone (W.seen workspace.old) }
     ensures drilled { IfOk result (λ reports. HasDrilledAfter (drill_setting (W.readings (W.reader workspace.old)) (W.state workspace.old).most (gained (P.refusals patterns.old) (P.refusals patterns.new))) count reports steps.old steps.new) }
+    ensures only { IfOk result (EndsOnlyWith (drill_setting (W.readings (W.reader workspace.old)) (W.state workspace.old).most (gained (P.refusals patterns.old) (P.refusals patterns.new))) count) }
     ensures two { IfOk result (λ reports. length reports ≡ 2) }
     ensures ends { IfErr result (λ status. IsAnswer status → EndsSo (drill_setting (W.readings (W.reader workspace.old)) (W.state workspace.old).most (gained (P.refusals patterns.old) (P.refusals patterns.new))) count status [] steps.old steps.new) }
+    ensures only_end { IfErr result (λ status. IsAnswer status → EndsOnlySo (drill_setting (W.readings (W.reader workspace.old)) (W.state workspace.old).most (gained (P.refusals patterns.old) (P.refusals patterns.new))) count status []) }
     ensures files_kept { KeepsFiles (T.files tree.old) (T.files tree.new) }
     ensures unfailed { OnOk result (T.faults tree.new ≡ T.faults tree.old) }
     ensures cause { IfErr result (HasStopCause (T.faults tree.old) (T.faults tree.new)) }

@@ -5,7 +5,7 @@ ghost use Rattle.scan_world.specs.Faults.{Rose};
 ghost use Rattle.scan_world.specs.Trees.{KeepsFiles};
 ghost use Rattle.decided_texts.specs.Refused.{gained, Gains};
 ghost use Rattle.run_status.specs.Status.{IsAnswer};
-ghost use Rattle.run_status.specs.Ways.{Printed, PrintedFront};
+ghost use Rattle.run_status.specs.Ways.{Printed, PrintedFront, IsOnlyEnd};
 ghost use Rattle.stream_run.specs.Still.{IsNew};
 ghost use Rattle.stream_run.specs.Seen.{HasSeenNone};
 ghost use Rattle.drill_run.specs.Drilling.{DrillEnds};
@@ -39,6 +39,7 @@ pub fn drill<W: Workspace, T: Tree, K: Sink, P: Patterns, L: Ledger>(
     requires new { IsNew (W.state workspace.old) }
     requires unseen { HasSeenNone (W.seen workspace.old) }
     ensures ends { IsAnswer result → Printed (DrillEnds (drill_setting (W.readings (W.reader workspace.old)) (W.state workspace.old).most (gained (P.refusals patterns.old) (P.refusals patterns.new))) count) (K.written out.old) (K.written out.new) result }
+    ensures only { IsAnswer result → IsOnlyEnd (DrillEnds (drill_setting (W.readings (W.reader workspace.old)) (W.state workspace.old).most (gained (P.refusals patterns.old) (P.refusals patterns.new))) count) (K.written out.old) (K.written out.new) result }
     ensures work { IsAnswer result → DrilledAfter (drill_setting (W.readings (W.reader workspace.old)) (W.state workspace.old).most (gained (P.refusals patterns.old) (P.refusals patterns.new))) count (K.written out.old) (K.written out.new) result steps.old steps.new }
     ensures output_kept { IsAnswer result → K.faults out.new ≡ K.faults out.old }
     ensures tree_kept { IsAnswer result → T.faults tree.new ≡ T.faults tree.old }

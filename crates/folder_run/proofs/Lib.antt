@@ -1,3 +1,4 @@
 pub mod Taken
 pub mod Wrote
 pub mod Fixes
+pub mod Once

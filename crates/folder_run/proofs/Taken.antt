@@ -1,6 +1,6 @@
 -- What taking a folder comes to, step by step.
 use Rattle.std.proofs.Common.{◌≡◌, ℕ, List, [], ◌∷◌, sym, ap, ◌∙◌, subst}
-use Rattle.std.specs.Prelude.{Option, None, Some}
+use Rattle.std.specs.Prelude.{Option, None, Some, IsSome}
 use Rattle.scan_world.specs.Files.{Files}
 use Rattle.scan_world.specs.Trees.{KeepsFiles, LacksFile}
 use Rattle.folder_files.proofs.Told.{files_before}
@@ -17,8 +17,10 @@ use Rattle.run_status.specs.declared.status.Status.{Status}
 use Rattle.run_status.specs.declared.status.Status.TheVariants.{NoSuchPath, OverLimit}
 use Rattle.stream_run.specs.State.{State, with_files, with_rules}
 use Rattle.stream_run.specs.Reports.{Readings}
+use Rattle.stream_run.specs.Reading.{PutEndsOnce}
 use Rattle.stream_run.specs.Still.{shelves_of, IsNew}
-use Rattle.folder_run.specs.Taking.{IsConfig, Takes, TakesNone, no_config, rules_over, files_over}
+use Rattle.stream_run.proofs.Synced.{fronts_once, front_or_none}
+use Rattle.folder_run.specs.Taking.{IsConfig, RulesEndOnce, Takes, TakesNone, no_config, rules_over, files_over}
 
 synced_before : (told now : Option Files) (kept : KeepsFiles told now) (prefix : List ℕ) (old : Files) (files : List File) → AreSynced now prefix old files → AreSynced told prefix old files
 synced_before told now kept prefix old files s = record {
@@ -34,6 +36,10 @@ module _ (readings : Readings) (told : Option Files) (config prefix : List ℕ) 
   pub none_read : (status : Status) → (status ≡ NoSuchPath) × LacksFile told config → TakesNone readings told config prefix status
   none_read status h = let P : Status → Type 0 = λ s. TakesNone readings told config prefix s in subst P (sym h.0) (no_config h.1)
 
+  -- nor are there any
+  pub no_rules : LacksFile told config → IsSome told → RulesEndOnce readings told config
+  no_rules lacks some bytes is = absurd (front_or_none told some config 262145 bytes is lacks)
+
   module _ (old : State) (new : IsNew old) (slice bytes : List ℕ) (e : slice ≡ bytes) (read : IsConfig told config bytes) where
     -- what is said of the slice, beside the rules of the workspace, is said of the bytes alone
     alone : (over : Option (LimitKind × ℕ)) → PutRuleEnds readings.writes old.rules (config, slice) over → PutRuleEnds readings.writes [] (config, bytes) over
@@ -41,6 +47,13 @@ module _ (readings : Readings) (told : Option Files) (config prefix : List ℕ) 
         let P : Files → Type 0 = λ fs. PutRuleEnds readings.writes fs (config, slice) over in
         let Q : List ℕ → Type 0 = λ bs. PutRuleEnds readings.writes [] (config, bs) over in
         subst Q e (subst P new.rules h)
+
+    -- the rules are those that were read, and none other
+    pub config_once : PutEndsOnce readings old.rules (config, slice) → IsSome told → RulesEndOnce readings told config
+    config_once once some other is =
+        let P : Files → Type 0 = λ fs. PutEndsOnce readings fs (config, slice) in
+        let Q : List ℕ → Type 0 = λ bs. PutEndsOnce readings [] (config, bs) in
+        subst Q (sym (fronts_once told some config 262145 bytes other read is)) (subst Q e (subst P new.rules once))
 
     pub over_rules : (fault : PutFault) (kind : LimitKind) (n : ℕ) → fault ≡ puts.OverLimit kind n → TellsPut (PutRuleEnds readings.writes old.rules (config, slice)) fault → TakesNone readings told config prefix (OverLimit kind n)
     over_rules fault kind n is h = let P : PutFault → Type 0 = λ f. TellsPut (PutRuleEnds readings.writes old.rules (config, slice)) f in rules_over bytes kind n read (alone (Some (kind, n)) (subst P is h))

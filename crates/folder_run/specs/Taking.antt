@@ -8,6 +8,7 @@ use Rattle.rule_map.specs.RuleMap.{PutRuleEnds}
 use Rattle.run_status.specs.declared.status.Status.{Status}
 use Rattle.run_status.specs.declared.status.Status.TheVariants.{NoSuchPath, OverLimit}
 use Rattle.stream_run.specs.Reports.{Readings}
+use Rattle.stream_run.specs.Reading.{PutEndsOnce}
 use Rattle.stream_run.specs.Doing.{Shelves}
 
 -- the file at the path of the rules has these bytes, of which at most the first 262,145 are read
@@ -17,6 +18,10 @@ IsConfig told config bytes = HasFront told config 262145 bytes
 -- the rules are read, within the limits
 abbrev pub IsRead : Readings → Option Files → List ℕ → List ℕ → Type 0
 IsRead readings told config bytes = IsConfig told config bytes × PutRuleEnds readings.writes [] (config, bytes) None
+
+-- there is one way in which putting the rules at the path of the config ends
+abbrev pub RulesEndOnce : Readings → Option Files → List ℕ → Type 0
+RulesEndOnce readings told config = (bytes : List ℕ) → IsConfig told config bytes → PutEndsOnce readings [] (config, bytes)
 
 -- The files under the prefix and the rules at the path of the config, all within the limits.
 pub record Takes (readings : Readings) (told : Option Files) (config prefix : List ℕ) (shelves : Shelves) : Type 0 where

@@ -1,6 +1,6 @@
 //! What fixes make of the files of a folder.
 
-ghost use Rattle.std.specs.Prelude.{◌≡◌, ◌⊎◌, [], ◌∷◌, if◌then◌else◌};
+ghost use Rattle.std.specs.Prelude.{◌≡◌, ◌⊎◌, [], ◌∷◌, if◌then◌else◌, IsSome};
 ghost use Rattle.scan_world.specs.Faults.{Rose};
 ghost use Rattle.scan_world.specs.Streams.{AppendsFront};
 ghost use Rattle.run_status.specs.declared.status.Status.TheVariants as statuses;
@@ -8,7 +8,7 @@ ghost use Rattle.stream_run.specs.Printed.{fix_line};
 ghost use Rattle.folder_run.specs.Causes.{IsOfWriting};
 ghost use Rattle.decided_texts.specs.Refused.{gained, Gains};
 ghost use Rattle.run_status.specs.Status.{IsAnswer};
-ghost use Rattle.run_status.specs.Ways.{Printed, PrintedFront};
+ghost use Rattle.run_status.specs.Ways.{Printed, PrintedFront, IsOnlyEnd};
 ghost use Rattle.wire_words.specs.Commands.{task_of};
 ghost use Rattle.stream_run.specs.Still.{setting, IsNew};
 ghost use Rattle.folder_run.specs.Ends.{FixPrints};
@@ -75,6 +75,7 @@ pub fn fix_folder<W: Workspace, T: Tree, K: Sink, P: Patterns, L: Ledger>(
     requires new { IsNew (W.state workspace.old) }
     requires unseen { HasSeenNone (W.seen workspace.old) }
     ensures ends { IsAnswer result → Printed (FixPrints (setting (W.readings (W.reader workspace.old)) (T.files tree.old) (W.state workspace.old).most (gained (P.refusals patterns.old) (P.refusals patterns.new))) (task_of job.now)) (K.written out.old) (K.written out.new) result }
+    ensures only { IsAnswer result → IsSome (T.files tree.old) → IsOnlyEnd (FixPrints (setting (W.readings (W.reader workspace.old)) (T.files tree.old) (W.state workspace.old).most (gained (P.refusals patterns.old) (P.refusals patterns.new))) (task_of job.now)) (K.written out.old) (K.written out.new) result }
     ensures work { IsAnswer result → FixedAfter (setting (W.readings (W.reader workspace.old)) (T.files tree.old) (W.state workspace.old).most (gained (P.refusals patterns.old) (P.refusals patterns.new))) (task_of job.now) (K.written out.old) (K.written out.new) result steps.old steps.new }
     ensures wrote { IsAnswer result → Wrote (setting (W.readings (W.reader workspace.old)) (T.files tree.old) (W.state workspace.old).most (gained (P.refusals patterns.old) (P.refusals patterns.new))) (task_of job.now) (T.files tree.new) result }
     ensures left { Leaves (setting (W.readings (W.reader workspace.old)) (T.files tree.old) (W.state workspace.old).most (gained (P.refusals patterns.old) (P.refusals patterns.new))) (task_of job.now) (T.files tree.new) }

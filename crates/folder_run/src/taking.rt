@@ -1,11 +1,11 @@
 //! Taking the rules and the files of a folder.
 
-ghost use Rattle.std.specs.Prelude.{◌≡◌, IfOk, IfErr, OnOk};
+ghost use Rattle.std.specs.Prelude.{◌≡◌, IfOk, IfErr, IsSome, OnOk};
 ghost use Rattle.scan_world.specs.Trees.{KeepsFiles, LacksFile};
 ghost use Rattle.run_status.specs.Status.{IsAnswer};
 ghost use Rattle.run_status.specs.declared.status.Status.TheVariants.{NoSuchPath as no_path};
 ghost use Rattle.stream_run.specs.Still.{shelves_of, IsNew};
-ghost use Rattle.folder_run.specs.Taking.{IsConfig, Takes, TakesNone};
+ghost use Rattle.folder_run.specs.Taking.{IsConfig, RulesEndOnce, Takes, TakesNone};
 ghost use Rattle.folder_run.specs.Causes.{HasTakingCause};
 
 use file_map::{PutFault, SyncFault};
@@ -43,6 +43,7 @@ pub fn take_folder<W: Workspace, T: Tree>(
     requires { IsNew (W.state workspace.old) }
     ensures takes { OnOk result (Takes (W.readings (W.reader workspace.old)) (T.files tree.old) job.now.config.now job.now.prefix.now (shelves_of (W.state workspace.new))) }
     ensures none { IfErr result (λ status. IsAnswer status → TakesNone (W.readings (W.reader workspace.old)) (T.files tree.old) job.now.config.now job.now.prefix.now status) }
+    ensures once { IsSome (T.files tree.old) → IfErr result IsAnswer → RulesEndOnce (W.readings (W.reader workspace.old)) (T.files tree.old) job.now.config.now }
     ensures decided { OnOk result ((W.state workspace.new).decided ≡ (W.state workspace.old).decided) }
     ensures most { OnOk result ((W.state workspace.new).most ≡ (W.state workspace.old).most) }
     ensures unseen { W.seen workspace.new ≡ W.seen workspace.old }

@@ -21,7 +21,9 @@ use Rattle.scan_run.specs.Scan.{grammars}
 use Rattle.scan_run.specs.Scanned.{ScansRead, ScansFiles}
 use Rattle.scan_run.proofs.Limits.{bytes_of, limit_after, count_more}
 use Rattle.scan_run.specs.Config.{IsConfig}
-use Rattle.scan_run.proofs.Paths.{Below, tail_ascends, first_below, ascends_on, one_list}
+use Rattle.stream_run.proofs.Paths.{Below, tail_ascends, first_below}
+use Rattle.stream_run.proofs.Synced.{one_listing, front_once, front_or_lack}
+use Rattle.scan_run.proofs.Paths.{ascends_on}
 
 abbrev pub Path : Type 0
 Path = List ℕ
@@ -270,24 +272,12 @@ module _ (told now : Option Files) (kept : KeepsFiles told now) (prefix : Path) 
 
 -- ---- a tree that tells its files has one list of them under a prefix
 
-one_listing : (map : Files) (prefix : Path) (xs ys : List Path) → IsListing prefix (Some map) xs → IsListing prefix (Some map) ys → xs ≡ ys
-one_listing map prefix xs ys x y = one_list xs ys x.ordered y.ordered (λ p h. (y.all p).1 ((x.all p).0 h)) (λ p h. (x.all p).1 ((y.all p).0 h))
-
 taken_once : (xs ts us : List Path) → AreTaken xs ts → AreTaken xs us → us ≡ ts
 taken_once [] ts us h k = k ∙ sym h
 taken_once (x ∷ xs) ts us (inl (is, (rest, e, r))) (inl (is', (rest', e', r'))) = e' ∙ ap (λ (l : List Path). x ∷ l) (taken_once xs rest rest' r r') ∙ sym e
 taken_once (x ∷ xs) ts us (inl (is, _)) (inr (nay, _)) = absurd (nay is)
 taken_once (x ∷ xs) ts us (inr (nay, _)) (inl (is, _)) = absurd (nay is)
 taken_once (x ∷ xs) ts us (inr (nay, r)) (inr (nay', r')) = taken_once xs ts us r r'
-
-one_whole : (a b : List ℕ) → Some a ≡ Some b → a ≡ b
-one_whole a b e = cc
-
-front_once : (map : Files) (path : Path) (most : ℕ) (a b : List ℕ) → HasFront (Some map) path most a → HasFront (Some map) path most b → b ≡ a
-front_once map path most a b (v, e, f) (w, g, h) = h ∙ ap (λ (l : List ℕ). take most l) (one_whole w v (sym g ∙ e)) ∙ sym f
-
-front_or_lack : (map : Files) (path : Path) (most : ℕ) (a : List ℕ) → HasFront (Some map) path most a → LacksFile (Some map) path → ⊥
-front_or_lack map path most a (v, e, f) g = let h : Some v ≡ None = sym e ∙ g in absurd cc
 
 read_once : (map : Files) (ps : List Path) (fs gs : List File) → AreRead (Some map) ps fs → AreRead (Some map) ps gs → gs ≡ fs
 read_once map [] fs gs h k = k ∙ sym h

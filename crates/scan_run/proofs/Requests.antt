@@ -37,6 +37,30 @@ module _ (words : List (List ℕ)) (left : Option (List ℕ)) (told : Option Fil
 
   -- ---- words that ask for something
 
+  -- how what is requested ends
+  abbrev pub WaysOf : Request → Status → List (List ℕ) → Type 0
+  WaysOf (Matching lang text) status lines = Matches lang text left status lines
+  WaysOf Checking status lines = Checks left status lines
+  WaysOf (Scanning task) status lines = Scans task told refused status lines
+  WaysOf (Fixing task) status lines = Fixes task told refused status lines
+  WaysOf (Serving most trace) status lines = Serves most trace told refused left status lines
+  WaysOf (Drilling count) status lines = Drills count refused status lines
+
+  -- words that ask for nothing else
+  module _ (r : Request) (is : Asks words r) (only : (q : Request) → Asks words q → r ≡ q) where
+    ends_as : (s : Status) (lines : List (List ℕ)) → Ends words left told refused s lines → WaysOf r s lines
+    ends_as _ _ (usage other) = absurd (other r is)
+    ends_as s lines (matched lang text _ _ is' m) = subst (λ (q : Request). WaysOf q s lines) (sym (only (Matching lang text) is')) m
+    ends_as s lines (checked _ _ is' m) = subst (λ (q : Request). WaysOf q s lines) (sym (only Checking is')) m
+    ends_as s lines (scanned task _ _ is' m) = subst (λ (q : Request). WaysOf q s lines) (sym (only (Scanning task) is')) m
+    ends_as s lines (fixed task _ _ is' m) = subst (λ (q : Request). WaysOf q s lines) (sym (only (Fixing task) is')) m
+    ends_as s lines (served most trace _ _ is' m) = subst (λ (q : Request). WaysOf q s lines) (sym (only (Serving most trace) is')) m
+    ends_as s lines (drilled count _ _ is' m) = subst (λ (q : Request). WaysOf q s lines) (sym (only (Drilling count) is')) m
+
+    -- end in no other way than what they ask for
+    pub only_by : (w v : Option (List ℕ)) (s : Status) → AreTold words left told → (IsTold left told r → IsOnlyEnd (WaysOf r) w v s) → IsOnlyEnd (Ends words left told refused) w v s
+    only_by w v s are one other lines ends = one (are r is) other lines (ends_as other lines ends)
+
   -- what is said of a command's end is said of the run's
   module _ (W : Ways) (run : (s : Status) (lines : List (List ℕ)) → W s lines → Ends words left told refused s lines) (w v : Option (List ℕ)) where
     ends_by : (s : Status) → Printed W w v s → Printed (Ends words left told refused) w v s
@@ -63,22 +87,6 @@ module _ (words : List (List ℕ)) (left : Option (List ℕ)) (told : Option Fil
       pub some_match : (v ≡ w) ⊎ PrintedSome (Matches lang text left) w v → (v ≡ w) ⊎ WritesSome words left told refused w v
       some_match = some_by (Matches lang text left) run_match w v
 
-      module _ (only : (r : Request) → Asks words r → Matching lang text ≡ r) where
-        pub only_match : (s : Status) → AreTold words left told → (IsSome left → IsOnlyEnd (Matches lang text left) w v s) → IsOnlyEnd (Ends words left told refused) w v s
-        only_match s are one t ls (usage other) = absurd (other (Matching lang text) is)
-        only_match s are one t ls (matched lang' text' _ _ is' m) =
-            let e : Matching lang text ≡ Matching lang' text' = only (Matching lang' text') is' in
-            let same_lang : lang' ≡ lang = cc in
-            let same_text : text' ≡ text = cc in
-            let P : Lang → Type 0 = λ l. Matches l text' left t ls in
-            let Q : List ℕ → Type 0 = λ x. Matches lang x left t ls in
-            one (are (Matching lang text) is) t ls (subst Q same_text (subst P same_lang m))
-        only_match s are one t ls (checked _ _ is' _) = let e : Matching lang text ≡ Checking = only Checking is' in absurd cc
-        only_match s are one t ls (scanned task _ _ is' _) = let e : Matching lang text ≡ Scanning task = only (Scanning task) is' in absurd cc
-        only_match s are one t ls (fixed task' _ _ is' _) = let e : Matching lang text ≡ Fixing task' = only (Fixing task') is' in absurd cc
-        only_match s are one t ls (served most trace _ _ is' _) = let e : Matching lang text ≡ Serving most trace = only (Serving most trace) is' in absurd cc
-        only_match s are one t ls (drilled count _ _ is' _) = let e : Matching lang text ≡ Drilling count = only (Drilling count) is' in absurd cc
-
     module _ (is : Asks words Checking) where
       run_check : (s : Status) (lines : List (List ℕ)) → Checks left s lines → Ends words left told refused s lines
       run_check s lines c = checked s lines is c
@@ -89,16 +97,6 @@ module _ (words : List (List ℕ)) (left : Option (List ℕ)) (told : Option Fil
       pub front_check : PrintedFront (Checks left) w v → WritesFront words left told refused w v
       front_check = front_by (Checks left) run_check w v
 
-      module _ (only : (r : Request) → Asks words r → Checking ≡ r) where
-        pub only_check : (s : Status) → AreTold words left told → (IsSome left → IsOnlyEnd (Checks left) w v s) → IsOnlyEnd (Ends words left told refused) w v s
-        only_check s are one t ls (usage other) = absurd (other Checking is)
-        only_check s are one t ls (matched lang text _ _ is' _) = let e : Checking ≡ Matching lang text = only (Matching lang text) is' in absurd cc
-        only_check s are one t ls (checked _ _ is' c) = one (are Checking is) t ls c
-        only_check s are one t ls (scanned task _ _ is' _) = let e : Checking ≡ Scanning task = only (Scanning task) is' in absurd cc
-        only_check s are one t ls (fixed task' _ _ is' _) = let e : Checking ≡ Fixing task' = only (Fixing task') is' in absurd cc
-        only_check s are one t ls (served most trace _ _ is' _) = let e : Checking ≡ Serving most trace = only (Serving most trace) is' in absurd cc
-        only_check s are one t ls (drilled count _ _ is' _) = let e : Checking ≡ Drilling count = only (Drilling count) is' in absurd cc
-
     module _ (task : Task) (is : Asks words (Scanning task)) where
       run_scan : (s : Status) (lines : List (List ℕ)) → Scans task told refused s lines → Ends words left told refused s lines
       run_scan s lines m = scanned task s lines is m
@@ -108,25 +106,6 @@ module _ (words : List (List ℕ)) (left : Option (List ℕ)) (told : Option Fil
 
       pub front_scan : PrintedFront (Scans task told refused) w v → WritesFront words left told refused w v
       front_scan = front_by (Scans task told refused) run_scan w v
-
-      module _ (only : (r : Request) → Asks words r → Scanning task ≡ r) where
-        pub only_scan : (s : Status) → AreTold words left told → (IsSome told → IsOnlyEnd (Scans task told refused) w v s) → IsOnlyEnd (Ends words left told refused) w v s
-        only_scan s are one t ls (usage other) = absurd (other (Scanning task) is)
-        only_scan s are one t ls (matched lang text _ _ is' _) = let e : Scanning task ≡ Matching lang text = only (Matching lang text) is' in absurd cc
-        only_scan s are one t ls (checked _ _ is' _) = let e : Scanning task ≡ Checking = only Checking is' in absurd cc
-        only_scan s are one t ls (scanned task' _ _ is' m) =
-            let e : Scanning task ≡ Scanning task' = only (Scanning task') is' in
-            let same : task' ≡ task = cc in
-            let P : Task → Type 0 = λ x. Scans x told refused t ls in
-            one (are (Scanning task) is) t ls (subst P same m)
-        only_scan s are one t ls (fixed task' _ _ is' _) = let e : Scanning task ≡ Fixing task' = only (Fixing task') is' in absurd cc
-        only_scan s are one t ls (served most trace _ _ is' _) = let e : Scanning task ≡ Serving most trace = only (Serving most trace) is' in absurd cc
-        only_scan s are one t ls (drilled count _ _ is' _) = let e : Scanning task ≡ Drilling count = only (Drilling count) is' in absurd cc
-
-    -- of fixes, sessions and drills it is not said that there is no other end
-    module _ (r : Request) (is : Asks words r) (other : IsTold left told r → ⊥) where
-      pub only_other : (s : Status) → AreTold words left told → IsOnlyEnd (Ends words left told refused) w v s
-      only_other s are = absurd (other (are r is))
 
     module _ (task : Task) (is : Asks words (Fixing task)) where
       run_fix : (s : Status) (lines : List (List ℕ)) → Fixes task told refused s lines → Ends words left told refused s lines

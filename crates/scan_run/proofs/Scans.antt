@@ -25,6 +25,7 @@ use Rattle.scan_run.specs.Scanned.{ScansFiles}
 use Rattle.scan_run.specs.Config.{IsConfig, IsRules, ConfigEnds, IsOneFile, HasRules, HasConfigEnd}
 use Rattle.scan_run.specs.Scan.{grammars, report_line, status_of, HasMoreFindings, ReportEnds, too_many, reported, ScanEnds, over_limit, searched, Scans, no_rules, with_rules, IsOneReport}
 use Rattle.scan_run.proofs.Streaming.{nothing_written}
+use Rattle.stream_run.proofs.Synced.{some_map}
 use Rattle.scan_run.proofs.Files.{config_once, files_once}
 use Rattle.scan_run.proofs.Rules.{same_rules, rules_or_end, config_ends_once}
 
@@ -117,9 +118,6 @@ files_end_once task refused rules files s t _ _ one (over_limit _ e) (over_limit
 files_end_once task refused rules files s t _ _ one (over_limit _ e) (searched _ _ f _) = absurd (limit_or_none files s e f)
 files_end_once task refused rules files s t _ _ one (searched _ _ f _) (over_limit _ e) = absurd (limit_or_none files t e f)
 files_end_once task refused rules files s t ls ms one (searched _ _ f ends) (searched _ _ _ ends') = report_once task.flag task.most task.trace refused files rules s t ls ms one ends ends'
-
-some_map : IsSome {T = Files} None → ⊥
-some_map e = absurd cc
 
 module _ (task : Task) (refused : List (List ℕ)) (config : Option (List ℕ)) (one_file : IsOneFile task.config config) where
   -- the one way in which a scan ends by its config

@@ -1,5 +1,5 @@
 -- What a session that begins with nothing makes of the settings of a run.
-use Rattle.std.proofs.Common.{◌≡◌, ◌⊎◌, inl, inr, ℕ, Bool, List, [], refl, sym, ap, subst}
+use Rattle.std.proofs.Common.{◌≡◌, ℕ, Bool, List, [], refl, sym, ap, subst}
 use Rattle.std.specs.Prelude.{Option}
 use Rattle.scan_world.specs.Files.{Files}
 use Rattle.run_status.specs.declared.status.Status.{Status}
@@ -8,7 +8,7 @@ use Rattle.run_status.specs.Status.{IsAnswer, IsCutShort}
 use Rattle.run_status.specs.Ways.{Printed}
 use Rattle.stream_run.specs.State.{State}
 use Rattle.stream_run.specs.Doing.{Setting}
-use Rattle.stream_run.specs.Playing.{SessionEnds, ended, bad, long, over, PrintsEnd, PrintsFirst, PrintsWhole}
+use Rattle.stream_run.specs.Playing.{SessionEnds, ended, bad, long, over, PrintsEnd, PrintsFirst, PrintsWhole, PrintsToSync}
 use Rattle.stream_run.specs.Still.{IsNew}
 use Rattle.scan_run.specs.Serving.{setting}
 
@@ -41,21 +41,24 @@ module _ (s : Setting) (stream w v : Option (List ℕ)) where
   first_of : (after : Option (List ℕ)) → PrintsWhole s stream after w v → PrintsFirst s stream w v
   first_of after p = record { lines = p.lines; first = (p.place, p.shelves, p.left, p.plays); printed = p.printed }
 
+  before_of : PrintsToSync s stream w v → PrintsFirst s stream w v
+  before_of p = record { lines = p.lines; first = (p.place, p.shelves, p.left, p.plays); printed = p.printed }
+
   -- so where a session is cut short, the lines of its first commands were written
-  pub first_lines : (after : Option (List ℕ)) (status : Status) → ((status ≡ statuses.Memory) ⊎ (status ≡ statuses.TreeFault) → PrintsFirst s stream w v) → (status ≡ statuses.InputFault → PrintsWhole s stream after w v) → IsCutShort status → PrintsFirst s stream w v
-  first_lines after statuses.Memory f h cut = f (inl refl)
-  first_lines after statuses.TreeFault f h cut = f (inr refl)
-  first_lines after statuses.InputFault f h cut = first_of after (h refl)
-  first_lines after statuses.Done f h cut = absurd cut
-  first_lines after statuses.Findings f h cut = absurd cut
-  first_lines after statuses.Usage f h cut = absurd cut
-  first_lines after statuses.OutputFault f h cut = absurd cut
-  first_lines after (statuses.BadCommand place) f h cut = absurd cut
-  first_lines after (statuses.OverLimit kind n) f h cut = absurd cut
-  first_lines after (statuses.TooMany n) f h cut = absurd cut
-  first_lines after statuses.NoSuchPath f h cut = absurd cut
-  first_lines after statuses.BadTarget f h cut = absurd cut
-  first_lines after statuses.BadPattern f h cut = absurd cut
+  pub first_lines : (after : Option (List ℕ)) (status : Status) → (status ≡ statuses.Memory → PrintsFirst s stream w v) → (status ≡ statuses.TreeFault → PrintsToSync s stream w v) → (status ≡ statuses.InputFault → PrintsWhole s stream after w v) → IsCutShort status → PrintsFirst s stream w v
+  first_lines after statuses.Memory f g h cut = f refl
+  first_lines after statuses.TreeFault f g h cut = before_of (g refl)
+  first_lines after statuses.InputFault f g h cut = first_of after (h refl)
+  first_lines after statuses.Done f g h cut = absurd cut
+  first_lines after statuses.Findings f g h cut = absurd cut
+  first_lines after statuses.Usage f g h cut = absurd cut
+  first_lines after statuses.OutputFault f g h cut = absurd cut
+  first_lines after (statuses.BadCommand place) f g h cut = absurd cut
+  first_lines after (statuses.OverLimit kind n) f g h cut = absurd cut
+  first_lines after (statuses.TooMany n) f g h cut = absurd cut
+  first_lines after statuses.NoSuchPath f g h cut = absurd cut
+  first_lines after statuses.BadTarget f g h cut = absurd cut
+  first_lines after statuses.BadPattern f g h cut = absurd cut
 
   no_end : (status : Status) (lines : List (List ℕ)) → SessionEnds s stream status lines → status ≡ statuses.NoSuchPath → ⊥
   no_end _ _ (ended place count lines shelves left rest plays on short) e = cc

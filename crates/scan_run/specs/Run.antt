@@ -12,7 +12,7 @@ use Rattle.scan_run.specs.Matching.{Matches}
 use Rattle.scan_run.specs.Checking.{Checks}
 use Rattle.scan_run.specs.Scan.{Scans}
 use Rattle.folder_run.specs.Written.{Wrote, Leaves}
-use Rattle.scan_run.specs.Serving.{setting, Serves, ServesFirst, Fixes, Drills, ServesAfter, FixesAfter, DrillsAfter}
+use Rattle.scan_run.specs.Serving.{setting, Serves, ServesFirst, ServesWhole, ServesToSync, Fixes, Drills, ServesAfter, FixesAfter, DrillsAfter}
 use Rattle.scan_world.specs.Streams.{AppendsFront}
 use Rattle.run_status.specs.Ways.{AppendsSome}
 
@@ -63,12 +63,22 @@ abbrev pub WritesCommands : List (List ℕ) → Option (List ℕ) → Option Fil
 WritesCommands words left told refused written written_after =
     (most : ℕ) × (trace : Bool) × Asks words (Serving most trace) × ((lines : List (List ℕ)) × ServesFirst most trace told refused left lines × Appends written written_after (concat lines))
 
--- what a request reads is told: a match and a check their input, a scan its files; the other requests are not spoken of
+-- the lines of all commands of a session that its source handed over were written, each whole
+abbrev pub WritesAllRead : List (List ℕ) → Option (List ℕ) → Option (List ℕ) → Option Files → List (List ℕ) → Option (List ℕ) → Option (List ℕ) → Type 0
+WritesAllRead words left left_after told refused written written_after = (most : ℕ) × (trace : Bool) × Asks words (Serving most trace) × ServesWhole most trace told refused left left_after written written_after
+
+-- the lines of all commands of a session before a `sync` were written, each whole
+abbrev pub WritesToSync : List (List ℕ) → Option (List ℕ) → Option Files → List (List ℕ) → Option (List ℕ) → Option (List ℕ) → Type 0
+WritesToSync words left told refused written written_after = (most : ℕ) × (trace : Bool) × Asks words (Serving most trace) × ServesToSync most trace told refused left written written_after
+
+-- what a request reads is told: a match and a check read the input, a scan and a fix the files, a session both, and a drill nothing
 abbrev pub IsTold : Option (List ℕ) → Option Files → Request → Type 0
 IsTold left told (Matching lang text) = IsSome left
 IsTold left told Checking = IsSome left
 IsTold left told (Scanning task) = IsSome told
-IsTold left told _ = ⊥
+IsTold left told (Fixing task) = IsSome told
+IsTold left told (Serving most trace) = IsSome left × IsSome told
+IsTold left told (Drilling count) = Unit {0}
 
 -- what the words ask for reads only what is told
 abbrev pub AreTold : List (List ℕ) → Option (List ℕ) → Option Files → Type 0

@@ -8,7 +8,7 @@ use Rattle.pattern_read.specs.Patterns.{IsPatternOf}
 use Rattle.run_status.specs.declared.status.Status.{Status}
 use Rattle.stream_run.specs.Reports.{Readings, readings_of}
 use Rattle.stream_run.specs.Doing.{Setting}
-use Rattle.stream_run.specs.Playing.{SessionEnds, AreFirstLines}
+use Rattle.stream_run.specs.Playing.{SessionEnds, AreFirstLines, PrintsWhole, PrintsToSync}
 use Rattle.stream_run.specs.Costs.{EndsAfter}
 use Rattle.folder_run.specs.Ends.{FixEnds}
 use Rattle.folder_run.specs.Costs.{FixedAfter}
@@ -30,6 +30,14 @@ Serves most traced told refused left status lines = SessionEnds (setting most tr
 -- these lines are those of the first commands of the stream
 abbrev pub ServesFirst : ℕ → Bool → Option Files → List (List ℕ) → Option (List ℕ) → List (List ℕ) → Type 0
 ServesFirst most traced told refused left lines = AreFirstLines (setting most traced told refused) left lines
+
+-- the lines of all commands that the source handed over before a read failed were written
+abbrev pub ServesWhole : ℕ → Bool → Option Files → List (List ℕ) → Option (List ℕ) → Option (List ℕ) → Option (List ℕ) → Option (List ℕ) → Type 0
+ServesWhole most traced told refused left left_after written written_after = PrintsWhole (setting most traced told refused) left left_after written written_after
+
+-- the lines of all commands before a `sync` were written
+abbrev pub ServesToSync : ℕ → Bool → Option Files → List (List ℕ) → Option (List ℕ) → Option (List ℕ) → Option (List ℕ) → Type 0
+ServesToSync most traced told refused left written written_after = PrintsToSync (setting most traced told refused) left written written_after
 
 -- how fixing a folder ends, and the files that it writes
 abbrev pub FixesWith : Task → Option Files → List (List ℕ) → Status → List (List ℕ) → List FixedFile → Type 0

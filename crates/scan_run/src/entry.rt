@@ -8,7 +8,7 @@ ghost use Rattle.decided_texts.specs.Refused.{Gains, gained};
 ghost use Rattle.run_status.specs.Status.{IsAnswer, IsCutShort};
 ghost use Rattle.run_status.specs.Ways.{Printed, IsOnlyEnd};
 ghost use Rattle.wire_words.specs.Commands.{Request, request as requested};
-ghost use Rattle.scan_run.specs.Run.{Asks, IsBuilt, Ends, WritesFront, WritesSome, WritesCommands, FixWrote, FixLeaves, AreTold, AskToMatch, AskToRead, AskToServe, AskToWrite, AskForNoScan, AskForNoSearch, Takes};
+ghost use Rattle.scan_run.specs.Run.{Asks, IsBuilt, Ends, WritesFront, WritesSome, WritesCommands, WritesAllRead, WritesToSync, FixWrote, FixLeaves, AreTold, AskToMatch, AskToRead, AskToServe, AskToWrite, AskForNoScan, AskForNoSearch, Takes};
 ghost use Rattle.scan_run.specs.Steps.{TakesSteps};
 
 use crate::checking::run_check;
@@ -64,6 +64,10 @@ pub fn run<T: Tree, S: Source, K: Sink, P: Patterns, L: Ledger>(
     ensures ends { IsAnswer result → Printed (Ends (map string_bytes words.now.items) (S.left input.old) (T.files tree.old) (gained (P.refusals patterns.old) (P.refusals patterns.new))) (K.written out.old) (K.written out.new) result }
     ensures only { IsAnswer result → AreTold (map string_bytes words.now.items) (S.left input.old) (T.files tree.old) → IsOnlyEnd (Ends (map string_bytes words.now.items) (S.left input.old) (T.files tree.old) (gained (P.refusals patterns.old) (P.refusals patterns.new))) (K.written out.old) (K.written out.new) result }
 
+    // It reads the input only for a match, a check or a session, and looks into the tree only for what scans.
+    ensures input_alone { (AskToRead (map string_bytes words.now.items) → ⊥) → (AskToServe (map string_bytes words.now.items) → ⊥) → input.new ≡ input.old }
+    ensures tree_alone { AskForNoScan (map string_bytes words.now.items) → tree.new ≡ tree.old }
+
     // It leaves the counts of faults as they were, and a match or a check is done only at the end of the input.
     ensures tree_kept { IsAnswer result → T.faults tree.new ≡ T.faults tree.old }
     ensures input_kept { IsAnswer result → S.faults input.new ≡ S.faults input.old }
@@ -81,6 +85,8 @@ pub fn run<T: Tree, S: Source, K: Sink, P: Patterns, L: Ledger>(
     ensures absent { result ≡ Status.NoSuchPath → Rose (T.absences tree.old) (T.absences tree.new) }
     ensures nothing_written { (AskToServe (map string_bytes words.now.items) → ⊥) → (result ≡ Status.InputFault) ⊎ (result ≡ Status.TreeFault) → K.written out.new ≡ K.written out.old }
     ensures commands_written { AskToServe (map string_bytes words.now.items) → IsCutShort result → WritesCommands (map string_bytes words.now.items) (S.left input.old) (T.files tree.old) (gained (P.refusals patterns.old) (P.refusals patterns.new)) (K.written out.old) (K.written out.new) }
+    ensures all_read_written { AskToServe (map string_bytes words.now.items) → result ≡ Status.InputFault → WritesAllRead (map string_bytes words.now.items) (S.left input.old) (S.left input.new) (T.files tree.old) (gained (P.refusals patterns.old) (P.refusals patterns.new)) (K.written out.old) (K.written out.new) }
+    ensures before_sync_written { AskToServe (map string_bytes words.now.items) → result ≡ Status.TreeFault → WritesToSync (map string_bytes words.now.items) (S.left input.old) (T.files tree.old) (gained (P.refusals patterns.old) (P.refusals patterns.new)) (K.written out.old) (K.written out.new) }
     ensures output_fault { result ≡ Status.OutputFault → Rose (K.faults out.old) (K.faults out.new) }
     ensures front_written { result ≡ Status.OutputFault → WritesFront (map string_bytes words.now.items) (S.left input.old) (T.files tree.old) (gained (P.refusals patterns.old) (P.refusals patterns.new)) (K.written out.old) (K.written out.new) }
     ensures whole_lines { result ≡ Status.Memory → (K.written out.new ≡ K.written out.old) ⊎ WritesSome (map string_bytes words.now.items) (S.left input.old) (T.files tree.old) (gained (P.refusals patterns.old) (P.refusals patterns.new)) (K.written out.old) (K.written out.new) }

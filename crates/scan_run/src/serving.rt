@@ -1,15 +1,15 @@
 //! The commands that work over a session of their own: `fix`, `session` and `drill`.
 
-ghost use Rattle.std.specs.Prelude.{◌≡◌};
+ghost use Rattle.std.specs.Prelude.{◌≡◌, IsSome};
 ghost use Rattle.scan_world.specs.Faults.{Rose};
 ghost use Rattle.scan_world.specs.Trees.{KeepsFiles};
 ghost use Rattle.wire_words.specs.Commands.{task_of};
 ghost use Rattle.decided_texts.specs.Refused.{Gains, gained};
 ghost use Rattle.run_status.specs.Status.{IsAnswer, IsCutShort};
-ghost use Rattle.run_status.specs.Ways.{Printed, PrintedFront};
+ghost use Rattle.run_status.specs.Ways.{Printed, PrintedFront, IsOnlyEnd};
 ghost use Rattle.folder_run.specs.Written.{Wrote, Leaves};
 ghost use Rattle.stream_run.specs.Playing.{PrintsFirst, PrintsFront};
-ghost use Rattle.scan_run.specs.Serving.{setting, Serves, Fixes, Drills, ServesAfter, FixesAfter, DrillsAfter};
+ghost use Rattle.scan_run.specs.Serving.{setting, Serves, ServesWhole, ServesToSync, Fixes, Drills, ServesAfter, FixesAfter, DrillsAfter};
 
 use drill_run::drill;
 use folder_run::fix_folder;
@@ -37,6 +37,7 @@ pub fn run_fix<T: Tree, K: Sink, P: Patterns, L: Ledger>(
     steps: &mut Steps<L>,
 ) -> Status
     ensures ends { IsAnswer result → Printed (Fixes (task_of job.now) (T.files tree.old) (gained (P.refusals patterns.old) (P.refusals patterns.new))) (K.written out.old) (K.written out.new) result }
+    ensures only { IsAnswer result → IsSome (T.files tree.old) → IsOnlyEnd (Fixes (task_of job.now) (T.files tree.old) (gained (P.refusals patterns.old) (P.refusals patterns.new))) (K.written out.old) (K.written out.new) result }
     ensures work { IsAnswer result → FixesAfter (task_of job.now) (T.files tree.old) (gained (P.refusals patterns.old) (P.refusals patterns.new)) (K.written out.old) (K.written out.new) result steps.old steps.new }
     ensures wrote { IsAnswer result → Wrote (setting job.now.most job.now.trace (T.files tree.old) (gained (P.refusals patterns.old) (P.refusals patterns.new))) (task_of job.now) (T.files tree.new) result }
     ensures left { Leaves (setting job.now.most job.now.trace (T.files tree.old) (gained (P.refusals patterns.old) (P.refusals patterns.new))) (task_of job.now) (T.files tree.new) }
@@ -69,8 +70,11 @@ pub fn run_session<T: Tree, S: Source, K: Sink, P: Patterns, L: Ledger>(
     steps: &mut Steps<L>,
 ) -> Status
     ensures ends { IsAnswer result → Printed (Serves most traced (T.files tree.old) (gained (P.refusals patterns.old) (P.refusals patterns.new)) (S.left input.old)) (K.written out.old) (K.written out.new) result }
+    ensures only { IsAnswer result → IsSome (S.left input.old) → IsSome (T.files tree.old) → IsOnlyEnd (Serves most traced (T.files tree.old) (gained (P.refusals patterns.old) (P.refusals patterns.new)) (S.left input.old)) (K.written out.old) (K.written out.new) result }
     ensures work { IsAnswer result → ServesAfter most traced (T.files tree.old) (gained (P.refusals patterns.old) (P.refusals patterns.new)) (S.left input.old) (K.written out.old) (K.written out.new) result steps.old steps.new }
     ensures commands_written { IsCutShort result → PrintsFirst (setting most traced (T.files tree.old) (gained (P.refusals patterns.old) (P.refusals patterns.new))) (S.left input.old) (K.written out.old) (K.written out.new) }
+    ensures all_read_written { result ≡ Status.InputFault → ServesWhole most traced (T.files tree.old) (gained (P.refusals patterns.old) (P.refusals patterns.new)) (S.left input.old) (S.left input.new) (K.written out.old) (K.written out.new) }
+    ensures before_sync_written { result ≡ Status.TreeFault → ServesToSync most traced (T.files tree.old) (gained (P.refusals patterns.old) (P.refusals patterns.new)) (S.left input.old) (K.written out.old) (K.written out.new) }
     ensures front_written { result ≡ Status.OutputFault → PrintsFront (setting most traced (T.files tree.old) (gained (P.refusals patterns.old) (P.refusals patterns.new))) (S.left input.old) (K.written out.old) (K.written out.new) }
     ensures files_kept { KeepsFiles (T.files tree.old) (T.files tree.new) }
     ensures tree_kept { IsAnswer result → T.faults tree.new ≡ T.faults tree.old }
@@ -97,6 +101,7 @@ pub fn run_drill<T: Tree, K: Sink, P: Patterns, L: Ledger>(
     steps: &mut Steps<L>,
 ) -> Status
     ensures ends { IsAnswer result → Printed (Drills count (gained (P.refusals patterns.old) (P.refusals patterns.new))) (K.written out.old) (K.written out.new) result }
+    ensures only { IsAnswer result → IsOnlyEnd (Drills count (gained (P.refusals patterns.old) (P.refusals patterns.new))) (K.written out.old) (K.written out.new) result }
     ensures work { IsAnswer result → DrillsAfter count (gained (P.refusals patterns.old) (P.refusals patterns.new)) (K.written out.old) (K.written out.new) result steps.old steps.new }
     ensures files_kept { KeepsFiles (T.files tree.old) (T.files tree.new) }
     ensures tree_kept { IsAnswer result → T.faults tree.new ≡ T.faults tree.old }

@@ -1,6 +1,6 @@
 -- What edits do.
 use Rattle.std.proofs.Common.{◌≡◌, ℕ, List, Bool, refl, sym, ap, ◌∙◌, subst}
-use Rattle.std.specs.Prelude.{Option, Some, None}
+use Rattle.std.specs.Prelude.{Option, Some, None, Result, Err}
 use Rattle.std.specs.Option.{is_some}
 use Rattle.scan_world.specs.Files.{Files}
 use Rattle.file_map.specs.FileMap.{bytes_at, with_file, without_file, over_limit, TellsOver, TellsPut}
@@ -17,7 +17,10 @@ use Rattle.wire_stream.specs.declared.wire.Wire.TheVariants as wires
 use Rattle.workspace.specs.State.{State, with_files, with_rules, files_put}
 use Rattle.workspace.specs.Reports.{Readings}
 use Rattle.stream_run.specs.declared.reply.Reply.TheVariants as replies
+use Rattle.stream_run.specs.declared.fault.PlayFault.{PlayFault}
+use Rattle.stream_run.specs.declared.fault.PlayFault.TheVariants as plays
 use Rattle.stream_run.specs.Faults.{of_put, of_sync, TellsPassed}
+use Rattle.stream_run.specs.Reading.{PutEndsOnce, ReadsOnce}
 use Rattle.stream_run.specs.Doing.{Shelves, Does, put, del, rule, unrule, sync, done, put_over, rule_over, sync_over}
 use Rattle.stream_run.specs.Still.{setting, shelves_of, IsEdit, DoesEver, PassesEver}
 
@@ -30,6 +33,11 @@ edit_if (wires.Sync prefix) scan fix = tt
 edit_if wires.Scan scan fix = absurd (scan refl)
 edit_if wires.Fix scan fix = absurd (fix refl)
 edit_if wires.End scan fix = tt
+
+-- no put fails by a call of the tree
+pub put_unfailed : {X : Type 0} (fault : PutFault) → ◌≡◌ {A = Result X PlayFault} (Err (of_put fault)) (Err plays.Failed) → ⊥
+put_unfailed puts.Memory e = absurd cc
+put_unfailed (puts.OverLimit kind n) e = absurd cc
 
 module _ (readings : Readings) (told : Option Files) (old : State) where
   module _ (new : State) where
@@ -72,6 +80,10 @@ module _ (readings : Readings) (told : Option Files) (old : State) where
 -- ---- the same, as the code has the commands
 
 module _ (readings : Readings) (told : Option Files) (old : State) (wire : Wire) where
+  -- a command that reads no rules
+  pub once_at : (w : Wire) → wire ≡ w → ReadsOnce readings old.rules w → ReadsOnce readings old.rules wire
+  once_at w is once = subst (λ (x : Wire). ReadsOnce readings old.rules x) (sym is) once
+
   module _ (p b x y : List ℕ) (same_path : x ≡ p) (same_bytes : y ≡ b) where
     module _ (is : wire ≡ wires.Put p b) where
       is_put : wires.Put x y ≡ wire
@@ -90,6 +102,9 @@ module _ (readings : Readings) (told : Option Files) (old : State) (wire : Wire)
 
       pub rule_at : (new : State) → new ≡ with_rules old (with_file old.rules (x, y)) → PutRuleEnds readings.writes old.rules (x, y) None → DoesEver readings told old wire new replies.Done
       rule_at new e within = subst (λ (w : Wire). DoesEver readings told old w new replies.Done) is_rule (rule_does readings told old new x y e within)
+
+      pub rule_once : PutEndsOnce readings old.rules (x, y) → ReadsOnce readings old.rules wire
+      rule_once once = subst (λ (w : Wire). ReadsOnce readings old.rules w) is_rule once
 
       pub rule_passed : (fault : PutFault) → TellsPut (PutRuleEnds readings.writes old.rules (x, y)) fault → TellsPassed (PassesEver readings told old wire) (of_put fault)
       rule_passed puts.Memory h = tt

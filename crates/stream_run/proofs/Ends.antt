@@ -1,22 +1,33 @@
 -- What the clauses of a session say of its end.
-use Rattle.std.proofs.Common.{◌≡◌, ◌⊎◌, inl, inr, ℕ, refl, sym, subst}
+use Rattle.std.proofs.Common.{◌≡◌, ℕ, refl, sym, subst}
+use Rattle.std.specs.Prelude.{IsSome}
 use Rattle.scan_world.specs.Faults.{Rose}
 use Rattle.run_status.specs.declared.status.Status.{Status}
 use Rattle.run_status.specs.declared.status.Status.TheVariants as statuses
 use Rattle.run_status.specs.Status.{IsAnswer}
+use Rattle.run_status.specs.Ways.{IsOnlyEnd}
 use Rattle.stream_run.specs.Doing.{Setting}
-use Rattle.stream_run.specs.Playing.{PrintsEnd, PrintsFirst, PrintsFront, PrintsWhole}
+use Rattle.stream_run.specs.Playing.{SessionEnds, PrintsEnd, PrintsFirst, PrintsFront, PrintsWhole, PrintsToSync}
 use Rattle.stream_run.specs.Costs.{EndsAfter, FrontAfter}
+use Rattle.stream_run.proofs.Sure.{SureEnd}
+use Rattle.stream_run.proofs.Once.{only_way}
 use Rattle.stream_run.proofs.Turns.{Bytes}
+
+-- the session ended so, took these steps, and each command read its rule files in the one way that there is
+pub record EndsSurely (s : Setting) (stream written written_after : Bytes) (status : Status) (before after : ℕ) : Type 0 where
+  pub ends : EndsAfter s stream written written_after status before after
+  pub sure : SureEnd ends.prints.ends
 
 -- what the clauses of a session say of its end, with what was read, written and refused before and after
 pub record IsServed (s : Setting) (stream stream_after written written_after : Bytes) (source source_after sink sink_after tree tree_after before after : ℕ) (status : Status) : Type 0 where
   pub ends : IsAnswer status → PrintsEnd s stream written written_after status
+  pub only : IsAnswer status → IsSome stream → IsSome s.told → IsOnlyEnd (SessionEnds s stream) written written_after status
   pub input_kept : IsAnswer status → source_after ≡ source
   pub output_kept : IsAnswer status → sink_after ≡ sink
   pub tree_kept : IsAnswer status → tree_after ≡ tree
-  pub first_lines : (status ≡ statuses.Memory) ⊎ (status ≡ statuses.TreeFault) → PrintsFirst s stream written written_after
+  pub first_lines : status ≡ statuses.Memory → PrintsFirst s stream written written_after
   pub whole_lines : status ≡ statuses.InputFault → PrintsWhole s stream stream_after written written_after
+  pub before_sync : status ≡ statuses.TreeFault → PrintsToSync s stream written written_after
   pub front : status ≡ statuses.OutputFault → PrintsFront s stream written written_after
   pub work : IsAnswer status → EndsAfter s stream written written_after status before after
   pub work_to_fault : (IsAnswer status → ⊥) → (status ≡ statuses.Memory → ⊥) → FrontAfter s stream written written_after before after
@@ -31,34 +42,34 @@ module _ (s : Setting) (stream stream_after written written_after : Bytes) (sour
   answer_no : (status other : Status) → (IsAnswer other → ⊥) → IsAnswer status → status ≡ other → ⊥
   answer_no status other no_answer is e = no_answer (subst IsAnswer e is)
 
-  pub answered : (status : Status) → IsAnswer status → EndsAfter s stream written written_after status before after → source_after ≡ source → sink_after ≡ sink → tree_after ≡ tree → Served status
+  pub answered : (status : Status) → IsAnswer status → EndsSurely s stream written written_after status before after → source_after ≡ source → sink_after ≡ sink → tree_after ≡ tree → Served status
   answered status is p i o t = record {
-    ends = λ _. p.prints;
+    ends = λ _. p.ends.prints;
+    only = λ _. only_way s stream written written_after status p.ends.prints p.sure;
     input_kept = λ _. i;
     output_kept = λ _. o;
     tree_kept = λ _. t;
-    first_lines = none;
+    first_lines = λ e. absurd (answer_no status statuses.Memory (λ h. h) is e);
     whole_lines = λ e. absurd (answer_no status statuses.InputFault (λ h. h) is e);
+    before_sync = λ e. absurd (answer_no status statuses.TreeFault (λ h. h) is e);
     front = λ e. absurd (answer_no status statuses.OutputFault (λ h. h) is e);
-    work = λ _. p;
+    work = λ _. p.ends;
     work_to_fault = λ fault got. absurd (fault is);
     input_fault = λ e. absurd (answer_no status statuses.InputFault (λ h. h) is e);
     output_fault = λ e. absurd (answer_no status statuses.OutputFault (λ h. h) is e);
     tree_fault = λ e. absurd (answer_no status statuses.TreeFault (λ h. h) is e);
   }
-    where
-      none : (status ≡ statuses.Memory) ⊎ (status ≡ statuses.TreeFault) → PrintsFirst s stream written written_after
-      none (inl e) = absurd (answer_no status statuses.Memory (λ h. h) is e)
-      none (inr e) = absurd (answer_no status statuses.TreeFault (λ h. h) is e)
 
   pub out_of_memory : PrintsFirst s stream written written_after → Served statuses.Memory
   out_of_memory p = record {
     ends = λ h. absurd h;
+    only = λ h. absurd h;
     input_kept = λ h. absurd h;
     output_kept = λ h. absurd h;
     tree_kept = λ h. absurd h;
     first_lines = λ _. p;
     whole_lines = λ e. absurd cc;
+    before_sync = λ e. absurd cc;
     front = λ e. absurd cc;
     work = λ h. absurd h;
     work_to_fault = λ fault got. absurd (got refl);
@@ -67,14 +78,16 @@ module _ (s : Setting) (stream stream_after written written_after : Bytes) (sour
     tree_fault = λ e. absurd cc;
   }
 
-  pub tree_failed : PrintsFirst s stream written written_after → FrontAfter s stream written written_after before after → Rose tree tree_after → Served statuses.TreeFault
+  pub tree_failed : PrintsToSync s stream written written_after → FrontAfter s stream written written_after before after → Rose tree tree_after → Served statuses.TreeFault
   tree_failed p took rose = record {
     ends = λ h. absurd h;
+    only = λ h. absurd h;
     input_kept = λ h. absurd h;
     output_kept = λ h. absurd h;
     tree_kept = λ h. absurd h;
-    first_lines = λ _. p;
+    first_lines = λ e. absurd cc;
     whole_lines = λ e. absurd cc;
+    before_sync = λ _. p;
     front = λ e. absurd cc;
     work = λ h. absurd h;
     work_to_fault = λ fault got. took;
@@ -83,18 +96,16 @@ module _ (s : Setting) (stream stream_after written written_after : Bytes) (sour
     tree_fault = λ _. rose;
   }
 
-  none_first : (status : Status) → (status ≡ statuses.Memory → ⊥) → (status ≡ statuses.TreeFault → ⊥) → (status ≡ statuses.Memory) ⊎ (status ≡ statuses.TreeFault) → PrintsFirst s stream written written_after
-  none_first status a b (inl e) = absurd (a e)
-  none_first status a b (inr e) = absurd (b e)
-
   pub input_failed : PrintsWhole s stream stream_after written written_after → FrontAfter s stream written written_after before after → Rose source source_after → Served statuses.InputFault
   input_failed p took rose = record {
     ends = λ h. absurd h;
+    only = λ h. absurd h;
     input_kept = λ h. absurd h;
     output_kept = λ h. absurd h;
     tree_kept = λ h. absurd h;
-    first_lines = none_first statuses.InputFault (λ e. absurd cc) (λ e. absurd cc);
+    first_lines = λ e. absurd cc;
     whole_lines = λ _. p;
+    before_sync = λ e. absurd cc;
     front = λ e. absurd cc;
     work = λ h. absurd h;
     work_to_fault = λ fault got. took;
@@ -106,11 +117,13 @@ module _ (s : Setting) (stream stream_after written written_after : Bytes) (sour
   pub output_failed : FrontAfter s stream written written_after before after → Rose sink sink_after → Served statuses.OutputFault
   output_failed took rose = record {
     ends = λ h. absurd h;
+    only = λ h. absurd h;
     input_kept = λ h. absurd h;
     output_kept = λ h. absurd h;
     tree_kept = λ h. absurd h;
-    first_lines = none_first statuses.OutputFault (λ e. absurd cc) (λ e. absurd cc);
+    first_lines = λ e. absurd cc;
     whole_lines = λ e. absurd cc;
+    before_sync = λ e. absurd cc;
     front = λ _. took.prints;
     work = λ h. absurd h;
     work_to_fault = λ fault got. took;

@@ -2,6 +2,11 @@ pub mod Gained
 pub mod Streaming
 pub mod Told
 pub mod Edits
+pub mod Paths
+pub mod Synced
+pub mod Settled
+pub mod Sure
+pub mod Chains
 pub mod Scans
 pub mod Costs
 pub mod Turns

@@ -1,5 +1,5 @@
 -- How a session ends, at each place where it does.
-use Rattle.std.proofs.Common.{◌≡◌, ◌≢◌, ◌≤◌, ◌+◌, ◌-◌, ℕ, [], ◌++◌, refl, sym, ◌∙◌, subst}
+use Rattle.std.proofs.Common.{◌≡◌, ◌≢◌, ◌≤◌, ◌+◌, ◌-◌, ℕ, List, [], ◌++◌, refl, sym, ◌∙◌, subst}
 use Rattle.std.specs.Prelude.{Option, Err}
 use Rattle.std.specs.List.{concat}
 use Rattle.std.specs.Io.KnownBytes.{Appends}
@@ -28,14 +28,25 @@ use Rattle.stream_run.specs.declared.reply.Reply.{Reply}
 use Rattle.stream_run.specs.Printed.{lines_of}
 use Rattle.stream_run.specs.Faults.{status_of_play, status_of_print, status_of_wire, TellsPassed, HasPlayCause}
 use Rattle.stream_run.specs.Doing.{Setting, empty_shelves, Passes}
-use Rattle.stream_run.specs.Playing.{GoesOn, begun, ended, bad, long, over, PrintsFirst}
-use Rattle.stream_run.specs.Costs.{EndsAfter, FrontAfter}
-use Rattle.stream_run.specs.Still.{setting, shelves_of, PassesNow, DoesStill, CostsStill, Keeps, RefusesGained}
+use Rattle.stream_run.specs.Playing.{GoesOn, begun, ended, bad, long, over, PrintsFirst, PrintsToSync}
+use Rattle.stream_run.specs.Costs.{FrontAfter}
+use Rattle.stream_run.specs.Reading.{ReadsOnce}
+use Rattle.stream_run.specs.Still.{setting, shelves_of, IsSync, PassesNow, DoesStill, CostsStill, Keeps, RefusesGained}
 use Rattle.stream_run.proofs.Gained.{Texts}
 use Rattle.stream_run.proofs.Streaming.{nothing_written, whole_front, lines_front, left_of, used_left, of_left, waits_left}
 use Rattle.stream_run.proofs.Told.{passes_before}
 use Rattle.stream_run.proofs.Turns.{Bytes, PlaysSo, PlaysTo, plays_now, plays_then, refused_then, costs_now, plays_most}
-use Rattle.stream_run.proofs.Ends.{IsServed, answered, out_of_memory, tree_failed, input_failed, output_failed}
+use Rattle.stream_run.proofs.Ends.{EndsSurely, IsServed, answered, out_of_memory, tree_failed, input_failed, output_failed}
+
+sync_of : (wire : Wire) → IsSync wire → (prefix : List ℕ) × (wire ≡ wires.Sync prefix)
+sync_of (wires.Put path bytes) is = absurd is
+sync_of (wires.Del path) is = absurd is
+sync_of (wires.Rule name bytes) is = absurd is
+sync_of (wires.Unrule name) is = absurd is
+sync_of (wires.Sync prefix) is = (prefix, refl)
+sync_of wires.Scan is = absurd is
+sync_of wires.Fix is = absurd is
+sync_of wires.End is = absurd is
 
 module _ (readings : Readings) (told : Option Files) (most : ℕ) (stream : Bytes) (start : Texts) (written : Bytes) (before : ℕ) where
   -- memory ran out before anything was read
@@ -69,18 +80,24 @@ module _ (readings : Readings) (told : Option Files) (most : ℕ) (stream : Byte
         (subst (λ (n : ℕ). Rose n source_after) same_source cause)
     served_unread left_after source_after (faults.Bad at) is cause waits =
         answered (setting readings told most (gained start texts)) stream left_after written written_now source source_after sink sink_now tree tree_now before steps (statuses.BadCommand at) tt
-        (subst (λ (n : ℕ). EndsAfter (setting readings told most (gained start texts)) stream written written_now (statuses.BadCommand n) before steps) (sym is.0)
+        (subst (λ (n : ℕ). EndsSurely (setting readings told most (gained start texts)) stream written written_now (statuses.BadCommand n) before steps) (sym is.0)
         (record {
-          prints = record { lines = far.lines; ends = bad feed.place far.lines (shelves_of state) (left_of left feed.hand) here.0 (of_left left feed.hand BeginsNone is.1); printed = far.printed };
-          takes = (seen, here.1);
+          ends = record {
+            prints = record { lines = far.lines; ends = bad feed.place far.lines (shelves_of state) (left_of left feed.hand) here.0 (of_left left feed.hand BeginsNone is.1); printed = far.printed };
+            takes = (seen, here.1);
+          };
+          sure = here.2;
         }))
         (cause ∙ same_source) same_sink same_tree
     served_unread left_after source_after (faults.Stream n) is cause waits =
         answered (setting readings told most (gained start texts)) stream left_after written written_now source source_after sink sink_now tree tree_now before steps (statuses.OverLimit Stream n) tt
-        (subst (λ (m : ℕ). EndsAfter (setting readings told most (gained start texts)) stream written written_now (statuses.OverLimit Stream m) before steps) (sym is.0)
+        (subst (λ (m : ℕ). EndsSurely (setting readings told most (gained start texts)) stream written written_now (statuses.OverLimit Stream m) before steps) (sym is.0)
         (record {
-          prints = record { lines = far.lines; ends = long feed.place far.lines (shelves_of state) (left_of left feed.hand) here.0 (of_left left feed.hand (BeginsLonger (268435456 - feed.place)) is.1); printed = far.printed };
-          takes = (seen, here.1);
+          ends = record {
+            prints = record { lines = far.lines; ends = long feed.place far.lines (shelves_of state) (left_of left feed.hand) here.0 (of_left left feed.hand (BeginsLonger (268435456 - feed.place)) is.1); printed = far.printed };
+            takes = (seen, here.1);
+          };
+          sure = here.2;
         }))
         (cause ∙ same_source) same_sink same_tree
 
@@ -96,13 +113,16 @@ module _ (readings : Readings) (told : Option Files) (most : ℕ) (stream : Byte
       served_done e =
           answered (setting readings told most (gained start texts)) stream left_after written written_now source source_after sink sink_now tree tree_now before steps statuses.Done tt
           (record {
-            prints = record {
-              lines = far.lines;
-              ends = ended feed.place next.count far.lines (shelves_of state) (left_of left feed.hand) (left_of left_after feed_after.hand) here.0
-                  (subst (λ (w : Wire). GoesOn (left_of left feed.hand) w next.count (left_of left_after feed_after.hand)) e goes_on) within;
-              printed = far.printed;
+            ends = record {
+              prints = record {
+                lines = far.lines;
+                ends = ended feed.place next.count far.lines (shelves_of state) (left_of left feed.hand) (left_of left_after feed_after.hand) here.0
+                    (subst (λ (w : Wire). GoesOn (left_of left feed.hand) w next.count (left_of left_after feed_after.hand)) e goes_on) within;
+                printed = far.printed;
+              };
+              takes = (seen, here.1);
             };
-            takes = (seen, here.1);
+            sure = here.2;
           })
           (source_kept ∙ same_source) same_sink same_tree
 
@@ -120,6 +140,23 @@ module _ (readings : Readings) (told : Option Files) (most : ℕ) (stream : Byte
           printed = subst (λ (w : Bytes). Appends written w (concat far.lines)) (sym e) far.printed;
         }
 
+        to_sync : IsSync wire → PrintsToSync (setting readings told most (gained start texts_after)) stream written written_now
+        to_sync is =
+            let a = sync_of wire is in
+            record {
+              place = feed.place;
+              count = next.count;
+              lines = far.lines;
+              shelves = shelves_of state;
+              left = left_of left feed.hand;
+              rest = left_of left_after feed_after.hand;
+              prefix = a.0;
+              plays = there.0;
+              goes = subst (λ (w : Wire). GoesOn (left_of left feed.hand) w next.count (left_of left_after feed_after.hand)) a.1 goes_on;
+              within = within;
+              printed = far.printed;
+            }
+
         front_then : FrontAfter (setting readings told most (gained start texts_after)) stream written written_now before steps
         front_then = record {
           prints = record { lines = far.lines; first = (feed.place, shelves_of state, left_of left feed.hand, there.0); printed = whole_front written written_now (concat far.lines) far.printed };
@@ -130,13 +167,13 @@ module _ (readings : Readings) (told : Option Files) (most : ℕ) (stream : Byte
           -- it was not done
           pub served_unplayed : (now : Option Files) → KeepsFiles told now → (tree_after : ℕ) (fault : PlayFault) → TellsPassed (PassesNow readings now state wire state_after) fault → HasPlayCause {X = Reply} tree_now tree_after (Err fault)
               → ((fault ≡ plays.Memory → ⊥) → RefusesGained state state_after texts texts_after) → ((fault ≡ plays.Memory → ⊥) → CostsStill readings state wire state_after seen seen_after steps steps_after) → (fault ≡ plays.Failed → steps_after ≡ steps)
-              → IsServed (setting readings told most (gained start texts_after)) stream left_after written written_now source source_after sink sink_now tree tree_after before steps_after (status_of_play fault)
-          served_unplayed now stays tree_after plays.Memory passes cause refuses costs unspent =
+              → (fault ≡ plays.Failed → IsSync wire) → ((fault ≡ plays.Memory → ⊥) → ReadsOnce readings state.rules wire) → IsServed (setting readings told most (gained start texts_after)) stream left_after written written_now source source_after sink sink_now tree tree_after before steps_after (status_of_play fault)
+          served_unplayed now stays tree_after plays.Memory passes cause refuses costs unspent fails once =
               out_of_memory (setting readings told most (gained start texts_after)) stream left_after written written_now source source_after sink sink_now tree tree_after before steps_after (first_then written_now refl)
-          served_unplayed now stays tree_after plays.Failed passes cause refuses costs unspent =
-              tree_failed (setting readings told most (gained start texts_after)) stream left_after written written_now source source_after sink sink_now tree tree_after before steps_after (first_then written_now refl)
+          served_unplayed now stays tree_after plays.Failed passes cause refuses costs unspent fails once =
+              tree_failed (setting readings told most (gained start texts_after)) stream left_after written written_now source source_after sink sink_now tree tree_after before steps_after (to_sync (fails refl))
               (subst (λ (n : ℕ). FrontAfter (setting readings told most (gained start texts_after)) stream written written_now before n) (sym (unspent refl)) front_then) (subst (λ (n : ℕ). Rose n tree_after) same_tree cause)
-          served_unplayed now stays tree_after (plays.OverLimit kind n) passes cause refuses costs unspent =
+          served_unplayed now stays tree_after (plays.OverLimit kind n) passes cause refuses costs unspent fails once =
               let got : plays.OverLimit kind n ≡ plays.Memory → ⊥ = λ e. absurd cc in
               let refused = refused_then readings told most stream start written before state seen steps texts written_now feed left far state_after texts_after kept (refuses got) in
               let P : ℕ → Texts → Type 0 = λ m texts. Passes (setting readings told m texts) (shelves_of state) kind n wire in
@@ -145,19 +182,22 @@ module _ (readings : Readings) (told : Option Files) (most : ℕ) (stream : Byte
               let cost = costs_now readings told most stream start written before state seen steps texts written_now feed left far state_after texts_after kept (refuses got) wire seen_after steps_after (costs got) in
               answered (setting readings told most (gained start texts_after)) stream left_after written written_now source source_after sink sink_now tree tree_after before steps_after (statuses.OverLimit kind n) tt
               (record {
-                prints = record {
-                  lines = far.lines;
-                  ends = over feed.place next.count far.lines (shelves_of state) (left_of left feed.hand) (left_of left_after feed_after.hand) wire kind n there.0 goes_on within all;
-                  printed = far.printed;
+                ends = record {
+                  prints = record {
+                    lines = far.lines;
+                    ends = over feed.place next.count far.lines (shelves_of state) (left_of left feed.hand) (left_of left_after feed_after.hand) wire kind n there.0 goes_on within all;
+                    printed = far.printed;
+                  };
+                  takes = (seen, seen_after, steps, there.1, cost);
                 };
-                takes = (seen, seen_after, steps, there.1, cost);
+                sure = (there.2, once got);
               })
               (source_kept ∙ same_source) same_sink (cause ∙ same_tree)
 
           module _ (now : Option Files) (stays : KeepsFiles told now) (reply : Reply) (does : DoesStill readings now state wire state_after reply) (refuses : RefusesGained state state_after texts texts_after) (goes : wire ≢ wires.End)
-              (costs : CostsStill readings state wire state_after seen seen_after steps steps_after) (tree_after : ℕ) where
+              (costs : CostsStill readings state wire state_after seen seen_after steps steps_after) (once : ReadsOnce readings state.rules wire) (tree_after : ℕ) where
             most_now : PlaysSo (setting readings told most (gained start texts_after)) stream before feed_after.place (far.lines ++ lines_of reply) (shelves_of state_after) (left_of left_after feed_after.hand) seen_after steps_after
-            most_now = plays_most readings told most stream start written before state seen steps texts written_now feed left far state_after texts_after kept refuses now stays wire reply does feed_after left_after next goes seen_after steps_after costs
+            most_now = plays_most readings told most stream start written before state seen steps texts written_now feed left far state_after texts_after kept refuses now stays wire reply does feed_after left_after next goes seen_after steps_after costs once
 
             -- what it came to was not printed
             pub served_unprinted : (written_after : Bytes) (sink_after : ℕ) (fault : PrintFault) → (fault ≡ prints.Memory → written_after ≡ written_now) → (fault ≡ prints.Failed → AppendsFront written_now written_after (concat (lines_of reply)))

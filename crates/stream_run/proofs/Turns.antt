@@ -20,17 +20,19 @@ use Rattle.stream_run.specs.Printed.{lines_of}
 use Rattle.stream_run.specs.Doing.{Setting, Shelves, empty_shelves, Does}
 use Rattle.stream_run.specs.Playing.{Plays, begun, more}
 use Rattle.stream_run.specs.Costs.{Costs, Take}
+use Rattle.stream_run.specs.Reading.{ReadsOnce}
 use Rattle.stream_run.specs.Still.{setting, shelves_of, IsNew, DoesStill, CostsStill, Keeps, RefusesGained}
 use Rattle.stream_run.proofs.Gained.{Texts, gained_none, gains_none, gained_on, gains_on, undecided_none, undecided_before, undecided_both}
 use Rattle.stream_run.proofs.Streaming.{nothing_written, lines_on, left_of, left_first, used_left}
 use Rattle.stream_run.proofs.Told.{does_before}
+use Rattle.stream_run.proofs.Sure.{Sure}
 
 abbrev pub Bytes : Type 0
 Bytes = Option (List ℕ)
 
--- the first commands were done, and took the steps
+-- the first commands were done, took the steps, and each read its rule files in the one way that there is
 abbrev pub PlaysSo : Setting → Bytes → ℕ → ℕ → List (List ℕ) → Shelves → Bytes → SeenFiles → ℕ → Type 0
-PlaysSo s stream before place lines shelves left seen after = (plays : Plays s stream place lines shelves left) × Take plays seen before after
+PlaysSo s stream before place lines shelves left seen after = (plays : Plays s stream place lines shelves left) × Take plays seen before after × Sure plays
 
 -- The first commands were done, and no text that was not decided by then makes a difference. What was written are their lines,
 -- and what is refused is what the builder's list gained since the start.
@@ -54,7 +56,7 @@ module _ (readings : Readings) (told : Option Files) (most : ℕ) (stream : Byte
     pub first_turn : (feed : FeedState) → feed.place ≡ 0 → feed.hand ≡ [] → PlaysTo readings told most stream start written before state seen before start written feed stream
     first_turn feed at none =
         let P : Shelves → ℕ → Bytes → Type 0 = λ shelves place left. (later : Texts) → AreUndecided state.decided later → PlaysSo (setting readings told most (gained start start ++ later)) stream before place [] shelves left seen before in
-        let here : P empty_shelves 0 stream = λ later free. (begun, (unseen, refl)) in
+        let here : P empty_shelves 0 stream = λ later free. (begun, (unseen, refl), tt) in
         let there : P (shelves_of state) 0 stream = subst (λ (s : Shelves). P s 0 stream) no_shelves here in
         let placed : P (shelves_of state) feed.place stream = subst (λ (n : ℕ). P (shelves_of state) n stream) (sym at) there in
         record {
@@ -108,7 +110,7 @@ module _ (readings : Readings) (told : Option Files) (most : ℕ) (stream : Byte
               subst (λ (refused : Texts). Costs readings refused (shelves_of state) wire seen seen_after steps steps_after) (append-nil (gained start texts_after)) (costs_then [] (undecided_none state_after.decided))
 
         module _ (now : Option Files) (stays : KeepsFiles told now) (wire : Wire) (reply : Reply) (does : DoesStill readings now state wire state_after reply) (feed_after : FeedState) (source_after : Bytes)
-            (next : Next source source_after feed feed_after wire) (goes : wire ≢ wires.End) (seen_after : SeenFiles) (steps_after : ℕ) (costs : CostsStill readings state wire state_after seen seen_after steps steps_after) where
+            (next : Next source source_after feed feed_after wire) (goes : wire ≢ wires.End) (seen_after : SeenFiles) (steps_after : ℕ) (costs : CostsStill readings state wire state_after seen seen_after steps steps_after) (once : ReadsOnce readings state.rules wire) where
           does_then : (later : Texts) → AreUndecided state_after.decided later → Does (setting readings told most (gained start texts_after ++ later)) (shelves_of state) wire (shelves_of state_after) reply
           does_then later free =
               let P : ℕ → Texts → Type 0 = λ n refused. Does (setting readings told n (refused ++ later)) (shelves_of state) wire (shelves_of state_after) reply in
@@ -126,6 +128,7 @@ module _ (readings : Readings) (told : Option Files) (most : ℕ) (stream : Byte
                 more feed.place next.count far.lines (shelves_of state) (shelves_of state_after) (left_of source feed.hand) (left_of source_after feed_after.hand) wire reply was.0
                     (used_left source source_after feed.hand feed_after.hand wire next.count next.used) goes within (does_then later free),
                 (seen, steps, was.1, costs_then wire seen_after steps_after costs later free),
+                (was.2, once),
               )
 
           pub one_turn : (written_after : Bytes) → Appends written_now written_after (concat (lines_of reply)) → PlaysTo readings told most stream start written before state_after seen_after steps_after texts_after written_after feed_after source_after

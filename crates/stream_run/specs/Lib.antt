@@ -11,3 +11,4 @@ pub mod Doing
 pub mod Playing
 pub mod Costs
 pub mod Still
+pub mod Reading

@@ -74,3 +74,17 @@ pub record PrintsWhole (s : Setting) (stream stream_after written written_after 
   pub plays : Plays s stream place lines shelves left
   pub waits : Waits left stream_after []
   pub printed : Appends written written_after (concat lines)
+
+-- What was written are the lines of all commands before a `sync`: the next command that was handed over, and not done.
+pub record PrintsToSync (s : Setting) (stream written written_after : Option (List ℕ)) : Type 0 where
+  pub place : ℕ
+  pub count : ℕ
+  pub lines : List (List ℕ)
+  pub shelves : Shelves
+  pub left : Option (List ℕ)
+  pub rest : Option (List ℕ)
+  pub prefix : List ℕ
+  pub plays : Plays s stream place lines shelves left
+  pub goes : GoesOn left (wires.Sync prefix) count rest
+  pub within : place + count ≤ 268435456
+  pub printed : Appends written written_after (concat lines)

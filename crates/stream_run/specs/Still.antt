@@ -34,6 +34,11 @@ IsEdit wires.Scan = ⊥
 IsEdit wires.Fix = ⊥
 IsEdit _ = Unit {0}
 
+-- a command that looks into the folder
+abbrev pub IsSync : Wire → Type 0
+IsSync (wires.Sync prefix) = Unit {0}
+IsSync _ = ⊥
+
 -- whichever texts are refused in the session, the command does this and comes to this
 abbrev pub DoesEver : Readings → Option Files → State → Wire → State → Reply → Type 0
 DoesEver readings told old wire new reply = (refused : List (List ℕ)) → Does (setting readings told old.most refused) (shelves_of old) wire (shelves_of new) reply

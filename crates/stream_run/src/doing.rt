@@ -6,7 +6,9 @@ ghost use Rattle.scan_world.specs.Files.{Files};
 ghost use Rattle.scan_world.specs.Trees.{KeepsFiles};
 ghost use Rattle.stream_run.specs.declared.fault.PlayFault.TheVariants.{Memory as no_memory};
 ghost use Rattle.stream_run.specs.Faults.{TellsPassed, HasPlayCause};
-ghost use Rattle.stream_run.specs.Still.{IsEdit, DoesEver, PassesEver, DoesStill, PassesNow, CostsStill, Keeps, RefusesGained};
+ghost use Rattle.stream_run.specs.Reading.{ReadsOnce};
+ghost use Rattle.stream_run.specs.Still.{IsEdit, IsSync, DoesEver, PassesEver, DoesStill, PassesNow, CostsStill, Keeps, RefusesGained};
+ghost use Rattle.workspace.specs.Reports.{AreReadOnce};
 ghost use Rattle.wire_stream.specs.declared.wire.Wire.TheVariants.{Scan as scan_wire, Fix as fix_wire};
 
 use crate::fault::PlayFault;
@@ -32,6 +34,8 @@ fn edit<W: Workspace, T: Tree>(
     ensures unseen { W.seen workspace.new ≡ W.seen workspace.old }
     ensures same_reader { W.reader workspace.new ≡ W.reader workspace.old }
     ensures files_kept { KeepsFiles (T.files tree.old) (T.files tree.new) }
+    ensures fails { result ≡ Err PlayFault.Failed → IsSync wire.now }
+    ensures once { (result ≡ Err PlayFault.Memory → ⊥) → ReadsOnce (W.readings (W.reader workspace.old)) (W.state workspace.old).rules wire.now }
     ensures cause { HasPlayCause (T.faults tree.old) (T.faults tree.new) result }
 {
     match wire {
@@ -62,6 +66,7 @@ fn scan<W: Workspace, P: Patterns, L: Ledger>(
 ) -> Result<Reply, PlayFault>
     ensures does { IfOk result (λ reply. (told : Option Files) → DoesStill (W.readings (W.reader workspace.old)) told (W.state workspace.old) scan_wire (W.state workspace.new) reply) }
     ensures cause { IfErr result (λ fault. fault ≡ no_memory) }
+    ensures once { AreReadOnce (W.readings (W.reader workspace.old)).writes (W.state workspace.old).rules }
     ensures work { (result ≡ Err PlayFault.Memory → ⊥) → CostsStill (W.readings (W.reader workspace.old)) (W.state workspace.old) scan_wire (W.state workspace.new) (W.seen workspace.old) (W.seen workspace.new) steps.old steps.new }
     ensures refused { OnOk result (RefusesGained (W.state workspace.old) (W.state workspace.new) (P.refusals patterns.old) (P.refusals patterns.new)) }
     ensures keeps { Keeps (W.state workspace.old) (W.state workspace.new) (P.refusals patterns.old) (P.refusals patterns.new) }
@@ -83,6 +88,7 @@ fn fix<W: Workspace, P: Patterns, L: Ledger>(
     ensures does { IfOk result (λ reply. (told : Option Files) → DoesStill (W.readings (W.reader workspace.old)) told (W.state workspace.old) fix_wire (W.state workspace.new) reply) }
     ensures passes { IfErr result (TellsPassed (λ kind n. (told : Option Files) → PassesNow (W.readings (W.reader workspace.old)) told (W.state workspace.old) fix_wire (W.state workspace.new) kind n)) }
     ensures unfailed { result ≡ Err PlayFault.Failed → ⊥ }
+    ensures once { AreReadOnce (W.readings (W.reader workspace.old)).writes (W.state workspace.old).rules }
     ensures work { (result ≡ Err PlayFault.Memory → ⊥) → CostsStill (W.readings (W.reader workspace.old)) (W.state workspace.old) fix_wire (W.state workspace.new) (W.seen workspace.old) (W.seen workspace.new) steps.old steps.new }
     ensures refused { (result ≡ Err PlayFault.Memory → ⊥) → RefusesGained (W.state workspace.old) (W.state workspace.new) (P.refusals patterns.old) (P.refusals patterns.new) }
     ensures keeps { Keeps (W.state workspace.old) (W.state workspace.new) (P.refusals patterns.old) (P.refusals patterns.new) }
@@ -115,6 +121,8 @@ pub fn play<W: Workspace, T: Tree, P: Patterns, L: Ledger>(
     ensures keeps { Keeps (W.state workspace.old) (W.state workspace.new) (P.refusals patterns.old) (P.refusals patterns.new) }
     ensures same_reader { W.reader workspace.new ≡ W.reader workspace.old }
     ensures files_kept { KeepsFiles (T.files tree.old) (T.files tree.new) }
+    ensures fails { result ≡ Err PlayFault.Failed → IsSync wire.now }
+    ensures once { (result ≡ Err PlayFault.Memory → ⊥) → ReadsOnce (W.readings (W.reader workspace.old)) (W.state workspace.old).rules wire.now }
     ensures cause { HasPlayCause (T.faults tree.old) (T.faults tree.new) result }
 {
     match wire {

@@ -1,12 +1,13 @@
 //! The session of a stream.
 
-ghost use Rattle.std.specs.Prelude.{◌≡◌, ◌⊎◌};
+ghost use Rattle.std.specs.Prelude.{◌≡◌, IsSome};
 ghost use Rattle.scan_world.specs.Faults.{Rose};
 ghost use Rattle.scan_world.specs.Trees.{KeepsFiles};
 ghost use Rattle.decided_texts.specs.Refused.{gained, Gains};
 ghost use Rattle.run_status.specs.Status.{IsAnswer};
+ghost use Rattle.run_status.specs.Ways.{IsOnlyEnd};
 ghost use Rattle.stream_run.specs.Faults.{status_of_wire};
-ghost use Rattle.stream_run.specs.Playing.{PrintsEnd, PrintsFirst, PrintsFront, PrintsWhole};
+ghost use Rattle.stream_run.specs.Playing.{SessionEnds, PrintsEnd, PrintsFirst, PrintsFront, PrintsWhole, PrintsToSync};
 ghost use Rattle.stream_run.specs.Costs.{EndsAfter, FrontAfter};
 ghost use Rattle.stream_run.specs.Still.{setting, IsNew};
 ghost use Rattle.workspace.specs.Seen.{HasSeenNone};
@@ -54,16 +55,20 @@ pub fn serve<W: Workspace, T: Tree, S: Source, K: Sink, P: Patterns, L: Ledger>(
     requires new { IsNew (W.state workspace.old) }
     requires unseen { HasSeenNone (W.seen workspace.old) }
 
-    // A session without a fault ends and prints as the definition says, and leaves the counts of faults as they were.
+    // A session without a fault ends and prints as the definition says, if the stream and the tree are told in no other way, and
+    // leaves the counts of faults as they were.
     ensures ends { IsAnswer result → PrintsEnd (setting (W.readings (W.reader workspace.old)) (T.files tree.old) (W.state workspace.old).most (gained (P.refusals patterns.old) (P.refusals patterns.new))) (S.left input.old) (K.written out.old) (K.written out.new) result }
+    ensures only { IsAnswer result → IsSome (S.left input.old) → IsSome (T.files tree.old) → IsOnlyEnd (SessionEnds (setting (W.readings (W.reader workspace.old)) (T.files tree.old) (W.state workspace.old).most (gained (P.refusals patterns.old) (P.refusals patterns.new))) (S.left input.old)) (K.written out.old) (K.written out.new) result }
     ensures input_kept { IsAnswer result → S.faults input.new ≡ S.faults input.old }
     ensures output_kept { IsAnswer result → K.faults out.new ≡ K.faults out.old }
     ensures tree_kept { IsAnswer result → T.faults tree.new ≡ T.faults tree.old }
 
     // Where memory runs out, a read or a call of the tree fails, whole lines were written: those of the first commands. After a
-    // failed read they are those of all commands that were handed over.
-    ensures first_lines { (result ≡ Status.Memory) ⊎ (result ≡ Status.TreeFault) → PrintsFirst (setting (W.readings (W.reader workspace.old)) (T.files tree.old) (W.state workspace.old).most (gained (P.refusals patterns.old) (P.refusals patterns.new))) (S.left input.old) (K.written out.old) (K.written out.new) }
+    // failed read they are those of all commands that were handed over, and after a failed call of the tree those of all
+    // commands before the `sync` that made it.
+    ensures first_lines { result ≡ Status.Memory → PrintsFirst (setting (W.readings (W.reader workspace.old)) (T.files tree.old) (W.state workspace.old).most (gained (P.refusals patterns.old) (P.refusals patterns.new))) (S.left input.old) (K.written out.old) (K.written out.new) }
     ensures whole_lines { result ≡ Status.InputFault → PrintsWhole (setting (W.readings (W.reader workspace.old)) (T.files tree.old) (W.state workspace.old).most (gained (P.refusals patterns.old) (P.refusals patterns.new))) (S.left input.old) (S.left input.new) (K.written out.old) (K.written out.new) }
+    ensures before_sync { result ≡ Status.TreeFault → PrintsToSync (setting (W.readings (W.reader workspace.old)) (T.files tree.old) (W.state workspace.old).most (gained (P.refusals patterns.old) (P.refusals patterns.new))) (S.left input.old) (K.written out.old) (K.written out.new) }
     ensures front { result ≡ Status.OutputFault → PrintsFront (setting (W.readings (W.reader workspace.old)) (T.files tree.old) (W.state workspace.old).most (gained (P.refusals patterns.old) (P.refusals patterns.new))) (S.left input.old) (K.written out.old) (K.written out.new) }
 
     // A session takes the steps of the commands that it did: of all up to its end, or up to a fault. After want of memory it is

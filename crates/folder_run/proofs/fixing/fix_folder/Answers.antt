@@ -2,7 +2,8 @@ use Rattle.std.proofs.Common.{◌∙◌, ap, Err}
 use Rattle.wire_words.specs.Commands.{task_of}
 use Rattle.decided_texts.specs.Refused.{gained}
 use Rattle.folder_run.proofs.Fixes.{scans_once, none_after, none_wrote, many_after, many_wrote, over_after, over_wrote, done_left, done_after, done_wrote, done_front, not_memory, many_not_memory, over_not_memory}
-use Rattle.stream_run.specs.Still.{setting}
+use Rattle.stream_run.specs.Still.{setting, shelves_of}
+use Rattle.folder_run.proofs.Once.{one_taken, only_fix, only_none}
 use Rattle.folder_run.proofs.fixing.fix_folder.Goals as goal
 
 pub returns-in-Err-clause-ends : goal.returns-in-Err-clause-ends
@@ -68,3 +69,25 @@ returns-in-Err-OverLimit-clause-work g c a =
 pub returns-in-Err-OverLimit-clause-wrote : goal.returns-in-Err-OverLimit-clause-wrote
 returns-in-Err-OverLimit-clause-wrote g c a =
     let e = c.fix.ensures.over _ _ (c.in-Err-OverLimit.is ∙ ap (λ f. Err f) c.in-Err-OverLimit.field-0-is) in rw c.in-Err-OverLimit.field-0-is (over_wrote g.W.Workspace.readings (g.W.Workspace.reader c.args.workspace.now) (g.W.Workspace.reader c.take_folder.new.workspace) c.in-Ok.ensures.same_reader (g.T.Tree.files c.args.tree.now) (g.T.Tree.files c.take_folder.new.tree) c.in-Ok.ensures.kept (task_of c.args.job.now) (g.W.Workspace.state c.args.workspace.now) (g.W.Workspace.state c.take_folder.new.workspace) c.requires.new c.in-Ok.ensures.takes c.in-Ok.ensures.decided c.in-Ok.ensures.most (g.W.Workspace.state c.fix.new.self).decided (gained (g.P.Patterns.refusals c.args.patterns.now) (g.P.Patterns.refusals c.fix.new.patterns)) (c.fix.ensures.refused (λ k. over_not_memory _ _ _ _ c.in-Err-OverLimit.is c.in-Err-OverLimit.field-0-is k)) _ _ e)
+
+pub returns-in-Err-clause-only : goal.returns-in-Err-clause-only
+returns-in-Err-clause-only g c a told =
+    only_none (setting (g.W.Workspace.readings (g.W.Workspace.reader c.args.workspace.now)) (g.T.Tree.files c.args.tree.now) (g.W.Workspace.state c.args.workspace.now).most _) told (task_of c.args.job.now) (c.in-Err.ensures.once told a) (g.K.Sink.written c.args.out.now) c.in-Err.status (c.in-Err.ensures.none a)
+
+pub returns-in-Ok-fix-clause-only : goal.returns-in-Ok-fix-clause-only
+returns-in-Ok-fix-clause-only g c a told =
+    let rules = c.in-Ok.ensures.once told tt in
+    only_fix (setting (g.W.Workspace.readings (g.W.Workspace.reader c.args.workspace.now)) (g.T.Tree.files c.args.tree.now) (g.W.Workspace.state c.args.workspace.now).most (gained (g.P.Patterns.refusals c.args.patterns.now) (g.P.Patterns.refusals c.fix.new.patterns))) told (task_of c.args.job.now) rules (one_taken (setting (g.W.Workspace.readings (g.W.Workspace.reader c.args.workspace.now)) (g.T.Tree.files c.args.tree.now) (g.W.Workspace.state c.args.workspace.now).most (gained (g.P.Patterns.refusals c.args.patterns.now) (g.P.Patterns.refusals c.fix.new.patterns))) told (task_of c.args.job.now) rules (shelves_of (g.W.Workspace.state c.take_folder.new.workspace)) c.in-Ok.ensures.takes (rw c.in-Ok.ensures.same_reader at c.fix.ensures.one)) _ _ _
+    (returns-in-Ok-fix-clause-ends g c a)
+
+pub returns-in-Err-TooMany-clause-only : goal.returns-in-Err-TooMany-clause-only
+returns-in-Err-TooMany-clause-only g c a told =
+    let rules = c.in-Ok.ensures.once told tt in
+    only_fix (setting (g.W.Workspace.readings (g.W.Workspace.reader c.args.workspace.now)) (g.T.Tree.files c.args.tree.now) (g.W.Workspace.state c.args.workspace.now).most (gained (g.P.Patterns.refusals c.args.patterns.now) (g.P.Patterns.refusals c.fix.new.patterns))) told (task_of c.args.job.now) rules (one_taken (setting (g.W.Workspace.readings (g.W.Workspace.reader c.args.workspace.now)) (g.T.Tree.files c.args.tree.now) (g.W.Workspace.state c.args.workspace.now).most (gained (g.P.Patterns.refusals c.args.patterns.now) (g.P.Patterns.refusals c.fix.new.patterns))) told (task_of c.args.job.now) rules (shelves_of (g.W.Workspace.state c.take_folder.new.workspace)) c.in-Ok.ensures.takes (rw c.in-Ok.ensures.same_reader at c.fix.ensures.one)) _ _ _
+    (returns-in-Err-TooMany-clause-ends g c a)
+
+pub returns-in-Err-OverLimit-clause-only : goal.returns-in-Err-OverLimit-clause-only
+returns-in-Err-OverLimit-clause-only g c a told =
+    let rules = c.in-Ok.ensures.once told tt in
+    only_fix (setting (g.W.Workspace.readings (g.W.Workspace.reader c.args.workspace.now)) (g.T.Tree.files c.args.tree.now) (g.W.Workspace.state c.args.workspace.now).most (gained (g.P.Patterns.refusals c.args.patterns.now) (g.P.Patterns.refusals c.fix.new.patterns))) told (task_of c.args.job.now) rules (one_taken (setting (g.W.Workspace.readings (g.W.Workspace.reader c.args.workspace.now)) (g.T.Tree.files c.args.tree.now) (g.W.Workspace.state c.args.workspace.now).most (gained (g.P.Patterns.refusals c.args.patterns.now) (g.P.Patterns.refusals c.fix.new.patterns))) told (task_of c.args.job.now) rules (shelves_of (g.W.Workspace.state c.take_folder.new.workspace)) c.in-Ok.ensures.takes (rw c.in-Ok.ensures.same_reader at c.fix.ensures.one)) _ _ _
+    (returns-in-Err-OverLimit-clause-ends g c a)

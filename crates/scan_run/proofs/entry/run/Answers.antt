@@ -7,7 +7,7 @@ use Rattle.scan_run.specs.Status.{IsOfInput}
 use Rattle.scan_run.proofs.Files.{keeps_self}
 use Rattle.decided_texts.specs.Refused.{gained}
 use Rattle.scan_run.specs.Run.{Asks, TakesFor}
-use Rattle.scan_run.proofs.Requests.{ends_usage, only_usage, ends_match, only_match, front_match, some_match, ends_check, only_check, front_check, ends_scan, only_scan, front_scan, only_other, ends_fix, front_fix, ends_session, front_session, some_session, commands_session, ends_drill, front_drill, as_asked, fix_asked, scans_something, no_match_in_check, no_match_in_scan, no_read_in_scan, no_match_in_fix, no_read_in_fix, no_session_in_fix, no_match_in_session, no_read_in_session, no_fix_in_session, no_fix_in_match, no_session_in_match, no_fix_in_check, no_session_in_check, no_fix_in_scan, no_session_in_scan, no_match_in_drill, no_read_in_drill, no_fix_in_drill, no_session_in_drill}
+use Rattle.scan_run.proofs.Requests.{ends_usage, only_usage, only_by, ends_match, front_match, some_match, ends_check, front_check, ends_scan, front_scan, ends_fix, front_fix, ends_session, front_session, some_session, commands_session, ends_drill, front_drill, as_asked, fix_asked, scans_something, no_match_in_check, no_match_in_scan, no_read_in_scan, no_match_in_fix, no_read_in_fix, no_session_in_fix, no_match_in_session, no_read_in_session, no_fix_in_session, no_fix_in_match, no_session_in_match, no_fix_in_check, no_session_in_check, no_fix_in_scan, no_session_in_scan, no_match_in_drill, no_read_in_drill, no_fix_in_drill, no_session_in_drill}
 use Rattle.scan_run.proofs.Leaving.{kept_unless_written, cut_by_memory}
 use Rattle.folder_run.specs.Written.{Wrote, Leaves}
 use Rattle.scan_run.specs.Serving.{setting}
@@ -50,7 +50,7 @@ pub returns-in-Some-Match-clause-only : goal.returns-in-Some-Match-clause-only
 returns-in-Some-Match-clause-only g c a told =
     let words = map string_bytes c.args.words.now.items in
     let is = asks words _ _ c.in-Some-Match.field-0-is c.in-Some-Match.ensures.read in
-    only_match words (g.S.Source.left c.args.input.now) (g.T.Tree.files c.args.tree.now) _ (g.K.Sink.written c.args.out.now) (g.K.Sink.written c.run_match.new.out) c.in-Some-Match.lang c.in-Some-Match.text.now is (only_asks words _ _ c.in-Some-Match.field-0-is c.in-Some-Match.ensures.only) c.run_match.result told (c.run_match.ensures.only a)
+    only_by words (g.S.Source.left c.args.input.now) (g.T.Tree.files c.args.tree.now) _ (Matching c.in-Some-Match.lang c.in-Some-Match.text.now) is (only_asks words _ _ c.in-Some-Match.field-0-is c.in-Some-Match.ensures.only) (g.K.Sink.written c.args.out.now) (g.K.Sink.written c.run_match.new.out) c.run_match.result told (c.run_match.ensures.only a)
 
 pub returns-in-Some-Match-clause-read_to_its_end : goal.returns-in-Some-Match-clause-read_to_its_end
 returns-in-Some-Match-clause-read_to_its_end g c ask = c.run_match.ensures.read_to_its_end
@@ -102,7 +102,7 @@ pub returns-in-Some-Check-clause-only : goal.returns-in-Some-Check-clause-only
 returns-in-Some-Check-clause-only g c a told =
     let words = map string_bytes c.args.words.now.items in
     let is = asks words _ _ c.in-Some-Check.field-0-is c.in-Some-Check.ensures.read in
-    only_check words (g.S.Source.left c.args.input.now) (g.T.Tree.files c.args.tree.now) _ (g.K.Sink.written c.args.out.now) (g.K.Sink.written c.run_check.new.out) is (only_asks words _ _ c.in-Some-Check.field-0-is c.in-Some-Check.ensures.only) c.run_check.result told (c.run_check.ensures.only a)
+    only_by words (g.S.Source.left c.args.input.now) (g.T.Tree.files c.args.tree.now) _ Checking is (only_asks words _ _ c.in-Some-Check.field-0-is c.in-Some-Check.ensures.only) (g.K.Sink.written c.args.out.now) (g.K.Sink.written c.run_check.new.out) c.run_check.result told (c.run_check.ensures.only a)
 
 pub returns-in-Some-Check-clause-read_to_its_end : goal.returns-in-Some-Check-clause-read_to_its_end
 returns-in-Some-Check-clause-read_to_its_end g c ask = c.run_check.ensures.read_to_its_end
@@ -152,7 +152,7 @@ pub returns-in-Some-Scan-clause-only : goal.returns-in-Some-Scan-clause-only
 returns-in-Some-Scan-clause-only g c a told =
     let words = map string_bytes c.args.words.now.items in
     let is = asks words _ _ c.in-Some-Scan.field-0-is c.in-Some-Scan.ensures.read in
-    only_scan words (g.S.Source.left c.args.input.now) (g.T.Tree.files c.args.tree.now) _ (g.K.Sink.written c.args.out.now) (g.K.Sink.written c.run_scan.new.out) (task_of c.in-Some-Scan.job) is (only_asks words _ _ c.in-Some-Scan.field-0-is c.in-Some-Scan.ensures.only) c.run_scan.result told (c.run_scan.ensures.only a)
+    only_by words (g.S.Source.left c.args.input.now) (g.T.Tree.files c.args.tree.now) _ (Scanning (task_of c.in-Some-Scan.job)) is (only_asks words _ _ c.in-Some-Scan.field-0-is c.in-Some-Scan.ensures.only) (g.K.Sink.written c.args.out.now) (g.K.Sink.written c.run_scan.new.out) c.run_scan.result told (c.run_scan.ensures.only a)
 
 pub returns-in-Some-Scan-clause-read_to_its_end : goal.returns-in-Some-Scan-clause-read_to_its_end
 returns-in-Some-Scan-clause-read_to_its_end g c ask =
@@ -238,8 +238,9 @@ returns-in-Some-Fix-clause-ends g c a =
 
 pub returns-in-Some-Fix-clause-only : goal.returns-in-Some-Fix-clause-only
 returns-in-Some-Fix-clause-only g c a told =
-    let is = asks (map string_bytes c.args.words.now.items) _ _ c.in-Some-Fix.field-0-is c.in-Some-Fix.ensures.read in
-    only_other (map string_bytes c.args.words.now.items) (g.S.Source.left c.args.input.now) (g.T.Tree.files c.args.tree.now) _ (g.K.Sink.written c.args.out.now) (g.K.Sink.written c.run_fix.new.out) (Fixing (task_of c.in-Some-Fix.job)) is (λ x. x) c.run_fix.result told
+    let words = map string_bytes c.args.words.now.items in
+    let is = asks words _ _ c.in-Some-Fix.field-0-is c.in-Some-Fix.ensures.read in
+    only_by words (g.S.Source.left c.args.input.now) (g.T.Tree.files c.args.tree.now) _ (Fixing (task_of c.in-Some-Fix.job)) is (only_asks words _ _ c.in-Some-Fix.field-0-is c.in-Some-Fix.ensures.only) (g.K.Sink.written c.args.out.now) (g.K.Sink.written c.run_fix.new.out) c.run_fix.result told (c.run_fix.ensures.only a)
 
 pub returns-in-Some-Fix-clause-read_to_its_end : goal.returns-in-Some-Fix-clause-read_to_its_end
 returns-in-Some-Fix-clause-read_to_its_end g c ask =
@@ -307,8 +308,9 @@ returns-in-Some-Session-clause-ends g c a =
 
 pub returns-in-Some-Session-clause-only : goal.returns-in-Some-Session-clause-only
 returns-in-Some-Session-clause-only g c a told =
-    let is = asks (map string_bytes c.args.words.now.items) _ _ c.in-Some-Session.field-0-is c.in-Some-Session.ensures.read in
-    only_other (map string_bytes c.args.words.now.items) (g.S.Source.left c.args.input.now) (g.T.Tree.files c.args.tree.now) _ (g.K.Sink.written c.args.out.now) (g.K.Sink.written c.run_session.new.out) (Serving c.in-Some-Session.most c.in-Some-Session.trace) is (λ x. x) c.run_session.result told
+    let words = map string_bytes c.args.words.now.items in
+    let is = asks words _ _ c.in-Some-Session.field-0-is c.in-Some-Session.ensures.read in
+    only_by words (g.S.Source.left c.args.input.now) (g.T.Tree.files c.args.tree.now) _ (Serving c.in-Some-Session.most c.in-Some-Session.trace) is (only_asks words _ _ c.in-Some-Session.field-0-is c.in-Some-Session.ensures.only) (g.K.Sink.written c.args.out.now) (g.K.Sink.written c.run_session.new.out) c.run_session.result told (λ both. c.run_session.ensures.only a both.0 both.1)
 
 pub returns-in-Some-Session-clause-read_to_its_end : goal.returns-in-Some-Session-clause-read_to_its_end
 returns-in-Some-Session-clause-read_to_its_end g c ask =
@@ -374,8 +376,9 @@ returns-in-Some-Drill-clause-ends g c a =
 
 pub returns-in-Some-Drill-clause-only : goal.returns-in-Some-Drill-clause-only
 returns-in-Some-Drill-clause-only g c a told =
-    let is = asks (map string_bytes c.args.words.now.items) _ _ c.in-Some-Drill.field-0-is c.in-Some-Drill.ensures.read in
-    only_other (map string_bytes c.args.words.now.items) (g.S.Source.left c.args.input.now) (g.T.Tree.files c.args.tree.now) _ (g.K.Sink.written c.args.out.now) (g.K.Sink.written c.run_drill.new.out) (Drilling c.in-Some-Drill.count) is (λ x. x) c.run_drill.result told
+    let words = map string_bytes c.args.words.now.items in
+    let is = asks words _ _ c.in-Some-Drill.field-0-is c.in-Some-Drill.ensures.read in
+    only_by words (g.S.Source.left c.args.input.now) (g.T.Tree.files c.args.tree.now) _ (Drilling c.in-Some-Drill.count) is (only_asks words _ _ c.in-Some-Drill.field-0-is c.in-Some-Drill.ensures.only) (g.K.Sink.written c.args.out.now) (g.K.Sink.written c.run_drill.new.out) c.run_drill.result told (λ _. c.run_drill.ensures.only a)
 
 pub returns-in-Some-Drill-clause-read_to_its_end : goal.returns-in-Some-Drill-clause-read_to_its_end
 returns-in-Some-Drill-clause-read_to_its_end g c ask =
@@ -434,3 +437,109 @@ pub returns-in-Some-Drill-clause-patterns_kept : goal.returns-in-Some-Drill-clau
 returns-in-Some-Drill-clause-patterns_kept g c nay =
     let is = asks (map string_bytes c.args.words.now.items) _ _ c.in-Some-Drill.field-0-is c.in-Some-Drill.ensures.read in
     absurd (scans_something (map string_bytes c.args.words.now.items) (Drilling c.in-Some-Drill.count) (only_asks (map string_bytes c.args.words.now.items) _ _ c.in-Some-Drill.field-0-is c.in-Some-Drill.ensures.only) is (λ x. x) nay)
+
+pub returns-in-None-clause-input_alone : goal.returns-in-None-clause-input_alone
+returns-in-None-clause-input_alone g c read serve = refl
+
+pub returns-in-None-clause-tree_alone : goal.returns-in-None-clause-tree_alone
+returns-in-None-clause-tree_alone g c nay = refl
+
+pub returns-in-Some-Match-clause-input_alone : goal.returns-in-Some-Match-clause-input_alone
+returns-in-Some-Match-clause-input_alone g c read serve =
+    let is = asks (map string_bytes c.args.words.now.items) _ _ c.in-Some-Match.field-0-is c.in-Some-Match.ensures.read in
+    absurd (read (inl (c.in-Some-Match.lang, c.in-Some-Match.text.now, is)))
+
+pub returns-in-Some-Match-clause-tree_alone : goal.returns-in-Some-Match-clause-tree_alone
+returns-in-Some-Match-clause-tree_alone g c nay = refl
+
+pub returns-in-Some-Check-clause-input_alone : goal.returns-in-Some-Check-clause-input_alone
+returns-in-Some-Check-clause-input_alone g c read serve =
+    let is = asks (map string_bytes c.args.words.now.items) _ _ c.in-Some-Check.field-0-is c.in-Some-Check.ensures.read in
+    absurd (read (inr is))
+
+pub returns-in-Some-Check-clause-tree_alone : goal.returns-in-Some-Check-clause-tree_alone
+returns-in-Some-Check-clause-tree_alone g c nay = refl
+
+pub returns-in-Some-Scan-clause-input_alone : goal.returns-in-Some-Scan-clause-input_alone
+returns-in-Some-Scan-clause-input_alone g c read serve = refl
+
+pub returns-in-Some-Fix-clause-input_alone : goal.returns-in-Some-Fix-clause-input_alone
+returns-in-Some-Fix-clause-input_alone g c read serve = refl
+
+pub returns-in-Some-Drill-clause-input_alone : goal.returns-in-Some-Drill-clause-input_alone
+returns-in-Some-Drill-clause-input_alone g c read serve = refl
+
+pub returns-in-Some-Scan-clause-tree_alone : goal.returns-in-Some-Scan-clause-tree_alone
+returns-in-Some-Scan-clause-tree_alone g c nay =
+    let is = asks (map string_bytes c.args.words.now.items) _ _ c.in-Some-Scan.field-0-is c.in-Some-Scan.ensures.read in
+    absurd (scans_something (map string_bytes c.args.words.now.items) (Scanning (task_of c.in-Some-Scan.job)) (only_asks (map string_bytes c.args.words.now.items) _ _ c.in-Some-Scan.field-0-is c.in-Some-Scan.ensures.only) is (λ x. x) nay)
+
+pub returns-in-Some-Fix-clause-tree_alone : goal.returns-in-Some-Fix-clause-tree_alone
+returns-in-Some-Fix-clause-tree_alone g c nay =
+    let is = asks (map string_bytes c.args.words.now.items) _ _ c.in-Some-Fix.field-0-is c.in-Some-Fix.ensures.read in
+    absurd (scans_something (map string_bytes c.args.words.now.items) (Fixing (task_of c.in-Some-Fix.job)) (only_asks (map string_bytes c.args.words.now.items) _ _ c.in-Some-Fix.field-0-is c.in-Some-Fix.ensures.only) is (λ x. x) nay)
+
+pub returns-in-Some-Session-clause-tree_alone : goal.returns-in-Some-Session-clause-tree_alone
+returns-in-Some-Session-clause-tree_alone g c nay =
+    let is = asks (map string_bytes c.args.words.now.items) _ _ c.in-Some-Session.field-0-is c.in-Some-Session.ensures.read in
+    absurd (scans_something (map string_bytes c.args.words.now.items) (Serving c.in-Some-Session.most c.in-Some-Session.trace) (only_asks (map string_bytes c.args.words.now.items) _ _ c.in-Some-Session.field-0-is c.in-Some-Session.ensures.only) is (λ x. x) nay)
+
+pub returns-in-Some-Drill-clause-tree_alone : goal.returns-in-Some-Drill-clause-tree_alone
+returns-in-Some-Drill-clause-tree_alone g c nay =
+    let is = asks (map string_bytes c.args.words.now.items) _ _ c.in-Some-Drill.field-0-is c.in-Some-Drill.ensures.read in
+    absurd (scans_something (map string_bytes c.args.words.now.items) (Drilling c.in-Some-Drill.count) (only_asks (map string_bytes c.args.words.now.items) _ _ c.in-Some-Drill.field-0-is c.in-Some-Drill.ensures.only) is (λ x. x) nay)
+
+pub returns-in-Some-Session-clause-input_alone : goal.returns-in-Some-Session-clause-input_alone
+returns-in-Some-Session-clause-input_alone g c read serve =
+    let is = asks (map string_bytes c.args.words.now.items) _ _ c.in-Some-Session.field-0-is c.in-Some-Session.ensures.read in
+    absurd (serve (c.in-Some-Session.most, c.in-Some-Session.trace, is))
+
+pub returns-in-Some-Match-clause-all_read_written : goal.returns-in-Some-Match-clause-all_read_written
+returns-in-Some-Match-clause-all_read_written g c ask fault = absurd (no_session_in_match (map string_bytes c.args.words.now.items) c.in-Some-Match.lang c.in-Some-Match.text.now (only_asks (map string_bytes c.args.words.now.items) _ _ c.in-Some-Match.field-0-is c.in-Some-Match.ensures.only) ask)
+
+pub returns-in-Some-Check-clause-all_read_written : goal.returns-in-Some-Check-clause-all_read_written
+returns-in-Some-Check-clause-all_read_written g c ask fault = absurd (no_session_in_check (map string_bytes c.args.words.now.items) (only_asks (map string_bytes c.args.words.now.items) _ _ c.in-Some-Check.field-0-is c.in-Some-Check.ensures.only) ask)
+
+pub returns-in-Some-Scan-clause-all_read_written : goal.returns-in-Some-Scan-clause-all_read_written
+returns-in-Some-Scan-clause-all_read_written g c ask fault = absurd (no_session_in_scan (map string_bytes c.args.words.now.items) (task_of c.in-Some-Scan.job) (only_asks (map string_bytes c.args.words.now.items) _ _ c.in-Some-Scan.field-0-is c.in-Some-Scan.ensures.only) ask)
+
+pub returns-in-None-clause-all_read_written : goal.returns-in-None-clause-all_read_written
+returns-in-None-clause-all_read_written g c (most, trace, is) fault = absurd (c.in-None.ensures.only _ is)
+
+pub returns-in-Some-Fix-clause-all_read_written : goal.returns-in-Some-Fix-clause-all_read_written
+returns-in-Some-Fix-clause-all_read_written g c ask fault =
+    absurd (no_session_in_fix (map string_bytes c.args.words.now.items) (task_of c.in-Some-Fix.job) (only_asks (map string_bytes c.args.words.now.items) _ _ c.in-Some-Fix.field-0-is c.in-Some-Fix.ensures.only) ask)
+
+pub returns-in-Some-Drill-clause-all_read_written : goal.returns-in-Some-Drill-clause-all_read_written
+returns-in-Some-Drill-clause-all_read_written g c ask fault =
+    absurd (no_session_in_drill (map string_bytes c.args.words.now.items) c.in-Some-Drill.count (only_asks (map string_bytes c.args.words.now.items) _ _ c.in-Some-Drill.field-0-is c.in-Some-Drill.ensures.only) ask)
+
+pub returns-in-Some-Session-clause-all_read_written : goal.returns-in-Some-Session-clause-all_read_written
+returns-in-Some-Session-clause-all_read_written g c ask fault =
+    let is = asks (map string_bytes c.args.words.now.items) _ _ c.in-Some-Session.field-0-is c.in-Some-Session.ensures.read in
+    (c.in-Some-Session.most, c.in-Some-Session.trace, is, c.run_session.ensures.all_read_written fault)
+
+pub returns-in-Some-Match-clause-before_sync_written : goal.returns-in-Some-Match-clause-before_sync_written
+returns-in-Some-Match-clause-before_sync_written g c ask fault = absurd (no_session_in_match (map string_bytes c.args.words.now.items) c.in-Some-Match.lang c.in-Some-Match.text.now (only_asks (map string_bytes c.args.words.now.items) _ _ c.in-Some-Match.field-0-is c.in-Some-Match.ensures.only) ask)
+
+pub returns-in-Some-Check-clause-before_sync_written : goal.returns-in-Some-Check-clause-before_sync_written
+returns-in-Some-Check-clause-before_sync_written g c ask fault = absurd (no_session_in_check (map string_bytes c.args.words.now.items) (only_asks (map string_bytes c.args.words.now.items) _ _ c.in-Some-Check.field-0-is c.in-Some-Check.ensures.only) ask)
+
+pub returns-in-Some-Scan-clause-before_sync_written : goal.returns-in-Some-Scan-clause-before_sync_written
+returns-in-Some-Scan-clause-before_sync_written g c ask fault = absurd (no_session_in_scan (map string_bytes c.args.words.now.items) (task_of c.in-Some-Scan.job) (only_asks (map string_bytes c.args.words.now.items) _ _ c.in-Some-Scan.field-0-is c.in-Some-Scan.ensures.only) ask)
+
+pub returns-in-None-clause-before_sync_written : goal.returns-in-None-clause-before_sync_written
+returns-in-None-clause-before_sync_written g c (most, trace, is) fault = absurd (c.in-None.ensures.only _ is)
+
+pub returns-in-Some-Fix-clause-before_sync_written : goal.returns-in-Some-Fix-clause-before_sync_written
+returns-in-Some-Fix-clause-before_sync_written g c ask fault =
+    absurd (no_session_in_fix (map string_bytes c.args.words.now.items) (task_of c.in-Some-Fix.job) (only_asks (map string_bytes c.args.words.now.items) _ _ c.in-Some-Fix.field-0-is c.in-Some-Fix.ensures.only) ask)
+
+pub returns-in-Some-Drill-clause-before_sync_written : goal.returns-in-Some-Drill-clause-before_sync_written
+returns-in-Some-Drill-clause-before_sync_written g c ask fault =
+    absurd (no_session_in_drill (map string_bytes c.args.words.now.items) c.in-Some-Drill.count (only_asks (map string_bytes c.args.words.now.items) _ _ c.in-Some-Drill.field-0-is c.in-Some-Drill.ensures.only) ask)
+
+pub returns-in-Some-Session-clause-before_sync_written : goal.returns-in-Some-Session-clause-before_sync_written
+returns-in-Some-Session-clause-before_sync_written g c ask fault =
+    let is = asks (map string_bytes c.args.words.now.items) _ _ c.in-Some-Session.field-0-is c.in-Some-Session.ensures.read in
+    (c.in-Some-Session.most, c.in-Some-Session.trace, is, c.run_session.ensures.before_sync_written fault)

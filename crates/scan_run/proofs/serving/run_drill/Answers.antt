@@ -1,5 +1,5 @@
 use Rattle.std.specs.Prelude.{None, false}
-use Rattle.run_status.specs.Ways.{Printed, PrintedFront}
+use Rattle.run_status.specs.Ways.{Printed, PrintedFront, IsOnlyEnd}
 use Rattle.stream_run.specs.Doing.{Setting}
 use Rattle.drill_run.specs.Drilling.{DrillEnds}
 use Rattle.drill_run.specs.Costs.{DrilledAfter}
@@ -20,3 +20,7 @@ returns-clause-work g c a =
 pub returns-clause-front_written : goal.returns-clause-front_written
 returns-clause-front_written g c e =
     of_setting None _ 50000 false _ _ c.new-session.ensures.new c.new-session.ensures.traced (λ (s : Setting). PrintedFront (DrillEnds s c.args.count) (g.K.Sink.written c.args.out.now) (g.K.Sink.written c.drill.new.out)) (c.drill.ensures.front_written e)
+
+pub returns-clause-only : goal.returns-clause-only
+returns-clause-only g c a =
+    of_setting None _ 50000 false _ _ c.new-session.ensures.new c.new-session.ensures.traced (λ (s : Setting). IsOnlyEnd (DrillEnds s c.args.count) (g.K.Sink.written c.args.out.now) (g.K.Sink.written c.drill.new.out) c.drill.result) (c.drill.ensures.only a)

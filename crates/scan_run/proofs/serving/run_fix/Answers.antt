@@ -1,5 +1,5 @@
 use Rattle.wire_words.specs.Commands.{task_of}
-use Rattle.run_status.specs.Ways.{Printed, PrintedFront}
+use Rattle.run_status.specs.Ways.{Printed, PrintedFront, IsOnlyEnd}
 use Rattle.stream_run.specs.Doing.{Setting}
 use Rattle.folder_run.specs.Ends.{FixPrints}
 use Rattle.folder_run.specs.Costs.{FixedAfter}
@@ -32,3 +32,8 @@ pub returns-clause-front_written : goal.returns-clause-front_written
 returns-clause-front_written g c e =
     of_setting (g.T.Tree.files c.args.tree.now) _ c.args.job.now.most c.args.job.now.trace _ _ c.new-session.ensures.new c.new-session.ensures.traced (λ (s : Setting). PrintedFront (FixPrints s (task_of c.args.job.now)) (g.K.Sink.written c.args.out.now) (g.K.Sink.written c.fix_folder.new.out))
     (c.fix_folder.ensures.front_written e)
+
+pub returns-clause-only : goal.returns-clause-only
+returns-clause-only g c a told =
+    of_setting (g.T.Tree.files c.args.tree.now) _ c.args.job.now.most c.args.job.now.trace _ _ c.new-session.ensures.new c.new-session.ensures.traced
+    (λ (s : Setting). IsOnlyEnd (FixPrints s (task_of c.args.job.now)) (g.K.Sink.written c.args.out.now) (g.K.Sink.written c.fix_folder.new.out) c.fix_folder.result) (c.fix_folder.ensures.only a told)

@@ -1,6 +1,6 @@
-use Rattle.run_status.specs.Ways.{Printed}
+use Rattle.run_status.specs.Ways.{Printed, IsOnlyEnd}
 use Rattle.stream_run.specs.Doing.{Setting}
-use Rattle.stream_run.specs.Playing.{PrintsEnd, PrintsFirst, PrintsFront}
+use Rattle.stream_run.specs.Playing.{SessionEnds, PrintsEnd, PrintsFirst, PrintsFront, PrintsWhole, PrintsToSync}
 use Rattle.stream_run.specs.Costs.{EndsAfter}
 use Rattle.scan_run.proofs.Settings.{is_new, of_setting, printed_of, first_lines, no_absence}
 use Rattle.scan_run.proofs.serving.run_session.Goals as goal
@@ -21,7 +21,7 @@ returns-clause-work g c a =
 pub returns-clause-commands_written : goal.returns-clause-commands_written
 returns-clause-commands_written g c cut =
     of_setting (g.T.Tree.files c.args.tree.now) _ c.args.most c.args.traced _ _ c.new-session.ensures.new c.new-session.ensures.traced (λ (s : Setting). PrintsFirst s (g.S.Source.left c.args.input.now) (g.K.Sink.written c.args.out.now) (g.K.Sink.written c.serve.new.out))
-    (first_lines _ _ _ _ _ c.serve.result c.serve.ensures.first_lines c.serve.ensures.whole_lines cut)
+    (first_lines _ _ _ _ _ c.serve.result c.serve.ensures.first_lines c.serve.ensures.before_sync c.serve.ensures.whole_lines cut)
 
 pub returns-clause-front_written : goal.returns-clause-front_written
 returns-clause-front_written g c e =
@@ -29,3 +29,18 @@ returns-clause-front_written g c e =
 
 pub returns-clause-there : goal.returns-clause-there
 returns-clause-there g c e = no_absence _ _ _ _ c.serve.result c.serve.ensures.ends e
+
+pub returns-clause-all_read_written : goal.returns-clause-all_read_written
+returns-clause-all_read_written g c e =
+    of_setting (g.T.Tree.files c.args.tree.now) _ c.args.most c.args.traced _ _ c.new-session.ensures.new c.new-session.ensures.traced
+    (λ (s : Setting). PrintsWhole s (g.S.Source.left c.args.input.now) (g.S.Source.left c.serve.new.input) (g.K.Sink.written c.args.out.now) (g.K.Sink.written c.serve.new.out)) (c.serve.ensures.whole_lines e)
+
+pub returns-clause-before_sync_written : goal.returns-clause-before_sync_written
+returns-clause-before_sync_written g c e =
+    of_setting (g.T.Tree.files c.args.tree.now) _ c.args.most c.args.traced _ _ c.new-session.ensures.new c.new-session.ensures.traced
+    (λ (s : Setting). PrintsToSync s (g.S.Source.left c.args.input.now) (g.K.Sink.written c.args.out.now) (g.K.Sink.written c.serve.new.out)) (c.serve.ensures.before_sync e)
+
+pub returns-clause-only : goal.returns-clause-only
+returns-clause-only g c a left told =
+    of_setting (g.T.Tree.files c.args.tree.now) _ c.args.most c.args.traced _ _ c.new-session.ensures.new c.new-session.ensures.traced
+    (λ (s : Setting). IsOnlyEnd (SessionEnds s (g.S.Source.left c.args.input.now)) (g.K.Sink.written c.args.out.now) (g.K.Sink.written c.serve.new.out) c.serve.result) (c.serve.ensures.only a left told)
