@@ -150,6 +150,7 @@ pub trait Workspace {
         ensures work { (result ≡ Err fix_faults.Memory → ⊥) → Works (readings (reader self.old)) (state self.new).decided.refused (state self.old).files (state self.old).rules (seen self.old) (seen self.new) steps.old steps.new }
         // After want of memory nothing was seen, or what was seen is as before, or the files were seen.
         ensures forgotten { result ≡ Err fix_faults.Memory → HasSeenNone (seen self.new) ⊎ (seen self.new ≡ seen self.old) ⊎ Works (readings (reader self.old)) (state self.new).decided.refused (state self.old).files (state self.old).rules (seen self.old) (seen self.new) steps.old steps.new }
+        ensures leaves { (result ≡ Err fix_faults.Memory → ⊥) → HasRightLeaves (seen self.new) }
         ensures refused_fix { OnErr result ((state self.new).files ≡ (state self.old).files) }
         ensures same { state self.new ≡ with_decided (with_files (state self.old) (state self.new).files) (state self.new).decided }
         ensures same_reader { reader self.new ≡ reader self.old }

@@ -18,6 +18,9 @@ returns-in-Err-TooMany-clause-too_many g c n e =
     let P : ℕ → Type 0 = λ m. (m ≡ c.args.self.now.most) × HasMoreResults (readings_of (g.R.TreeReader.spells r) (g.R.TreeReader.knows r) (g.R.CommentReader.comments r) (g.R.PatternReader.writes r) c.args.self.now.scans.traced) c.scan.new.self.scans.decided.refused c.args.self.now.files c.args.self.now.scans.rules.files m in
     subst P (ap most_of e) (c.in-Err-TooMany.ensures.too_many c.in-Err-TooMany.most (ap Err c.in-Err-TooMany.field-0-is))
 
+pub returns-in-Err-TooMany-clause-leaves : goal.returns-in-Err-TooMany-clause-leaves
+returns-in-Err-TooMany-clause-leaves g c other = let many = c.in-Err-TooMany.field-0-is in c.in-Err-TooMany.ensures.leaves (λ e. absurd cc)
+
 pub fixed_files-requires : goal.fixed_files-requires
 fixed_files-requires g c = in_order c.in-Ok.report.results c.in-Ok.ensures.report.fresh.results.ordered
 
@@ -49,3 +52,9 @@ returns-clause-over g c kind n e =
       few = c.in-Ok.ensures.few;
       passes = ap over_limit (sym (texts_put c.args.self.now.files c.scan.new.self.files c.as_slice-2.result.now c.in_ok-files.files same (c.as_slice-2.ensures ∙ c.in_ok-texts.ensures ∙ ap (map text_of) c.as_slice.ensures))) ∙ (subst T c.in-Err-OverLimit.field-0-is c.in-Err-OverLimit.ensures.over ∙ ap limit_of e);
     }
+
+pub returns-in-Ok-replace_all-clause-leaves : goal.returns-in-Ok-replace_all-clause-leaves
+returns-in-Ok-replace_all-clause-leaves g c other = c.in-Ok.ensures.leaves (λ e. absurd cc)
+
+pub returns-clause-leaves : goal.returns-clause-leaves
+returns-clause-leaves g c other = c.in-Ok.ensures.leaves (λ e. absurd cc)
