@@ -1,5 +1,5 @@
 -- What rules find by the names of a file.
-use Rattle.std.proofs.Common.{◌≡◌, inl, inr, ◌↔◌, ℕ, Bool, true, false, List, [], ◌∷◌, ◌++◌, refl, sym, subst}
+use Rattle.std.proofs.Common.{◌≡◌, inl, inr, ◌↔◌, ℕ, Bool, true, false, List, [], ◌∷◌, ◌++◌, refl, sym, ◌∙◌, subst}
 use Rattle.std.specs.Prelude.{Result, Ok, Err, IfOk}
 use Rattle.node_tree.specs.declared.known.Known.{Known}
 use Rattle.node_tree.specs.declared.node.Node.{Node}
@@ -14,10 +14,12 @@ use Rattle.node_match.proofs.Sets.{adds_as}
 use Rattle.tree_match.specs.declared.leaf.Leaf.{Leaf}
 use Rattle.tree_match.specs.declared.leaf.Leaf.TheVariants.{Full}
 use Rattle.file_match.specs.Trees.{known_in}
-use Rattle.literal_use.specs.Literals.{LeavesNeedNoNames}
+use Rattle.literal_use.specs.Literals.{uses_literals, LeavesNeedNoNames}
+use Rattle.literal_use.proofs.Names.{leaves_alike}
 use Rattle.file_parts.specs.Seen.{resolved_tree}
 use Rattle.file_parts.proofs.Once.{seen_once}
 use Rattle.file_search.specs.Whole.{HasNone}
+use Rattle.file_search.proofs.Joins.{none_in}
 use Rattle.import_names.specs.Resolved.{IsResolved, tree_in, known_in as names_in}
 use Rattle.file_open.specs.Naming.{Knows, IsNamed}
 use Rattle.graph_form.specs.declared.graph.Point.{Point}
@@ -29,24 +31,10 @@ use Rattle.file_results.specs.Sets.{IsExactly}
 use Rattle.file_results.specs.Reports.{reported_cmp}
 use Rattle.running_rules.proofs.Members.{among_left, among_right}
 use Rattle.file_results.specs.Looking.{AreLeaves, LooksAt, RuleFinds, named_leaf, own_leaf}
-use Rattle.file_results.specs.Needing.{NeedsNoNames, Serves, ServesRules}
+use Rattle.file_results.specs.Needing.{UsesNames, RulesUseNames, AreWanted, HasNoneOrAll, NeedsNoNames, RulesNeedNoNames, Serves, ServesRules}
 use Rattle.file_results.specs.Quieted.{Comments}
 use Rattle.file_results.specs.Shown.{IsFoundIn, IsShownIn, IsNotedIn}
 use Rattle.file_results.specs.Tracing.{PartHas, IsPartTrace, IsRuleTrace, IsTraced, HasTrace}
-
--- ---- items of a list, one after the other
-
--- what holds of all that are left holds of all
-abbrev pub Rests : {X : Type 0} → (X → Type 0) → List X → List X → Type 0
-Rests {X} Q all left = ((x : X) → Among left x → Q x) → (x : X) → Among all x → Q x
-
-pub rests_on : {X : Type 0} (Q : X → Type 0) (all left rest : List X) (x : X) → Rests Q all left → left ≡ x ∷ rest → Q x → Rests Q all rest
-rests_on {X} Q all left rest x far e q h = far (λ y a.
-    let P : List X → Type 0 = λ xs. Among xs y in
-    elim (subst P e a) [ inl f ↦ subst Q f q | inr b ↦ h y b ])
-
-pub rests_end : {X : Type 0} (Q : X → Type 0) (all left : List X) → Rests Q all left → left ≡ [] → (x : X) → Among all x → Q x
-rests_end {X} Q all left far e = far (λ y a. let P : List X → Type 0 = λ xs. Among xs y in absurd (subst P e a))
 
 -- ---- one pattern
 
@@ -66,6 +54,36 @@ pub lacking : (lang : Lang) (tree : Node) (p : Pattern) → HasNone lang tree p 
 lacking lang tree p none known other leaf h =
     let P : Leaf → Type 0 = named_leaf other lang tree p in
     subst P (sym (seen_once lang (known_in tree known) p leaf (Full []) h (none known))) (none other)
+
+-- ---- rules that may use no names
+
+-- a pattern that may use no names needs none
+uses_none : (lang : Lang) (tree : Node) (p : Pattern) (b : Bool) → uses_literals p ≡ b → (UsesNames lang tree p → ⊥) → NeedsNoNames lang tree p
+uses_none lang tree p true takes none = lacking lang tree p (none_in lang tree p (λ may. none (takes, may)))
+uses_none lang tree p false takes none = unnamed lang tree p (leaves_alike p takes)
+
+-- nor do rules of which none may
+pub need_none : (lang : Lang) (tree : Node) (rules : List Rule) → (RulesUseNames lang tree rules → ⊥) → RulesNeedNoNames lang tree rules
+need_none lang tree rules none rule runs part has looks p a = uses_none lang tree p (uses_literals p) refl (λ uses. none (rule, runs, (part, has, (looks, (p, a, uses)))))
+
+-- ---- the names that are wanted
+
+-- they serve the rules
+pub wanted_serve : (knows : Knows) (lang : Lang) (tree : Node) (rules : List Rule) (known : List Known) → AreWanted knows lang tree rules known → ServesRules knows lang tree known rules
+wanted_serve knows lang tree rules known (inl (uses, just)) = inl just
+wanted_serve knows lang tree rules known (inr (none, e)) = inr (need_none lang tree rules none)
+
+-- there is one list of them
+pub wanted_once : (knows : Knows) (lang : Lang) (tree : Node) (rules : List Rule) (known other : List Known) → AreWanted knows lang tree rules known → AreWanted knows lang tree rules other → other ≡ known
+wanted_once knows lang tree rules known other (inl (uses, just)) (inl (again, also)) = just.only other also.are
+wanted_once knows lang tree rules known other (inl (uses, just)) (inr (none, e)) = absurd (none uses)
+wanted_once knows lang tree rules known other (inr (none, e)) (inl (uses, just)) = absurd (none uses)
+wanted_once knows lang tree rules known other (inr (none, e)) (inr (no, f)) = f ∙ sym e
+
+-- they are none, or all that are known
+pub wanted_own : (knows : Knows) (rules : List Rule) (view : FileView) → AreWanted knows view.lang view.tree rules view.known → HasNoneOrAll knows view
+wanted_own knows rules view (inl (uses, just)) = inr just
+wanted_own knows rules view (inr (none, e)) = inl e
 
 module _ (knows : Knows) (lang : Lang) (tree : Node) (known : List Known) where
   -- by names that serve it a pattern has its own members

@@ -1,15 +1,51 @@
--- What the code knows of the names that rules need.
-use Rattle.std.specs.Prelude.{◌⊎◌, List}
+-- Which rules may use the names that are known in a file, and by which names they find what there is.
+use Rattle.std.specs.Prelude.{◌≡◌, ◌⊎◌, List, [], true}
 use Rattle.node_tree.specs.declared.known.Known.{Known}
 use Rattle.node_tree.specs.declared.node.Node.{Node}
+use Rattle.node_tree.specs.declared.view.FileView.{FileView}
 use Rattle.node_tree.specs.declared.view.Lang.{Lang}
 use Rattle.node_tree.specs.declared.view.Pattern.{Pattern}
 use Rattle.rule_form.specs.declared.rule.Rule.{Rule}
 use Rattle.rule_form.specs.declared.rule.Part.{Part}
 use Rattle.node_match.specs.Sets.{Among}
 use Rattle.tree_match.specs.declared.leaf.Leaf.{Leaf}
+use Rattle.literal_use.specs.Literals.{uses_literals}
+use Rattle.file_search.specs.Whole.{MayHaveIn}
 use Rattle.file_open.specs.Naming.{Knows, AreJustKnown}
 use Rattle.file_results.specs.Looking.{LooksAt, named_leaf}
+
+-- ---- rules that may use names
+
+-- names may make a difference to the pattern in a file of that language with that tree: literals of it also take names that hold
+-- them, and the file may have it
+abbrev pub UsesNames : Lang → Node → Pattern → Type 0
+UsesNames lang tree p = (uses_literals p ≡ true) × MayHaveIn lang tree p
+
+-- so may one of the patterns
+abbrev pub PatternsUseNames : Lang → Node → List Pattern → Type 0
+PatternsUseNames lang tree ps = (p : Pattern) × Among ps p × UsesNames lang tree p
+
+-- the part looks at files of the language, and one of its patterns may use names there
+abbrev pub PartUsesNames : Lang → Node → Part → Type 0
+PartUsesNames lang tree part = LooksAt part lang × PatternsUseNames lang tree part.patterns
+
+-- so may one of the parts
+abbrev pub PartsUseNames : Lang → Node → List Part → Type 0
+PartsUseNames lang tree parts = (part : Part) × Among parts part × PartUsesNames lang tree part
+
+-- so may one of the rules
+abbrev pub RulesUseNames : Lang → Node → List Rule → Type 0
+RulesUseNames lang tree rules = (rule : Rule) × Among rules rule × PartsUseNames lang tree rule.parts
+
+-- just the names that are known in the file, where one of the rules may use names there; else none
+abbrev pub AreWanted : Knows → Lang → Node → List Rule → List Known → Type 0
+AreWanted knows lang tree rules known = (RulesUseNames lang tree rules × AreJustKnown knows lang tree known) ⊎ ((RulesUseNames lang tree rules → ⊥) × (known ≡ []))
+
+-- the file has none of its names, or just those that are known in it
+abbrev pub HasNoneOrAll : Knows → FileView → Type 0
+HasNoneOrAll knows view = (view.known ≡ []) ⊎ AreJustKnown knows view.lang view.tree view.known
+
+-- ---- rules that need none
 
 -- whatever names are known, the pattern has the same members in a file with that tree
 abbrev pub NeedsNoNames : Lang → Node → Pattern → Type 0

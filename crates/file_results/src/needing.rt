@@ -1,9 +1,8 @@
 //! Whether rules need the names that are known in a file. Finding those costs more than reading the file, so it is left out
 //! where names make no difference to the patterns of the rules.
 
-ghost use Rattle.std.specs.Prelude.{◌≡◌, false, IfOk};
-ghost use Rattle.file_results.specs.Looking.{LooksAt};
-ghost use Rattle.file_results.specs.Needing.{NeedsNoNames, PatternsNeedNoNames, PartsNeedNoNames, RulesNeedNoNames, ServesRules};
+ghost use Rattle.std.specs.Prelude.{◌≡◌, ◌↔◌, [], IsTrue, IfOk};
+ghost use Rattle.file_results.specs.Needing.{UsesNames, PatternsUseNames, PartUsesNames, PartsUseNames, RulesUseNames, HasNoneOrAll, AreWanted};
 
 use crate::looking::looks_at;
 use crate::resolving::resolved_or_itself;
@@ -12,7 +11,7 @@ use file_open::with_names;
 use file_search::WholeFile;
 use import_names::resolved_beside;
 use literal_use::uses_literals;
-use node_tree::{FileView, Memory, Pattern};
+use node_tree::{FileView, List, Memory, Pattern};
 use rule_form::Part;
 use running_rules::Runner;
 use std::alloc::Global;
@@ -20,7 +19,7 @@ use std::alloc::Global;
 // Whether names may make a difference to the pattern in the file: it may take one that is known to hold a literal, and the file
 // has the words that it needs.
 fn pattern_needs(alloc: Global, file: &WholeFile<'_>, pattern: &Pattern) -> Result<bool, Memory>
-    ensures { IfOk result (λ needs. needs ≡ false → NeedsNoNames file.now.lang file.now.tree pattern.now) }
+    ensures { IfOk result (λ needs. IsTrue needs ↔ UsesNames file.now.lang file.now.tree pattern.now) }
 {
     if !uses_literals(pattern) {
         return Ok(false);
@@ -30,7 +29,7 @@ fn pattern_needs(alloc: Global, file: &WholeFile<'_>, pattern: &Pattern) -> Resu
 
 // The same for one of the patterns.
 fn patterns_need(alloc: Global, file: &WholeFile<'_>, patterns: &[Pattern]) -> Result<bool, Memory>
-    ensures { IfOk result (λ need. need ≡ false → PatternsNeedNoNames file.now.lang file.now.tree patterns.now) }
+    ensures { IfOk result (λ need. IsTrue need ↔ PatternsUseNames file.now.lang file.now.tree patterns.now) }
 {
     for pattern in patterns {
         if pattern_needs(alloc, file, pattern)? {
@@ -42,7 +41,7 @@ fn patterns_need(alloc: Global, file: &WholeFile<'_>, patterns: &[Pattern]) -> R
 
 // The same for a pattern of the part, if it looks at the file.
 fn part_needs(alloc: Global, file: &WholeFile<'_>, part: &Part) -> Result<bool, Memory>
-    ensures { IfOk result (λ needs. needs ≡ false → LooksAt part.now file.now.lang → PatternsNeedNoNames file.now.lang file.now.tree part.now.patterns) }
+    ensures { IfOk result (λ needs. IsTrue needs ↔ PartUsesNames file.now.lang file.now.tree part.now) }
 {
     if !looks_at(part, file.view().lang) {
         return Ok(false);
@@ -52,7 +51,7 @@ fn part_needs(alloc: Global, file: &WholeFile<'_>, part: &Part) -> Result<bool, 
 
 // The same for one of the parts.
 fn parts_need(alloc: Global, file: &WholeFile<'_>, parts: &[Part]) -> Result<bool, Memory>
-    ensures { IfOk result (λ need. need ≡ false → PartsNeedNoNames file.now.lang file.now.tree parts.now) }
+    ensures { IfOk result (λ need. IsTrue need ↔ PartsUseNames file.now.lang file.now.tree parts.now) }
 {
     for part in parts {
         if part_needs(alloc, file, part)? {
@@ -68,7 +67,7 @@ pub fn rules_need(
     file: &WholeFile<'_>,
     running: &[Runner<'_>],
 ) -> Result<bool, Memory>
-    ensures { IfOk result (λ need. need ≡ false → RulesNeedNoNames file.now.lang file.now.tree running.now) }
+    ensures { IfOk result (λ need. IsTrue need ↔ RulesUseNames file.now.lang file.now.tree running.now) }
 {
     for runner in running {
         if parts_need(alloc, file, runner.rule().parts.as_slice())? {
@@ -80,14 +79,30 @@ pub fn rules_need(
 
 // The same of a file that isn't ready for the search.
 fn view_needs(alloc: Global, view: &FileView, running: &[Runner<'_>]) -> Result<bool, Memory>
-    ensures { IfOk result (λ need. need ≡ false → RulesNeedNoNames view.now.lang view.now.tree running.now) }
+    ensures { IfOk result (λ need. IsTrue need ↔ RulesUseNames view.now.lang view.now.tree running.now) }
 {
     let beside = resolved_beside(alloc, view)?;
     let file = WholeFile::of(alloc, view, resolved_or_itself(view, &beside))?;
     rules_need(alloc, &file, running)
 }
 
-/// The file with the names that are known in it, where these may make a difference to the rules; else as it is.
+// The file without its names.
+fn without_names(alloc: Global, view: FileView) -> FileView
+    ensures lang { result.lang ≡ view.lang }
+    ensures bytes { result.bytes ≡ view.bytes }
+    ensures tree { result.tree ≡ view.tree }
+    ensures known { result.known ≡ [] }
+{
+    FileView {
+        lang: view.lang,
+        bytes: view.bytes,
+        tree: view.tree,
+        known: List::new(alloc),
+    }
+}
+
+/// The file with the names that are known in it, where these may make a difference to the rules; else without names. Names that
+/// it has are taken for those that are known in it, and aren't found again.
 pub fn with_needed_names<R: TreeReader>(
     alloc: Global,
     reader: &R,
@@ -97,9 +112,12 @@ pub fn with_needed_names<R: TreeReader>(
     ensures lang { IfOk result (λ named. named.lang ≡ view.lang) }
     ensures bytes { IfOk result (λ named. named.bytes ≡ view.bytes) }
     ensures tree { IfOk result (λ named. named.tree ≡ view.tree) }
-    ensures serves { IfOk result (λ named. ServesRules (R.knows reader.now) view.lang view.tree named.known running.now) }
+    ensures wanted { HasNoneOrAll (R.knows reader.now) view → IfOk result (λ named. AreWanted (R.knows reader.now) view.lang view.tree running.now named.known) }
 {
     if !view_needs(alloc, &view, running)? {
+        return Ok(without_names(alloc, view));
+    }
+    if !view.known.is_empty() {
         return Ok(view);
     }
     let named = with_names(alloc, reader, view)?;

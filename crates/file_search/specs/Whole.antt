@@ -8,7 +8,8 @@ use Rattle.node_tree.specs.declared.view.Lang.TheVariants as langs
 use Rattle.node_tree.specs.declared.view.Pattern.{Pattern}
 use Rattle.tree_match.specs.declared.leaf.Leaf.TheVariants.{Full}
 use Rattle.file_match.specs.Trees.{known_in}
-use Rattle.import_names.specs.Resolved.{IsResolved}
+use Rattle.file_match.specs.Words.{MayHave}
+use Rattle.import_names.specs.Resolved.{IsResolved, tree_in}
 use Rattle.file_parts.specs.Parts.{ResolvesToItself}
 use Rattle.file_parts.specs.Seen.{seen_leaf}
 
@@ -24,3 +25,7 @@ TakesSteps before after = (after ≡ before + 1) ⊎ (after ≡ before + 2)
 -- whatever names are known in the tree, the pattern has no member there
 abbrev pub HasNone : Lang → Node → Pattern → Type 0
 HasNone lang tree pattern = (known : List Known) → seen_leaf lang (known_in tree known) pattern (Full [])
+
+-- the tree of a file in that language may have the pattern, or its tree with names resolved may
+abbrev pub MayHaveIn : Lang → Node → Pattern → Type 0
+MayHaveIn lang tree pattern = MayHave pattern tree ⊎ MayHave pattern (tree_in lang tree)

@@ -1,11 +1,11 @@
 //! The search of a whole file.
 
-ghost use Rattle.std.specs.Prelude.{◌≡◌, false, IfOk, OnOk};
+ghost use Rattle.std.specs.Prelude.{◌≡◌, ◌↔◌, false, IsTrue, IfOk, OnOk};
 ghost use Rattle.tree_match.specs.Members.{known_tree};
 ghost use Rattle.node_tree.specs.declared.view.Lang.TheVariants.{Python as python};
 ghost use Rattle.import_names.specs.Resolved.{IsResolved};
 ghost use Rattle.file_parts.specs.Seen.{seen_leaf};
-ghost use Rattle.file_search.specs.Whole.{IsBeside, TakesSteps, HasNone};
+ghost use Rattle.file_search.specs.Whole.{IsBeside, TakesSteps, HasNone, MayHaveIn};
 
 use crate::search::FileSearch;
 use file_match::{ReadyFile, match_ready};
@@ -95,10 +95,12 @@ impl<'v> WholeFile<'v> {
         self.written.view()
     }
 
-    /// Whether the file may have members of the pattern, whatever names are known to hold literals. Where not, the pattern has
-    /// no member in it.
+    /// Whether the file may have members of the pattern: as it is written, or with its names resolved, it has each word that the
+    /// pattern needs, whatever names are known to hold literals, or one that counts as that. Where not, the pattern has no member
+    /// in it.
     pub fn may_have(&self, alloc: Global, pattern: &Pattern) -> Result<bool, Memory>
-        ensures { IfOk result (λ may. may ≡ false → HasNone self.now.lang self.now.tree pattern.now) }
+        ensures exact { IfOk result (λ may. IsTrue may ↔ MayHaveIn self.now.lang self.now.tree pattern.now) }
+        ensures lacks { IfOk result (λ may. may ≡ false → HasNone self.now.lang self.now.tree pattern.now) }
     {
         if self.written.may_have(alloc, pattern)? {
             return Ok(true);

@@ -34,7 +34,7 @@ both_true : (b c : Bool) → b ≡ true → c ≡ true → (b && c) ≡ true
 both_true true c e f = f
 both_true false c e f = absurd (let g : false ≡ true = e in cc)
 
-among_seen : (files : List SeenFile) (f : File) → Among (map file_of files) f → (s : SeenFile) × Among files s × (file_of s ≡ f)
+pub among_seen : (files : List SeenFile) (f : File) → Among (map file_of files) f → (s : SeenFile) × Among files s × (file_of s ≡ f)
 among_seen [] f a = absurd a
 among_seen (s ∷ ss) f (inl e) = (s, inl refl, e)
 among_seen (s ∷ ss) f (inr a) = let (t, b, e) = among_seen ss f a in (t, inr b, e)

@@ -3,3 +3,4 @@ pub mod Needing
 pub mod Stacks
 pub mod Counting
 pub mod Walking
+pub mod Once

@@ -1,4 +1,5 @@
 pub mod Seen
 pub mod Needs
 pub mod Spends
+pub mod Once
 pub mod Walk

@@ -6,6 +6,7 @@ use Rattle.tree_match.specs.Ascending.{IsAscending}
 use Rattle.rule_form.specs.declared.rule.Rule.{Rule}
 use Rattle.file_open.specs.declared.opened.Opened.{Opened}
 use Rattle.file_open.specs.declared.opened.Opened.TheVariants.{TooLarge, NotUtf8, NoTree, Read}
+use Rattle.file_open.specs.Naming.{Knows}
 use Rattle.file_open.specs.Reading.{Spells}
 use Rattle.file_open.specs.Opening.{IsOpened, HasOnlyTree}
 use Rattle.report_form.specs.declared.notice.Notice.{Notice}
@@ -14,11 +15,12 @@ use Rattle.kept_leaves.specs.Kept.{map_of, IsKept, IsEmpty, IsNoneMet, AreRight}
 use Rattle.running_rules.specs.Running.{AreApart}
 use Rattle.file_results.specs.Sets.{IsExactly}
 use Rattle.file_results.specs.Reports.{reported_cmp}
+use Rattle.file_results.specs.Needing.{AreWanted, HasNoneOrAll}
 use Rattle.file_results.specs.Quieted.{Grammars}
 use Rattle.file_results.specs.Shown.{File, file_cmp, lang_at, IsResultIn, IsNoticeIn}
 use Rattle.seen_files.specs.declared.seen.SeenFile.{SeenFile}
 use Rattle.seen_files.specs.declared.seen.SeenFiles.{SeenFiles}
-use Rattle.seen_files.specs.Needs.{IsNeeded}
+use Rattle.seen_files.specs.Needs.{HasView, IsNeeded}
 
 -- its path and its bytes
 abbrev pub file_of : SeenFile → File
@@ -45,9 +47,19 @@ pub record IsOpenedSo (spells : Spells) (file : File) (o : Opened) : Type 0 wher
   pub only : HasOnlyTree spells (lang_at file.0) file.1 bare
   pub alike : AreAlike bare o
 
--- It was opened so. Its results are those of the rules, in order, and its notices are those that there are of it.
+-- if it can be looked at, it has just the names that are known in it where the rules may use names there, else none
+abbrev pub IsNamedFor : Knows → List Rule → Opened → Type 0
+IsNamedFor knows rules o = (view : FileView) → HasView o view → AreWanted knows view.lang view.tree rules view.known
+
+-- if it can be looked at, it has none of its names, or just those that are known in it
+abbrev pub HasOwnNames : Knows → Opened → Type 0
+HasOwnNames knows o = (view : FileView) → HasView o view → HasNoneOrAll knows view
+
+-- It was opened so, with the names that the rules want. Its results are those of the rules, in order, and its notices are those
+-- that there are of it.
 pub record IsSeen (grammars : Grammars) (rules : List Rule) (s : SeenFile) : Type 0 where
   pub opened : IsOpenedSo grammars.spells (file_of s) s.opened
+  pub named : IsNamedFor grammars.knows rules s.opened
   pub results : IsExactly reported_cmp (IsResultIn grammars rules (file_of s)) s.results
   pub notices : (n : Notice) → Among s.notices n ↔ IsNoticeIn grammars rules (file_of s) n
 

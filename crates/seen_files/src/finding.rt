@@ -9,7 +9,7 @@ ghost use Rattle.running_rules.specs.Notes.{notice};
 ghost use Rattle.running_rules.specs.Running.{AreApart};
 ghost use Rattle.file_results.specs.Quieted.{grammars_of};
 ghost use Rattle.seen_files.specs.Needs.{IsNeededAt};
-ghost use Rattle.seen_files.specs.Seen.{file_of, IsOpenedSo, IsSeen};
+ghost use Rattle.seen_files.specs.Seen.{file_of, IsOpenedSo, HasOwnNames, IsSeen};
 
 use crate::looking::look_with_names;
 use crate::seen::SeenFile;
@@ -66,7 +66,7 @@ fn unseen(
     seen_as(alloc, path, bytes, opened, List::new(alloc), notices)
 }
 
-/// What the rules find in a file that was opened so.
+/// What the rules find in a file that was opened so. Names that it has are taken for those that are known in it.
 pub fn find<R: TreeReader + CommentReader, L: Ledger>(
     alloc: Global,
     reader: &R,
@@ -79,7 +79,7 @@ pub fn find<R: TreeReader + CommentReader, L: Ledger>(
     steps: &mut Steps<L>,
 ) -> Result<SeenFile, Memory>
     ensures file { IfOk result (λ s. file_of s ≡ (path.now, bytes.value)) }
-    ensures seen { IsOpenedSo (R.spells reader.now) (path.now, bytes.value) opened → AreApart running.now → IfOk result (IsSeen (grammars_of (R.spells reader.now) (R.knows reader.now) (R.comments reader.now) traced) running.now) }
+    ensures seen { IsOpenedSo (R.spells reader.now) (path.now, bytes.value) opened → HasOwnNames (R.knows reader.now) opened → AreApart running.now → IfOk result (IsSeen (grammars_of (R.spells reader.now) (R.knows reader.now) (R.comments reader.now) traced) running.now) }
     ensures kept { IfOk result (λ s. Meets (IsNeededAt running.now s) (map_of kept.old) steps.old (map_of kept.new) steps.new) }
 {
     match opened {

@@ -8,6 +8,7 @@ ghost use Rattle.running_rules.specs.Running.{AreApart};
 ghost use Rattle.file_results.specs.Sets.{IsExactly};
 ghost use Rattle.file_results.specs.Reports.{reported_cmp};
 ghost use Rattle.file_results.specs.Looking.{named_leaf, own_leaf};
+ghost use Rattle.file_results.specs.Needing.{AreWanted, HasNoneOrAll};
 ghost use Rattle.file_results.specs.Shown.{IsShownIn, IsNotedIn};
 ghost use Rattle.seen_files.specs.Needs.{IsNeededIn};
 ghost use Rattle.seen_files.specs.Seen.{IsSameFile};
@@ -59,7 +60,8 @@ fn look<R: CommentReader, L: Ledger>(
     Ok(results)
 }
 
-/// What the rules find in the file, which is given back with the names that they need. The notices are added.
+/// What the rules find in the file, which is given back with the names that they want. Names that it has are taken for those that
+/// are known in it. The notices are added.
 pub fn look_with_names<R: TreeReader + CommentReader, L: Ledger>(
     alloc: Global,
     reader: &R,
@@ -72,8 +74,9 @@ pub fn look_with_names<R: TreeReader + CommentReader, L: Ledger>(
     notices: &mut Vec<Noted>,
 ) -> Result<(FileView, List<Reported>), Memory>
     ensures same { IfOk result (λ found. IsSameFile view found.0) }
-    ensures results { AreApart running.now → IfOk result (λ found. IsExactly reported_cmp (IsShownIn (own_leaf (R.knows reader.now)) (R.comments reader.now) traced running.now path.now view.lang view.bytes view.tree) found.1) }
-    ensures notices { OnOk result (Adds notices.old.items notices.new.items (IsNotedIn (own_leaf (R.knows reader.now)) running.now path.now view.lang view.bytes view.tree)) }
+    ensures named { HasNoneOrAll (R.knows reader.now) view → IfOk result (λ found. AreWanted (R.knows reader.now) view.lang view.tree running.now found.0.known) }
+    ensures results { HasNoneOrAll (R.knows reader.now) view → AreApart running.now → IfOk result (λ found. IsExactly reported_cmp (IsShownIn (own_leaf (R.knows reader.now)) (R.comments reader.now) traced running.now path.now view.lang view.bytes view.tree) found.1) }
+    ensures notices { HasNoneOrAll (R.knows reader.now) view → OnOk result (Adds notices.old.items notices.new.items (IsNotedIn (own_leaf (R.knows reader.now)) running.now path.now view.lang view.bytes view.tree)) }
     ensures kept { IfOk result (λ found. Meets (IsNeededIn running.now path.now found.0) (map_of kept.old) steps.old (map_of kept.new) steps.new) }
 {
     let named = with_needed_names(alloc, reader, view, running)?;

@@ -6,6 +6,7 @@ ghost use Rattle.kept_leaves.specs.Kept.{map_of};
 ghost use Rattle.file_results.specs.Shown.{file_cmp};
 ghost use Rattle.file_results.specs.Quieted.{grammars_of};
 ghost use Rattle.seen_files.specs.Needs.{IsNeeded};
+ghost use Rattle.seen_files.specs.Once.{IsOneCost};
 ghost use Rattle.seen_files.specs.Seen.{HasSeen, HasSeenNone, AfterSeen, HasRightLeaves};
 ghost use Rattle.seen_files.specs.Spends.{Spends};
 ghost use Rattle.seen_files.specs.Walk.{HasWalked, turned};
@@ -74,6 +75,11 @@ impl SeenFiles {
     {
         self.kept.is_right();
     }
+
+    /// How many steps it takes to see files again by rules follows from these, and from the files and rules before.
+    pub fn is_one_cost<R: TreeReader + CommentReader>(reader: &R, traced: bool)
+        ensures { IsOneCost (grammars_of (R.spells reader.now) (R.knows reader.now) (R.comments reader.now) traced) }
+    {}
 
     // Nothing was seen any more. It takes no memory.
     fn forget(&mut self, alloc: Global)

@@ -1,8 +1,8 @@
-use Rattle.std.proofs.Common.{◌+◌, drop}
+use Rattle.std.proofs.Common.{◌≡◌, ◌+◌, false, true, refl, drop}
 use Rattle.std.proofs.lemmas.List.{drop_all}
 use Rattle.meta_bind.proofs.Lookups.{opened}
-use Rattle.file_results.specs.Needing.{NeedsNoNames}
-use Rattle.file_results.proofs.Named.{rests_on, rests_end}
+use Rattle.file_results.specs.Needing.{UsesNames}
+use Rattle.file_results.proofs.Somes.{next_none, this_one, none_left}
 use Rattle.file_results.proofs.needing.patterns_need.Goals as goal
 
 pub loop-pattern-preserved : goal.loop-pattern-preserved
@@ -10,10 +10,22 @@ loop-pattern-preserved c =
     let i = c.loop-pattern.pattern-index in
     let ps = c.args.patterns.now in
     let p = c.pattern-item.result in
-    rests_on (NeedsNoNames c.args.file.now.lang c.args.file.now.tree) ps (drop i ps) (drop (i + 1) ps) p c.loop-pattern.invariant (opened ps i p c.loop-pattern-test.true c.pattern-item.is) (c.in_ok-pattern_needs.ensures c.if-branch.false)
+    next_none (UsesNames c.args.file.now.lang c.args.file.now.tree) ps (drop i ps) (drop (i + 1) ps) p c.loop-pattern.invariant (opened ps i p c.loop-pattern-test.true c.pattern-item.is)
+    (λ uses. let e = c.in_ok-pattern_needs.ensures.1 uses in let f = c.if-branch.false in absurd cc)
 
-pub returns : goal.returns
-returns c _ =
+pub returns-then-branch : goal.returns-then-branch
+returns-then-branch c =
     let i = c.loop-pattern.pattern-index in
     let ps = c.args.patterns.now in
-    rests_end (NeedsNoNames c.args.file.now.lang c.args.file.now.tree) ps (drop i ps) c.loop-pattern.invariant (drop_all i ps c.loop-pattern-test.false)
+    let p = c.pattern-item.result in (
+      λ _. this_one (UsesNames c.args.file.now.lang c.args.file.now.tree) ps (drop i ps) (drop (i + 1) ps) p c.loop-pattern.invariant (opened ps i p c.loop-pattern-test.true c.pattern-item.is) (c.in_ok-pattern_needs.ensures.0 c.if-branch.true),
+      λ _. refl,
+    )
+
+pub returns : goal.returns
+returns c =
+    let i = c.loop-pattern.pattern-index in
+    let ps = c.args.patterns.now in (
+      λ e. absurd (let f : false ≡ true = e in cc),
+      λ some. absurd (none_left (UsesNames c.args.file.now.lang c.args.file.now.tree) ps (drop i ps) c.loop-pattern.invariant (drop_all i ps c.loop-pattern-test.false) some),
+    )

@@ -10,7 +10,7 @@ use Rattle.file_results.specs.Shown.{lang_at}
 use Rattle.file_results.proofs.OneFile.{opened_as, only_as}
 use Rattle.seen_files.specs.Needs.{IsNeededAt}
 use Rattle.seen_files.specs.Seen.{file_of}
-use Rattle.seen_files.proofs.Found.{opened_so}
+use Rattle.seen_files.proofs.Found.{opened_so, opened_bare}
 use Rattle.seen_files.proofs.finding.find_anew.Goals as goal
 
 pub returns-clause-file : goal.returns-clause-file
@@ -27,7 +27,7 @@ returns-clause-seen g c apart =
     let Q : List ℕ → Type 0 = λ b. HasOnlyTree spells (lang_at path) b o in
     let is = subst P same (opened_as spells path c.in_ok-own.own c.unwrap_or-lang.result o o e refl c.in_ok-opened.ensures.opened) in
     let only = subst Q same (only_as spells path c.in_ok-own.own c.unwrap_or-lang.result o o e refl c.in_ok-opened.ensures.only) in
-    c.find.ensures.seen (opened_so spells (path, c.in_ok-shared.shared.value) o is only) apart
+    c.find.ensures.seen (opened_so spells (path, c.in_ok-shared.shared.value) o is only) (opened_bare spells (g.R.TreeReader.knows c.args.reader.now) (lang_at path) c.in_ok-shared.shared.value o is) apart
 
 pub returns-clause-kept : goal.returns-clause-kept
 returns-clause-kept g c =

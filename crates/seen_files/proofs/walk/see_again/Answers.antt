@@ -6,6 +6,7 @@ use Rattle.kept_leaves.specs.Kept.{map_of}
 use Rattle.file_results.specs.Quieted.{grammars_of}
 use Rattle.file_results.specs.Shown.{File}
 use Rattle.seen_files.specs.Seen.{file_of, IsOpenedSo, IsSeen}
+use Rattle.seen_files.proofs.Found.{seen_own}
 use Rattle.seen_files.proofs.Walking.{opened_again, looked_again, stays_seen}
 use Rattle.seen_files.proofs.walk.see_again.Goals as goal
 
@@ -43,7 +44,8 @@ returns-clause-file g c =
 pub returns-clause-seen : goal.returns-clause-seen
 returns-clause-seen g c before same apart seen =
     let P : List ℕ → Type 0 = λ p. IsOpenedSo (g.R.TreeReader.spells c.args.reader.now) (p, c.args.was.bytes.value) c.args.was.opened in
-    c.find.ensures.seen (subst P c.requires seen.opened) apart
+    let grammars = grammars_of (g.R.TreeReader.spells c.args.reader.now) (g.R.TreeReader.knows c.args.reader.now) (g.R.CommentReader.comments c.args.reader.now) c.args.traced in
+    c.find.ensures.seen (subst P c.requires seen.opened) (seen_own grammars before c.args.was seen) apart
 
 pub returns-clause-kept : goal.returns-clause-kept
 returns-clause-kept g c before same needed =

@@ -1,28 +1,48 @@
-use Rattle.std.proofs.Common.{List, subst}
+use Rattle.std.proofs.Common.{◌≡◌, true, false, refl, subst}
 use Rattle.std.specs.Prelude.{None, Some}
-use Rattle.node_tree.specs.declared.known.Known.{Known}
 use Rattle.node_tree.specs.declared.view.FileView.{FileView}
-use Rattle.node_tree.specs.declared.view.Pattern.{Pattern}
-use Rattle.tree_match.specs.Members.{Member, IsMember}
-use Rattle.file_match.specs.Trees.{known_in}
-use Rattle.file_search.proofs.Joins.{beside_as, none_alone, none_found}
+use Rattle.file_match.specs.Words.{MayHave}
+use Rattle.file_search.specs.Whole.{MayHaveIn}
+use Rattle.file_search.proofs.Joins.{beside_as, untrue, lacks_alone, may_joined, none_in, none_found}
 use Rattle.file_search.proofs.whole.WholeFile.may_have.Goals as goal
 
--- the pattern has no member in the file, whatever names are known
-abbrev Lacks : Pattern → FileView → Type 0
-Lacks pattern view = (known : List Known) (m : Member) → IsMember pattern (known_in view.tree known) m → ⊥
+pub returns-then-branch-clause-exact : goal.returns-then-branch-clause-exact
+returns-then-branch-clause-exact c =
+    let P : FileView → Type 0 = λ v. MayHave c.args.pattern.now v.tree in
+    (λ _. inl (subst P c.self.view_is (c.in_ok-may_have.ensures.exact.0 c.if-branch.true)), λ _. refl)
 
-pub returns-in-None : goal.returns-in-None
-returns-in-None c _ =
+pub returns-in-None-clause-exact : goal.returns-in-None-clause-exact
+returns-in-None-clause-exact c =
     let view = c.args.self.now in
     let pattern = c.args.pattern.now in
-    let none : Lacks pattern c.self.inside.written = c.in_ok-may_have.ensures.lacks c.if-branch.false in
-    none_alone view pattern (beside_as view c.self.inside.written None c.self.inside.resolved c.self.view_is c.in-None.is c.self.invariant) (subst (Lacks pattern) c.self.view_is none)
+    let P : FileView → Type 0 = λ v. MayHave pattern v.tree → ⊥ in
+    let none = subst P c.self.view_is (untrue _ (MayHave pattern c.self.inside.written.tree) c.in_ok-may_have.ensures.exact c.if-branch.false) in
+    let beside = beside_as view c.self.inside.written None c.self.inside.resolved c.self.view_is c.in-None.is c.self.invariant in
+    (λ e. absurd (let f : false ≡ true = e in cc), λ may. absurd (lacks_alone view pattern beside none may))
 
-pub returns-in-Some : goal.returns-in-Some
-returns-in-Some c =
+pub returns-in-None-clause-lacks : goal.returns-in-None-clause-lacks
+returns-in-None-clause-lacks c _ =
     let view = c.args.self.now in
     let pattern = c.args.pattern.now in
-    let none : Lacks pattern c.self.inside.written = c.in_ok-may_have.ensures.lacks c.if-branch.false in
+    let P : FileView → Type 0 = λ v. MayHave pattern v.tree → ⊥ in
+    let none = subst P c.self.view_is (untrue _ (MayHave pattern c.self.inside.written.tree) c.in_ok-may_have.ensures.exact c.if-branch.false) in
+    let beside = beside_as view c.self.inside.written None c.self.inside.resolved c.self.view_is c.in-None.is c.self.invariant in
+    none_in view.lang view.tree pattern (lacks_alone view pattern beside none)
+
+pub returns-in-Some-clause-exact : goal.returns-in-Some-clause-exact
+returns-in-Some-clause-exact c =
+    let view = c.args.self.now in
+    let pattern = c.args.pattern.now in
+    let P : FileView → Type 0 = λ v. MayHave pattern v.tree → ⊥ in
+    let none = subst P c.self.view_is (untrue _ (MayHave pattern c.self.inside.written.tree) c.in_ok-may_have.ensures.exact c.if-branch.false) in
     let both = beside_as view c.self.inside.written (Some c.in-Some.resolved) c.self.inside.resolved c.self.view_is c.in-Some.is c.self.invariant in
-    none_found view c.in-Some.resolved pattern both.0 both.1 (subst (Lacks pattern) c.self.view_is none) c.may_have-in-Some.result c.may_have-in-Some.ensures.lacks
+    may_joined view pattern c.in-Some.resolved c.may_have-in-Some.result both.1 none c.may_have-in-Some.ensures.exact
+
+pub returns-in-Some-clause-lacks : goal.returns-in-Some-clause-lacks
+returns-in-Some-clause-lacks c =
+    let view = c.args.self.now in
+    let pattern = c.args.pattern.now in
+    let P : FileView → Type 0 = λ v. MayHave pattern v.tree → ⊥ in
+    let none = subst P c.self.view_is (untrue _ (MayHave pattern c.self.inside.written.tree) c.in_ok-may_have.ensures.exact c.if-branch.false) in
+    let both = beside_as view c.self.inside.written (Some c.in-Some.resolved) c.self.inside.resolved c.self.view_is c.in-Some.is c.self.invariant in
+    none_found view.lang view.tree pattern c.may_have-in-Some.result (may_joined view pattern c.in-Some.resolved c.may_have-in-Some.result both.1 none c.may_have-in-Some.ensures.exact)
