@@ -11,7 +11,6 @@ use Rattle.report_form.specs.declared.report.Reported.{Reported}
 use Rattle.node_tree.specs.declared.node.Node.{Node}
 use Rattle.file_results.specs.Sets.{IsExactly}
 use Rattle.file_results.specs.Reports.{reported_cmp}
-use Rattle.file_results.specs.Looking.{own_leaf}
 use Rattle.file_results.specs.Quieted.{Grammars}
 use Rattle.file_results.specs.Shown.{lang_at, Shows, InView, opened_notices, IsShownIn, IsNotedIn, IsResultIn, IsNoticeIn}
 use Rattle.running_rules.proofs.Members.{appended, adds_both}
@@ -27,10 +26,10 @@ only_as spells path bytes lang o p e f h = let P : Lang → Type 0 = λ l. HasOn
 
 module _ (grammars : Grammars) (rules : List Rule) (path bytes : List ℕ) (o : Opened) (is : IsOpened grammars.spells (lang_at path) bytes o) (only : HasOnlyTree grammars.spells (lang_at path) bytes o) where
   abbrev Results : Reported → Type 0
-  Results r = InView o (λ lang tree. IsShownIn (own_leaf grammars.knows) grammars.comments grammars.traced rules path lang bytes tree r)
+  Results r = InView o (λ lang tree. IsShownIn grammars.leaf_of grammars.comments grammars.traced rules path lang bytes tree r)
 
   abbrev Notices : Notice → Type 0
-  Notices n = InView o (λ lang tree. IsNotedIn (own_leaf grammars.knows) rules path lang bytes tree n)
+  Notices n = InView o (λ lang tree. IsNotedIn grammars.leaf_of rules path lang bytes tree n)
 
   result_in : (r : Reported) → IsResultIn grammars rules (path, bytes) r ↔ Results r
   result_in r = (λ h. (h.2.0, h.2.1, shows_one grammars.spells (lang_at path) bytes o h.0 is only h.1 h.2.0 h.2.1 h.2.2, h.2.3), λ v. (o, is, v))
@@ -67,17 +66,17 @@ module _ (grammars : Grammars) (rules : List Rule) (path bytes : List ℕ) (o : 
       λ p. let H : List ℕ → Type 0 = λ x. P lang x tree in (lang, tree, shows, subst H text-is p),
     )
 
-    pub seen_results : (results : List Reported) → IsExactly reported_cmp (IsShownIn (own_leaf grammars.knows) grammars.comments grammars.traced rules path lang text tree) results → IsExactly reported_cmp (IsResultIn grammars rules (path, bytes)) results
+    pub seen_results : (results : List Reported) → IsExactly reported_cmp (IsShownIn grammars.leaf_of grammars.comments grammars.traced rules path lang text tree) results → IsExactly reported_cmp (IsResultIn grammars rules (path, bytes)) results
     seen_results results h = record {
       exact = λ r.
-          let s = seen (λ l x t. IsShownIn (own_leaf grammars.knows) grammars.comments grammars.traced rules path l x t r) in
+          let s = seen (λ l x t. IsShownIn grammars.leaf_of grammars.comments grammars.traced rules path l x t r) in
           (λ k. (result_in r).1 (s.1 ((h.exact r).0 k)), λ k. (h.exact r).1 (s.0 ((result_in r).0 k)));
       ordered = h.ordered;
     }
 
-    pub seen_notices : (old mid new : List Notice) → mid ≡ old ++ opened_notices path o → Adds mid new (IsNotedIn (own_leaf grammars.knows) rules path lang text tree) → Adds old new (IsNoticeIn grammars rules (path, bytes))
+    pub seen_notices : (old mid new : List Notice) → mid ≡ old ++ opened_notices path o → Adds mid new (IsNotedIn grammars.leaf_of rules path lang text tree) → Adds old new (IsNoticeIn grammars rules (path, bytes))
     seen_notices old mid new e adds =
-        adds_both old mid new (Among (opened_notices path o)) (IsNotedIn (own_leaf grammars.knows) rules path lang text tree) (IsNoticeIn grammars rules (path, bytes)) (appended old mid (opened_notices path o) (Among (opened_notices path o)) e (λ n. (λ a. a, λ a. a))) adds
+        adds_both old mid new (Among (opened_notices path o)) (IsNotedIn grammars.leaf_of rules path lang text tree) (IsNoticeIn grammars rules (path, bytes)) (appended old mid (opened_notices path o) (Among (opened_notices path o)) e (λ n. (λ a. a, λ a. a))) adds
         (λ n.
-        let s = seen (λ l x t. IsNotedIn (own_leaf grammars.knows) rules path l x t n) in
+        let s = seen (λ l x t. IsNotedIn grammars.leaf_of rules path l x t n) in
         (λ h. (notice_in n).1 (elim h [ inl a ↦ inl a | inr k ↦ inr (s.1 k) ]), λ h. elim ((notice_in n).0 h) [ inl a ↦ inl a | inr v ↦ inr (s.0 v) ]))

@@ -11,21 +11,25 @@ use Rattle.quieting.specs.declared.quiet.Quiet.{Quiet}
 use Rattle.quieting.specs.Quieting.{quiets_of}
 use Rattle.quieting.specs.Lines.{is_quieted}
 use Rattle.report_form.specs.declared.report.Reported.{Reported}
+use Rattle.file_results.specs.Looking.{LeafOf, own_leaf}
 use Rattle.file_results.specs.Reports.{reported_cmp}
 
 -- which texts of a language have which comments
 abbrev pub Comments : Type 1
 Comments = Lang → List ℕ → List Span → Type 0
 
--- which trees and which comments texts have, which names are known in the trees, and whether findings have their traces
+-- which trees and which comments texts have, which names are known in the trees, which members patterns have in files with them,
+-- and whether findings have their traces
 pub record Grammars : Type 1 where
   pub spells : Spells
   pub knows : Knows
   pub comments : Comments
+  pub leaf_of : LeafOf
   pub traced : Bool
 
+-- those where patterns see through imports, by the names that are known in the trees
 abbrev pub grammars_of : Spells → Knows → Comments → Bool → Grammars
-grammars_of spells knows comments traced = record { spells = spells; knows = knows; comments = comments; traced = traced }
+grammars_of spells knows comments traced = record { spells = spells; knows = knows; comments = comments; leaf_of = own_leaf knows; traced = traced }
 
 -- a file in the language with this text has these comments; one in another language than Python and C has none
 abbrev pub HasComments : Comments → Lang → List ℕ → List Span → Type 0

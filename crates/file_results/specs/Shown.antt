@@ -19,7 +19,7 @@ use Rattle.report_form.specs.declared.notice.Notice.{Notice}
 use Rattle.report_form.specs.declared.notice.NoticeKind.TheVariants as kinds
 use Rattle.report_form.specs.declared.report.Reported.{Reported}
 use Rattle.running_rules.specs.Notes.{notice}
-use Rattle.file_results.specs.Looking.{LeafOf, RuleFinds, own_leaf}
+use Rattle.file_results.specs.Looking.{LeafOf, RuleFinds}
 use Rattle.file_results.specs.Quieted.{Comments, Grammars, IsQuietedIn}
 use Rattle.file_results.specs.Reports.{reported, outcome_notices}
 use Rattle.file_results.specs.Tracing.{HasTrace}
@@ -81,9 +81,9 @@ InView o P = (lang : Lang) × (tree : Node) × Shows o lang tree × P lang tree
 -- a finding of one of the rules in a file that no comment there quiets
 abbrev pub IsResultIn : Grammars → List Rule → File → Reported → Type 0
 IsResultIn grammars rules file r =
-    (o : Opened) × IsOpened grammars.spells (lang_at file.0) file.1 o × InView o (λ lang tree. IsShownIn (own_leaf grammars.knows) grammars.comments grammars.traced rules file.0 lang file.1 tree r)
+    (o : Opened) × IsOpened grammars.spells (lang_at file.0) file.1 o × InView o (λ lang tree. IsShownIn grammars.leaf_of grammars.comments grammars.traced rules file.0 lang file.1 tree r)
 
 -- a notice of a file: how it is opened, or what one of the rules finds there
 abbrev pub IsNoticeIn : Grammars → List Rule → File → Notice → Type 0
 IsNoticeIn grammars rules file n =
-    (o : Opened) × IsOpened grammars.spells (lang_at file.0) file.1 o × (Among (opened_notices file.0 o) n ⊎ InView o (λ lang tree. IsNotedIn (own_leaf grammars.knows) rules file.0 lang file.1 tree n))
+    (o : Opened) × IsOpened grammars.spells (lang_at file.0) file.1 o × (Among (opened_notices file.0 o) n ⊎ InView o (λ lang tree. IsNotedIn grammars.leaf_of rules file.0 lang file.1 tree n))

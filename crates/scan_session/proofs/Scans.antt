@@ -20,7 +20,6 @@ use Rattle.running_rules.specs.Notes.{notice_cmp}
 use Rattle.running_rules.specs.NoteOrder.{name_total}
 use Rattle.running_rules.specs.Running.{stated, running, rule_notices, AreApart}
 use Rattle.file_results.specs.Reports.{reported_cmp, bound_cmp}
-use Rattle.file_results.specs.Looking.{own_leaf}
 use Rattle.file_results.specs.Quieted.{Grammars}
 use Rattle.scan_session.specs.Fresh.{IsResult, IsFileNotice, IsFresh}
 use Rattle.file_results.specs.Shown.{File, file_cmp, IsResultIn, IsNoticeIn}
@@ -36,7 +35,7 @@ file_total : IsTotalOrder file_cmp
 file_total = on_total (λ (f : File). f.0) name_total
 
 pub path_of : (grammars : Grammars) (rules : List Rule) (file : File) (r : Reported) → IsResultIn grammars rules file r → r.path ≡ file.0
-path_of grammars rules file r h = let s = h.2.3 in same_path (own_leaf grammars.knows) rules h.2.0 file.1 h.2.1 grammars.traced file.0 s.bare r s.is_found s.trace
+path_of grammars rules file r h = let s = h.2.3 in same_path grammars.leaf_of rules h.2.0 file.1 h.2.1 grammars.traced file.0 s.bare r s.is_found s.trace
 
 -- what holds of a file before or of this one
 one_file : {X : Type 0} (P : File → X → Type 0) (done : List File) (f : File) (x : X) → (((g : File) × Among done g × P g x) ⊎ P f x) ↔ ((g : File) × Among (done ++ f ∷ []) g × P g x)

@@ -144,7 +144,7 @@ bare_plain (NoTree b) v h = (b, refl, h)
 bare_plain (Read b) v h = absurd h
 
 module _ (grammars : Grammars) (rules : List Rule) (path bytes : List ℕ) (v w : FileView) (same : IsSameFile v w) (named : AreWanted grammars.knows v.lang v.tree rules w.known) (rs : List Reported)
-    (found : IsExactly reported_cmp (IsShownIn (own_leaf grammars.knows) grammars.comments grammars.traced rules path v.lang v.bytes v.tree) rs) (mid new : List Notice) (noted : Adds mid new (IsNotedIn (own_leaf grammars.knows) rules path v.lang v.bytes v.tree))
+    (found : IsExactly reported_cmp (IsShownIn grammars.leaf_of grammars.comments grammars.traced rules path v.lang v.bytes v.tree) rs) (mid new : List Notice) (noted : Adds mid new (IsNotedIn grammars.leaf_of rules path v.lang v.bytes v.tree))
     (s : SeenFile) (file_is : file_of s ≡ (path, bytes)) (results : s.results ≡ rs) (notices : (n : Notice) → Among s.notices n ↔ Among new n) where
   pub read_seen : mid ≡ [] → IsOpenedSo grammars.spells (path, bytes) (Read v) → s.opened ≡ Read w → IsSeen grammars rules s
   read_seen start so opened =
@@ -204,8 +204,8 @@ module _ {E : Type 0} (grammars : Grammars) (rules : List Rule) (path bytes : Li
       if_four (λ s. file_of s ≡ (path, bytes)) (λ s. s.opened ≡ NotUtf8) (λ s. s.results ≡ []) (λ s. (n : Notice) → Among s.notices n ↔ Among (notice path [] kinds.NotUtf8 [] ∷ []) n) (IsSeen grammars rules) r
       (λ s f o e n. odd_seen grammars rules path bytes s f e o so n) file_is opened results notices
 
-  module _ (v w : FileView) (same : IsSameFile v w) (named : AreWanted grammars.knows v.lang v.tree rules w.known) (rs : List Reported) (found : IsExactly reported_cmp (IsShownIn (own_leaf grammars.knows) grammars.comments grammars.traced rules path v.lang v.bytes v.tree) rs)
-      (mid new : List Notice) (noted : Adds mid new (IsNotedIn (own_leaf grammars.knows) rules path v.lang v.bytes v.tree)) (results : IfOk r (λ s. s.results ≡ rs)) (notices : IfOk r (λ s. (n : Notice) → Among s.notices n ↔ Among new n)) where
+  module _ (v w : FileView) (same : IsSameFile v w) (named : AreWanted grammars.knows v.lang v.tree rules w.known) (rs : List Reported) (found : IsExactly reported_cmp (IsShownIn grammars.leaf_of grammars.comments grammars.traced rules path v.lang v.bytes v.tree) rs)
+      (mid new : List Notice) (noted : Adds mid new (IsNotedIn grammars.leaf_of rules path v.lang v.bytes v.tree)) (results : IfOk r (λ s. s.results ≡ rs)) (notices : IfOk r (λ s. (n : Notice) → Among s.notices n ↔ Among new n)) where
     pub if_read : mid ≡ [] → IfOk r (λ s. s.opened ≡ Read w) → IsOpenedSo grammars.spells (path, bytes) (Read v) → IfOk r (IsSeen grammars rules)
     if_read start opened so =
         if_four (λ s. file_of s ≡ (path, bytes)) (λ s. s.opened ≡ Read w) (λ s. s.results ≡ rs) (λ s. (n : Notice) → Among s.notices n ↔ Among new n) (IsSeen grammars rules) r

@@ -6,7 +6,6 @@ use Rattle.node_tree.specs.declared.view.Lang.TheVariants.{Regex}
 use Rattle.file_open.specs.declared.opened.Opened.TheVariants as opened
 use Rattle.file_results.specs.Reports.{reported_cmp}
 use Rattle.file_results.specs.Sets.{IsExactly}
-use Rattle.file_results.specs.Looking.{own_leaf}
 use Rattle.file_results.specs.Quieted.{grammars_of}
 use Rattle.file_results.specs.Shown.{lang_at, IsShownIn, IsResultIn}
 use Rattle.running_rules.proofs.Members.{on_ok_map}
@@ -64,7 +63,7 @@ returns-in_ok-add_notice-in-NoTree-clause-results g c apart =
     let e : c.unwrap_or-lang.result ≡ lang_at path = c.unwrap_or-lang.ensures ∙ ap (λ (o : Option Lang). unwrap_or o Regex) c.lang_of.ensures in
     let is = opened_as grammars.spells path bytes _ _ (opened.NoTree v) e c.in-NoTree.is c.in_ok-opened.ensures.opened in
     let only = only_as grammars.spells path bytes _ _ (opened.NoTree v) e c.in-NoTree.is c.in_ok-opened.ensures.only in
-    if_reported (IsExactly reported_cmp (IsShownIn (own_leaf grammars.knows) grammars.comments grammars.traced rules path v.lang v.bytes v.tree)) (IsExactly reported_cmp (IsResultIn grammars rules (path, bytes))) c.show_view.result
+    if_reported (IsExactly reported_cmp (IsShownIn grammars.leaf_of grammars.comments grammars.traced rules path v.lang v.bytes v.tree)) (IsExactly reported_cmp (IsResultIn grammars rules (path, bytes))) c.show_view.result
     (λ rs h. seen_results grammars rules path bytes (opened.NoTree v) is only v.lang v.bytes v.tree (refl, refl) (λ l t s. s) is.2.bytes_are rs h) (c.show_view.ensures.results apart)
 
 pub returns-in_ok-add_notice-in-NoTree-clause-notices : goal.returns-in_ok-add_notice-in-NoTree-clause-notices
@@ -92,7 +91,7 @@ returns-in-Read-clause-results g c apart =
     let e : c.unwrap_or-lang.result ≡ lang_at path = c.unwrap_or-lang.ensures ∙ ap (λ (o : Option Lang). unwrap_or o Regex) c.lang_of.ensures in
     let is = opened_as grammars.spells path bytes _ _ (opened.Read v) e c.in-Read.is c.in_ok-opened.ensures.opened in
     let only = only_as grammars.spells path bytes _ _ (opened.Read v) e c.in-Read.is c.in_ok-opened.ensures.only in
-    if_reported (IsExactly reported_cmp (IsShownIn (own_leaf grammars.knows) grammars.comments grammars.traced rules path v.lang v.bytes v.tree)) (IsExactly reported_cmp (IsResultIn grammars rules (path, bytes))) c.show_view-in-Read.result
+    if_reported (IsExactly reported_cmp (IsShownIn grammars.leaf_of grammars.comments grammars.traced rules path v.lang v.bytes v.tree)) (IsExactly reported_cmp (IsResultIn grammars rules (path, bytes))) c.show_view-in-Read.result
     (λ rs h. seen_results grammars rules path bytes (opened.Read v) is only v.lang v.bytes v.tree (refl, refl) (λ l t s. s) is.2.bytes_are rs h) (c.show_view-in-Read.ensures.results apart)
 
 pub returns-in-Read-clause-notices : goal.returns-in-Read-clause-notices
