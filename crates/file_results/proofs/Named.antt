@@ -78,7 +78,7 @@ pub wanted_once : (knows : Knows) (lang : Lang) (tree : Node) (rules : List Rule
 wanted_once knows lang tree rules known other (inl (uses, just)) (inl (again, also)) = just.only other also.are
 wanted_once knows lang tree rules known other (inl (uses, just)) (inr (none, e)) = absurd (none uses)
 wanted_once knows lang tree rules known other (inr (none, e)) (inl (uses, just)) = absurd (none uses)
-wanted_once knows lang tree rules known other (inr (none, e)) (inr (no, f)) = f ∙ sym e
+wanted_once knows lang tree rules known other (inr (none, e)) (inr (also, f)) = f ∙ sym e
 
 -- they are none, or all that are known
 pub wanted_own : (knows : Knows) (rules : List Rule) (view : FileView) → AreWanted knows view.lang view.tree rules view.known → HasNoneOrAll knows view

@@ -6,8 +6,8 @@ use Rattle.file_results.proofs.needing.pattern_needs.Goals as goal
 
 pub returns-then-not-uses_literals : goal.returns-then-not-uses_literals
 returns-then-not-uses_literals c =
-    let not = sym c.if-not-uses_literals.true ∙ c.uses_literals.ensures.exact in
-    (λ e. absurd (let f : false ≡ true = e in cc), λ uses. absurd (let f : false ≡ true = not ∙ uses.0 in cc))
+    let free = sym c.if-not-uses_literals.true ∙ c.uses_literals.ensures.exact in
+    (λ e. absurd (let f : false ≡ true = e in cc), λ uses. absurd (let f : false ≡ true = free ∙ uses.0 in cc))
 
 pub returns : goal.returns
 returns c =
