@@ -1,12 +1,11 @@
 -- What a whole file and the file with its names resolved have together.
-use Rattle.std.proofs.Common.{◌≡◌, ◌↔◌, Bool, true, false, IsTrue, List, [], inl, inr, refl, sym, ap, ◌∙◌, subst, arith}
+use Rattle.std.proofs.Common.{◌≡◌, ◌↔◌, Bool, true, false, IsTrue, [], inl, inr, refl, sym, ap, ◌∙◌, subst, arith}
 use Rattle.std.specs.Prelude.{Option, None, Result, Ok, Err, IfOk}
 use Rattle.node_tree.specs.declared.node.Node.{Node}
 use Rattle.node_tree.specs.declared.view.FileView.{FileView}
 use Rattle.node_tree.specs.declared.view.Lang.{Lang}
 use Rattle.node_tree.specs.declared.view.Lang.TheVariants as langs
 use Rattle.node_tree.specs.declared.view.Pattern.{Pattern}
-use Rattle.node_match.specs.Sets.{Among}
 use Rattle.tree_match.specs.declared.leaf.Leaf.{Leaf}
 use Rattle.tree_match.specs.declared.leaf.Leaf.TheVariants.{Full}
 use Rattle.tree_match.specs.Leaf.{IsLeaf}
@@ -17,7 +16,7 @@ use Rattle.file_match.proofs.Marked.{member_may}
 use Rattle.place_join.specs.Joined.{IsJoined, Joined}
 use Rattle.import_names.specs.Resolved.{IsResolved, tree_in, known_in as names_in}
 use Rattle.file_parts.specs.Parts.{ResolvesToItself}
-use Rattle.file_parts.specs.Seen.{resolved_tree, IsJoinedLeaf, seen_leaf}
+use Rattle.file_parts.specs.Seen.{resolved_tree, seen_leaf}
 use Rattle.file_parts.proofs.Resolving.{tree_is}
 use Rattle.file_parts.proofs.Through.{python_seen, itself_seen}
 use Rattle.file_search.specs.Whole.{IsBeside, HasNone, MayHaveIn}

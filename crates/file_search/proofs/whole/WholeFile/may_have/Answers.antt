@@ -1,8 +1,7 @@
-use Rattle.std.proofs.Common.{◌≡◌, true, false, refl, subst}
+use Rattle.std.proofs.Common.{◌≡◌, true, false, inl, refl, subst}
 use Rattle.std.specs.Prelude.{None, Some}
 use Rattle.node_tree.specs.declared.view.FileView.{FileView}
 use Rattle.file_match.specs.Words.{MayHave}
-use Rattle.file_search.specs.Whole.{MayHaveIn}
 use Rattle.file_search.proofs.Joins.{beside_as, untrue, lacks_alone, may_joined, none_in, none_found}
 use Rattle.file_search.proofs.whole.WholeFile.may_have.Goals as goal
 
