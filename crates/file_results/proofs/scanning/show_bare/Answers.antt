@@ -1,6 +1,7 @@
 use Rattle.std.proofs.Common.{inr, subst}
 use Rattle.node_tree.specs.declared.view.FileView.{FileView}
-use Rattle.file_results.specs.Needing.{RulesNeedNoNames}
+use Rattle.file_search.proofs.Joins.{untrue}
+use Rattle.file_results.specs.Needing.{RulesUseNames, RulesNeedNoNames}
 use Rattle.file_results.proofs.Named.{need_none, shown_served, noted_served}
 use Rattle.file_results.proofs.scanning.show_bare.Goals as goal
 
@@ -9,7 +10,7 @@ returns-clause-results g c apart =
     let v = c.args.view.now in
     let rules = c.args.running.now in
     let file = c.in_ok-file.file in
-    let none = need_none file.lang file.tree rules (λ uses. let e = c.in_ok-rules_need.ensures.1 uses in let f = c.if-branch.false in absurd cc) in
+    let none = need_none file.lang file.tree rules (untrue _ (RulesUseNames file.lang file.tree rules) c.in_ok-rules_need.ensures c.if-branch.false) in
     let free = subst (λ (w : FileView). RulesNeedNoNames w.lang w.tree rules) c.in_ok-file.ensures none in
     shown_served (g.R.TreeReader.knows c.args.reader.now) v.lang v.tree v.known rules (inr free) (g.R.CommentReader.comments c.args.reader.now) c.args.traced c.args.path.now v.bytes c.in_ok-shown.shown (c.in_ok-shown.ensures.results apart)
 
@@ -18,6 +19,6 @@ returns-clause-notices g c _ =
     let v = c.args.view.now in
     let rules = c.args.running.now in
     let file = c.in_ok-file.file in
-    let none = need_none file.lang file.tree rules (λ uses. let e = c.in_ok-rules_need.ensures.1 uses in let f = c.if-branch.false in absurd cc) in
+    let none = need_none file.lang file.tree rules (untrue _ (RulesUseNames file.lang file.tree rules) c.in_ok-rules_need.ensures c.if-branch.false) in
     let free = subst (λ (w : FileView). RulesNeedNoNames w.lang w.tree rules) c.in_ok-file.ensures none in
     noted_served (g.R.TreeReader.knows c.args.reader.now) v.lang v.tree v.known rules (inr free) c.args.path.now v.bytes c.args.notices.now.items c.scan_view.new.notices.items c.in_ok-shown.ensures.notices
