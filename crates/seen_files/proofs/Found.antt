@@ -98,13 +98,13 @@ module _ (grammars : Grammars) (rules : List Rule) (file : File) (s : SeenFile) 
 
 -- ---- one that can't be looked at
 
-too_large : (o : Opened) → AreAlike o TooLarge → o ≡ TooLarge
+pub too_large : (o : Opened) → AreAlike o TooLarge → o ≡ TooLarge
 too_large TooLarge h = refl
 too_large NotUtf8 h = absurd h
 too_large (NoTree v) h = absurd h
 too_large (Read v) h = absurd h
 
-not_utf8 : (o : Opened) → AreAlike o NotUtf8 → o ≡ NotUtf8
+pub not_utf8 : (o : Opened) → AreAlike o NotUtf8 → o ≡ NotUtf8
 not_utf8 TooLarge h = absurd h
 not_utf8 NotUtf8 h = refl
 not_utf8 (NoTree v) h = absurd h
