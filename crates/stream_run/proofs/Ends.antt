@@ -9,17 +9,25 @@ use Rattle.run_status.specs.Ways.{IsOnlyEnd}
 use Rattle.stream_run.specs.Doing.{Setting}
 use Rattle.stream_run.specs.Playing.{SessionEnds, PrintsEnd, PrintsFirst, PrintsFront, PrintsWhole, PrintsToSync}
 use Rattle.stream_run.specs.Costs.{EndsAfter, FrontAfter}
+use Rattle.stream_run.specs.Asking.{EndGoesBy, AsksOnce, EndsAsking, FrontAsking}
 use Rattle.stream_run.proofs.Sure.{SureEnd}
 use Rattle.stream_run.proofs.Once.{only_way}
+use Rattle.stream_run.proofs.Gained.{Texts}
+use Rattle.stream_run.proofs.Asking.{Asked}
 use Rattle.stream_run.proofs.Turns.{Bytes}
 
--- the session ended so, took these steps, and each command read its rule files in the one way that there is
-pub record EndsSurely (s : Setting) (stream written written_after : Bytes) (status : Status) (before after : ℕ) : Type 0 where
+-- the session ended so, took these steps, each command read its rule files in the one way that there is, and the builder was asked
+-- once for each text that they went by
+pub record EndsSurely (s : Setting) (stream written written_after : Bytes) (status : Status) (before after : ℕ) (builder builder_after : Asked) : Type 0 where
   pub ends : EndsAfter s stream written written_after status before after
   pub sure : SureEnd ends.prints.ends
+  pub texts : Texts
+  pub goes_by : EndGoesBy ends.prints.ends texts
+  pub once : AsksOnce builder builder_after texts
 
--- what the clauses of a session say of its end, with what was read, written and refused before and after
-pub record IsServed (s : Setting) (stream stream_after written written_after : Bytes) (source source_after sink sink_after tree tree_after before after : ℕ) (status : Status) : Type 0 where
+-- what the clauses of a session say of its end, with what was read, written and refused before and after, and what the builder
+-- was asked for
+pub record IsServed (s : Setting) (stream stream_after written written_after : Bytes) (source source_after sink sink_after tree tree_after before after : ℕ) (builder builder_after : Asked) (status : Status) : Type 0 where
   pub ends : IsAnswer status → PrintsEnd s stream written written_after status
   pub only : IsAnswer status → IsSome stream → IsSome s.told → IsOnlyEnd (SessionEnds s stream) written written_after status
   pub input_kept : IsAnswer status → source_after ≡ source
@@ -31,18 +39,20 @@ pub record IsServed (s : Setting) (stream stream_after written written_after : B
   pub front : status ≡ statuses.OutputFault → PrintsFront s stream written written_after
   pub work : IsAnswer status → EndsAfter s stream written written_after status before after
   pub work_to_fault : (IsAnswer status → ⊥) → (status ≡ statuses.Memory → ⊥) → FrontAfter s stream written written_after before after
+  pub asked : IsAnswer status → EndsAsking s stream written written_after status builder builder_after
+  pub asked_to_fault : (IsAnswer status → ⊥) → (status ≡ statuses.Memory → ⊥) → FrontAsking s stream written written_after builder builder_after
   pub input_fault : status ≡ statuses.InputFault → Rose source source_after
   pub output_fault : status ≡ statuses.OutputFault → Rose sink sink_after
   pub tree_fault : status ≡ statuses.TreeFault → Rose tree tree_after
 
-module _ (s : Setting) (stream stream_after written written_after : Bytes) (source source_after sink sink_after tree tree_after before after : ℕ) where
+module _ (s : Setting) (stream stream_after written written_after : Bytes) (source source_after sink sink_after tree tree_after before after : ℕ) (builder builder_after : Asked) where
   abbrev Served : Status → Type 0
-  Served status = IsServed s stream stream_after written written_after source source_after sink sink_after tree tree_after before after status
+  Served status = IsServed s stream stream_after written written_after source source_after sink sink_after tree tree_after before after builder builder_after status
 
   answer_no : (status other : Status) → (IsAnswer other → ⊥) → IsAnswer status → status ≡ other → ⊥
   answer_no status other no_answer is e = no_answer (subst IsAnswer e is)
 
-  pub answered : (status : Status) → IsAnswer status → EndsSurely s stream written written_after status before after → source_after ≡ source → sink_after ≡ sink → tree_after ≡ tree → Served status
+  pub answered : (status : Status) → IsAnswer status → EndsSurely s stream written written_after status before after builder builder_after → source_after ≡ source → sink_after ≡ sink → tree_after ≡ tree → Served status
   answered status is p i o t = record {
     ends = λ _. p.ends.prints;
     only = λ _. only_way s stream written written_after status p.ends.prints p.sure;
@@ -55,6 +65,8 @@ module _ (s : Setting) (stream stream_after written written_after : Bytes) (sour
     front = λ e. absurd (answer_no status statuses.OutputFault (λ h. h) is e);
     work = λ _. p.ends;
     work_to_fault = λ fault got. absurd (fault is);
+    asked = λ _. record { prints = p.ends.prints; texts = p.texts; goes_by = p.goes_by; asked = p.once };
+    asked_to_fault = λ fault got. absurd (fault is);
     input_fault = λ e. absurd (answer_no status statuses.InputFault (λ h. h) is e);
     output_fault = λ e. absurd (answer_no status statuses.OutputFault (λ h. h) is e);
     tree_fault = λ e. absurd (answer_no status statuses.TreeFault (λ h. h) is e);
@@ -73,13 +85,15 @@ module _ (s : Setting) (stream stream_after written written_after : Bytes) (sour
     front = λ e. absurd cc;
     work = λ h. absurd h;
     work_to_fault = λ fault got. absurd (got refl);
+    asked = λ h. absurd h;
+    asked_to_fault = λ fault got. absurd (got refl);
     input_fault = λ e. absurd cc;
     output_fault = λ e. absurd cc;
     tree_fault = λ e. absurd cc;
   }
 
-  pub tree_failed : PrintsToSync s stream written written_after → FrontAfter s stream written written_after before after → Rose tree tree_after → Served statuses.TreeFault
-  tree_failed p took rose = record {
+  pub tree_failed : PrintsToSync s stream written written_after → FrontAfter s stream written written_after before after → FrontAsking s stream written written_after builder builder_after → Rose tree tree_after → Served statuses.TreeFault
+  tree_failed p took asking rose = record {
     ends = λ h. absurd h;
     only = λ h. absurd h;
     input_kept = λ h. absurd h;
@@ -91,13 +105,15 @@ module _ (s : Setting) (stream stream_after written written_after : Bytes) (sour
     front = λ e. absurd cc;
     work = λ h. absurd h;
     work_to_fault = λ fault got. took;
+    asked = λ h. absurd h;
+    asked_to_fault = λ fault got. asking;
     input_fault = λ e. absurd cc;
     output_fault = λ e. absurd cc;
     tree_fault = λ _. rose;
   }
 
-  pub input_failed : PrintsWhole s stream stream_after written written_after → FrontAfter s stream written written_after before after → Rose source source_after → Served statuses.InputFault
-  input_failed p took rose = record {
+  pub input_failed : PrintsWhole s stream stream_after written written_after → FrontAfter s stream written written_after before after → FrontAsking s stream written written_after builder builder_after → Rose source source_after → Served statuses.InputFault
+  input_failed p took asking rose = record {
     ends = λ h. absurd h;
     only = λ h. absurd h;
     input_kept = λ h. absurd h;
@@ -109,13 +125,15 @@ module _ (s : Setting) (stream stream_after written written_after : Bytes) (sour
     front = λ e. absurd cc;
     work = λ h. absurd h;
     work_to_fault = λ fault got. took;
+    asked = λ h. absurd h;
+    asked_to_fault = λ fault got. asking;
     input_fault = λ _. rose;
     output_fault = λ e. absurd cc;
     tree_fault = λ e. absurd cc;
   }
 
-  pub output_failed : FrontAfter s stream written written_after before after → Rose sink sink_after → Served statuses.OutputFault
-  output_failed took rose = record {
+  pub output_failed : FrontAfter s stream written written_after before after → FrontAsking s stream written written_after builder builder_after → Rose sink sink_after → Served statuses.OutputFault
+  output_failed took asking rose = record {
     ends = λ h. absurd h;
     only = λ h. absurd h;
     input_kept = λ h. absurd h;
@@ -127,10 +145,12 @@ module _ (s : Setting) (stream stream_after written written_after : Bytes) (sour
     front = λ _. took.prints;
     work = λ h. absurd h;
     work_to_fault = λ fault got. took;
+    asked = λ h. absurd h;
+    asked_to_fault = λ fault got. asking;
     input_fault = λ e. absurd cc;
     output_fault = λ _. rose;
     tree_fault = λ e. absurd cc;
   }
 
   pub served_as : (status other : Status) → other ≡ status → Served status → Served other
-  served_as status other e h = subst (λ (x : Status). IsServed s stream stream_after written written_after source source_after sink sink_after tree tree_after before after x) (sym e) h
+  served_as status other e h = subst (λ (x : Status). IsServed s stream stream_after written written_after source source_after sink sink_after tree tree_after before after builder builder_after x) (sym e) h

@@ -9,6 +9,7 @@ pub mod Sure
 pub mod Chains
 pub mod Scans
 pub mod Costs
+pub mod Asking
 pub mod Turns
 pub mod Ends
 pub mod Served

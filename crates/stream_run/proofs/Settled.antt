@@ -1,5 +1,5 @@
 -- A command does one thing, where a folder that it looks into is told, and there is one way to read the rule files that it reads.
-use Rattle.std.proofs.Common.{◌≡◌, ℕ, List, [], ◌∷◌, length, refl, sym, ap, ◌∙◌}
+use Rattle.std.proofs.Common.{◌≡◌, ℕ, refl, sym, ap, ◌∙◌}
 use Rattle.std.specs.Prelude.{Option, Some, None, IsSome}
 use Rattle.scan_world.specs.Files.{Files}
 use Rattle.file_map.specs.declared.limit.LimitKind.{LimitKind}

@@ -3,7 +3,7 @@ use Rattle.std.proofs.Common.{◌≡◌, inl, inr, ℕ, List, [], ◌∷◌, ◌
 use Rattle.std.specs.Prelude.{Option, Some, None, IsSome}
 use Rattle.scan_world.specs.Files.{Files}
 use Rattle.scan_world.specs.Trees.{LacksFile, HasFront, IsListing}
-use Rattle.folder_files.specs.Folder.{IsTaken, AreTaken, AreRead, AreFiles}
+use Rattle.folder_files.specs.Folder.{AreTaken, AreRead, AreFiles}
 use Rattle.file_map.specs.declared.limit.LimitKind.{LimitKind}
 use Rattle.file_map.specs.FileMap.{File}
 use Rattle.file_map.specs.Sync.{AreOutside, AreSynced, with_files, first_over, Syncs, SyncPasses}

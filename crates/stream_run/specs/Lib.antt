@@ -10,5 +10,6 @@ pub mod Faults
 pub mod Doing
 pub mod Playing
 pub mod Costs
+pub mod Asking
 pub mod Still
 pub mod Reading

@@ -6,6 +6,7 @@ ghost use Rattle.scan_world.specs.Files.{Files};
 ghost use Rattle.scan_world.specs.Trees.{KeepsFiles};
 ghost use Rattle.stream_run.specs.declared.fault.PlayFault.TheVariants.{Memory as no_memory};
 ghost use Rattle.stream_run.specs.Faults.{TellsPassed, HasPlayCause};
+ghost use Rattle.stream_run.specs.Asking.{Asks};
 ghost use Rattle.stream_run.specs.Reading.{ReadsOnce};
 ghost use Rattle.stream_run.specs.Still.{IsEdit, IsSync, DoesEver, PassesEver, DoesStill, PassesNow, CostsStill, Keeps, RefusesGained};
 ghost use Rattle.workspace.specs.Reports.{AreReadOnce};
@@ -68,6 +69,7 @@ fn scan<W: Workspace, P: Patterns, L: Ledger>(
     ensures cause { IfErr result (λ fault. fault ≡ no_memory) }
     ensures once { AreReadOnce (W.readings (W.reader workspace.old)).writes (W.state workspace.old).rules }
     ensures work { (result ≡ Err PlayFault.Memory → ⊥) → CostsStill (W.readings (W.reader workspace.old)) (W.state workspace.old) scan_wire (W.state workspace.new) (W.seen workspace.old) (W.seen workspace.new) steps.old steps.new }
+    ensures asks { (result ≡ Err PlayFault.Memory → ⊥) → Asks (W.readings (W.reader workspace.old)) (W.state workspace.old).rules scan_wire (W.state workspace.old).decided (W.state workspace.new).decided (P.asked patterns.old) (P.asked patterns.new) }
     ensures refused { OnOk result (RefusesGained (W.state workspace.old) (W.state workspace.new) (P.refusals patterns.old) (P.refusals patterns.new)) }
     ensures keeps { Keeps (W.state workspace.old) (W.state workspace.new) (P.refusals patterns.old) (P.refusals patterns.new) }
     ensures same_reader { W.reader workspace.new ≡ W.reader workspace.old }
@@ -90,6 +92,7 @@ fn fix<W: Workspace, P: Patterns, L: Ledger>(
     ensures unfailed { result ≡ Err PlayFault.Failed → ⊥ }
     ensures once { AreReadOnce (W.readings (W.reader workspace.old)).writes (W.state workspace.old).rules }
     ensures work { (result ≡ Err PlayFault.Memory → ⊥) → CostsStill (W.readings (W.reader workspace.old)) (W.state workspace.old) fix_wire (W.state workspace.new) (W.seen workspace.old) (W.seen workspace.new) steps.old steps.new }
+    ensures asks { (result ≡ Err PlayFault.Memory → ⊥) → Asks (W.readings (W.reader workspace.old)) (W.state workspace.old).rules fix_wire (W.state workspace.old).decided (W.state workspace.new).decided (P.asked patterns.old) (P.asked patterns.new) }
     ensures refused { (result ≡ Err PlayFault.Memory → ⊥) → RefusesGained (W.state workspace.old) (W.state workspace.new) (P.refusals patterns.old) (P.refusals patterns.new) }
     ensures keeps { Keeps (W.state workspace.old) (W.state workspace.new) (P.refusals patterns.old) (P.refusals patterns.new) }
     ensures same_reader { W.reader workspace.new ≡ W.reader workspace.old }
@@ -105,7 +108,7 @@ fn fix<W: Workspace, P: Patterns, L: Ledger>(
 /// Does a command of a session, and says what it came to. A command that passes a limit does nothing.
 ///
 /// The texts of regular expressions that are refused later change nothing of it: `does` holds for any that the workspace has not
-/// decided. So it is with the steps that it takes, as `specs/Costs.antt` says.
+/// decided. So it is with the steps that it takes, as `specs/Costs.antt` says. `specs/Asking.antt` says which texts it asks for.
 pub fn play<W: Workspace, T: Tree, P: Patterns, L: Ledger>(
     wire: &Wire,
     workspace: &mut W,
@@ -117,6 +120,7 @@ pub fn play<W: Workspace, T: Tree, P: Patterns, L: Ledger>(
     ensures passes { IfErr result (TellsPassed (PassesNow (W.readings (W.reader workspace.old)) (T.files tree.old) (W.state workspace.old) wire.now (W.state workspace.new))) }
     ensures work { (result ≡ Err PlayFault.Memory → ⊥) → CostsStill (W.readings (W.reader workspace.old)) (W.state workspace.old) wire.now (W.state workspace.new) (W.seen workspace.old) (W.seen workspace.new) steps.old steps.new }
     ensures unspent { result ≡ Err PlayFault.Failed → steps.new ≡ steps.old }
+    ensures asks { (result ≡ Err PlayFault.Memory → ⊥) → Asks (W.readings (W.reader workspace.old)) (W.state workspace.old).rules wire.now (W.state workspace.old).decided (W.state workspace.new).decided (P.asked patterns.old) (P.asked patterns.new) }
     ensures refused { (result ≡ Err PlayFault.Memory → ⊥) → RefusesGained (W.state workspace.old) (W.state workspace.new) (P.refusals patterns.old) (P.refusals patterns.new) }
     ensures keeps { Keeps (W.state workspace.old) (W.state workspace.new) (P.refusals patterns.old) (P.refusals patterns.new) }
     ensures same_reader { W.reader workspace.new ≡ W.reader workspace.old }

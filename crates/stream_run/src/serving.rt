@@ -9,6 +9,7 @@ ghost use Rattle.run_status.specs.Ways.{IsOnlyEnd};
 ghost use Rattle.stream_run.specs.Faults.{status_of_wire};
 ghost use Rattle.stream_run.specs.Playing.{SessionEnds, PrintsEnd, PrintsFirst, PrintsFront, PrintsWhole, PrintsToSync};
 ghost use Rattle.stream_run.specs.Costs.{EndsAfter, FrontAfter};
+ghost use Rattle.stream_run.specs.Asking.{EndsAsking, FrontAsking};
 ghost use Rattle.stream_run.specs.Still.{setting, IsNew};
 ghost use Rattle.workspace.specs.Seen.{HasSeenNone};
 
@@ -42,7 +43,7 @@ fn unread(fault: WireFault) -> Status
 /// Does the commands of the stream on a new workspace, one after the other up to `end`, and prints what each comes to, as
 /// `specs/Playing.antt` says, by the texts of regular expressions that were refused meanwhile. More findings than a report may
 /// have are told in a line, and the session goes on; any other limit that is passed ends it. `specs/Costs.antt` says what that costs
-/// in steps.
+/// in steps, and `specs/Asking.antt` which texts the builder is asked for.
 pub fn serve<W: Workspace, T: Tree, S: Source, K: Sink, P: Patterns, L: Ledger>(
     alloc: Global,
     workspace: &mut W,
@@ -75,6 +76,11 @@ pub fn serve<W: Workspace, T: Tree, S: Source, K: Sink, P: Patterns, L: Ledger>(
     // not said how many.
     ensures work { IsAnswer result → EndsAfter (setting (W.readings (W.reader workspace.old)) (T.files tree.old) (W.state workspace.old).most (gained (P.refusals patterns.old) (P.refusals patterns.new))) (S.left input.old) (K.written out.old) (K.written out.new) result steps.old steps.new }
     ensures work_to_fault { (IsAnswer result → ⊥) → (result ≡ Status.Memory → ⊥) → FrontAfter (setting (W.readings (W.reader workspace.old)) (T.files tree.old) (W.state workspace.old).most (gained (P.refusals patterns.old) (P.refusals patterns.new))) (S.left input.old) (K.written out.old) (K.written out.new) steps.old steps.new }
+
+    // It asks the builder for the texts of regular expressions of the good rules at its scans and fixes, in order and for each
+    // once, if the builder tells that: at all of them up to its end, or up to a fault. After want of memory it is not said for which.
+    ensures asked { IsAnswer result → EndsAsking (setting (W.readings (W.reader workspace.old)) (T.files tree.old) (W.state workspace.old).most (gained (P.refusals patterns.old) (P.refusals patterns.new))) (S.left input.old) (K.written out.old) (K.written out.new) result (P.asked patterns.old) (P.asked patterns.new) }
+    ensures asked_to_fault { (IsAnswer result → ⊥) → (result ≡ Status.Memory → ⊥) → FrontAsking (setting (W.readings (W.reader workspace.old)) (T.files tree.old) (W.state workspace.old).most (gained (P.refusals patterns.old) (P.refusals patterns.new))) (S.left input.old) (K.written out.old) (K.written out.new) (P.asked patterns.old) (P.asked patterns.new) }
 
     // A fault comes only where its count rose.
     ensures input_fault { result ≡ Status.InputFault → Rose (S.faults input.old) (S.faults input.new) }

@@ -6,7 +6,7 @@ use Rattle.stream_run.proofs.serving.serve.Given as goal
 abbrev pub invariant-loop : goal.invariant-loop
 invariant-loop g l = record {
   plays : PlaysTo (g.W.Workspace.readings (g.W.Workspace.reader l.initial.workspace)) (g.T.Tree.files l.initial.tree) (g.W.Workspace.state l.initial.workspace).most (g.S.Source.left l.initial.input)
-      (g.P.Patterns.refusals l.initial.patterns) (g.K.Sink.written l.initial.out) l.initial.steps (g.W.Workspace.state l.workspace) (g.W.Workspace.seen l.workspace) l.steps (g.P.Patterns.refusals l.patterns) (g.K.Sink.written l.out) l.feed (g.S.Source.left l.input);
+      (g.P.Patterns.refusals l.initial.patterns) (g.P.Patterns.asked l.initial.patterns) (g.K.Sink.written l.initial.out) l.initial.steps (g.W.Workspace.state l.workspace) (g.W.Workspace.seen l.workspace) l.steps (g.P.Patterns.refusals l.patterns) (g.P.Patterns.asked l.patterns) (g.K.Sink.written l.out) l.feed (g.S.Source.left l.input);
   going : l.feed.failed ≡ false;
   counted : l.counter ≤ l.feed.place;
   within : l.feed.place ≤ 268435456;
