@@ -10,8 +10,10 @@ use Rattle.run_status.specs.declared.status.Status.TheVariants.{Done}
 use Rattle.run_status.specs.Ways.{PrintedFront, IsOnlyEnd}
 use Rattle.stream_run.specs.Doing.{Setting}
 use Rattle.stream_run.proofs.Streaming.{nothing_written, one_line, one_front}
+use Rattle.stream_run.proofs.Asking.{Asked}
 use Rattle.drill_run.specs.Drilling.{drill_line, DrillEnds, done, EndsOnlySo, EndsOnlyWith}
 use Rattle.drill_run.specs.Costs.{HasDrilledAfter, DrilledAfter, EndsSo}
+use Rattle.drill_run.specs.Asking.{HasDrilledAsking, DrilledAsking, EndsAskingSo}
 
 module _ (s : Setting) (count before after : ℕ) (written : Option (List ℕ)) where
   module _ (reports : List Report) (drilled : HasDrilledAfter s count reports before after) (first second : Report) (are : reports ≡ first ∷ second ∷ []) (written_after : Option (List ℕ)) where
@@ -42,6 +44,27 @@ module _ (s : Setting) (count before after : ℕ) (written : Option (List ℕ)) 
   -- it came to no line
   pub ends_early : (status : Status) → EndsSo s count status [] before after → DrilledAfter s count written written status before after
   ends_early status ends = record { prints = record { lines = []; ends = ends.0; printed = nothing_written written }; takes = ends.1 }
+
+-- ---- which texts the builder was asked for
+
+module _ (s : Setting) (count : ℕ) (written : Option (List ℕ)) (asked asked_after : Asked) where
+  pub asking_to_end : (reports : List Report) → HasDrilledAsking s count reports asked asked_after → (first second : Report) → reports ≡ first ∷ second ∷ [] → (written_after : Option (List ℕ)) (status : Status) → status ≡ Done
+      → Appends written written_after (drill_line count first second) → DrilledAsking s count written written_after status asked asked_after
+  asking_to_end reports drilled first second are written_after status is put =
+      let both : HasDrilledAsking s count (first ∷ second ∷ []) asked asked_after = subst (λ (rs : List Report). HasDrilledAsking s count rs asked asked_after) are drilled in
+      let line = drill_line count first second in
+      subst (λ (st : Status). DrilledAsking s count written written_after st asked asked_after) (sym is)
+      (record {
+        prints = record { lines = line ∷ []; ends = done first second both.0; printed = one_line written written_after line line refl put };
+        texts = both.1.0;
+        goes_by = both.1.1;
+        asked = both.1.2;
+      })
+
+  pub asking_early : (status : Status) → EndsAskingSo s count status [] asked asked_after → DrilledAsking s count written written status asked asked_after
+  asking_early status ends = record { prints = record { lines = []; ends = ends.0; printed = nothing_written written }; texts = ends.1.0; goes_by = ends.1.1; asked = ends.1.2 }
+
+-- ---- there is no other end
 
 module _ (s : Setting) (count : ℕ) (written : Option (List ℕ)) where
   -- nor could it come to any

@@ -1,3 +1,4 @@
 pub mod Drilling
 pub mod Costs
+pub mod Asking
 pub mod Commands

@@ -10,6 +10,7 @@ ghost use Rattle.stream_run.specs.Still.{IsNew};
 ghost use Rattle.stream_run.specs.Seen.{HasSeenNone};
 ghost use Rattle.drill_run.specs.Drilling.{DrillEnds};
 ghost use Rattle.drill_run.specs.Costs.{DrilledAfter};
+ghost use Rattle.drill_run.specs.Asking.{DrilledAsking};
 ghost use Rattle.drill_run.specs.Commands.{drill_setting};
 
 use crate::commands::do_all;
@@ -26,7 +27,8 @@ use stream_run::Workspace;
 /// its scans have, and how many notices the second.
 ///
 /// It has no command that looks at the tree, so how it ends and what it prints is the same whatever the tree tells. It takes the
-/// steps of its scans, as `specs/Costs.antt` says.
+/// steps of its scans, as `specs/Costs.antt` says, and asks for the texts of regular expressions that they go by, for each once, as
+/// `specs/Asking.antt` says.
 pub fn drill<W: Workspace, T: Tree, K: Sink, P: Patterns, L: Ledger>(
     alloc: Global,
     count: u32,
@@ -41,6 +43,7 @@ pub fn drill<W: Workspace, T: Tree, K: Sink, P: Patterns, L: Ledger>(
     ensures ends { IsAnswer result → Printed (DrillEnds (drill_setting (W.readings (W.reader workspace.old)) (W.state workspace.old).most (gained (P.refusals patterns.old) (P.refusals patterns.new))) count) (K.written out.old) (K.written out.new) result }
     ensures only { IsAnswer result → IsOnlyEnd (DrillEnds (drill_setting (W.readings (W.reader workspace.old)) (W.state workspace.old).most (gained (P.refusals patterns.old) (P.refusals patterns.new))) count) (K.written out.old) (K.written out.new) result }
     ensures work { IsAnswer result → DrilledAfter (drill_setting (W.readings (W.reader workspace.old)) (W.state workspace.old).most (gained (P.refusals patterns.old) (P.refusals patterns.new))) count (K.written out.old) (K.written out.new) result steps.old steps.new }
+    ensures asked { IsAnswer result → DrilledAsking (drill_setting (W.readings (W.reader workspace.old)) (W.state workspace.old).most (gained (P.refusals patterns.old) (P.refusals patterns.new))) count (K.written out.old) (K.written out.new) result (P.asked patterns.old) (P.asked patterns.new) }
     ensures output_kept { IsAnswer result → K.faults out.new ≡ K.faults out.old }
     ensures tree_kept { IsAnswer result → T.faults tree.new ≡ T.faults tree.old }
     ensures no_input { result ≡ Status.InputFault → ⊥ }
