@@ -8,6 +8,7 @@ use Rattle.scan_world.specs.Files.{Files}
 use Rattle.scan_world.specs.Streams.{AppendsFront}
 use Rattle.scan_world.specs.Trees.{KeepsFiles}
 use Rattle.decided_texts.specs.Decided.{Decisions}
+use Rattle.decided_texts.specs.Asking.{Settles}
 use Rattle.file_map.specs.FileMap.{over_limit}
 use Rattle.file_map.specs.declared.limit.LimitKind.{LimitKind}
 use Rattle.fix_apply.specs.declared.fixed.FixedFile.{FixedFile}
@@ -21,15 +22,20 @@ use Rattle.wire_words.specs.Commands.{Task}
 use Rattle.stream_run.specs.FixFault.{FixFault}
 use Rattle.stream_run.specs.FixFault.TheVariants as faults
 use Rattle.stream_run.specs.State.{State}
-use Rattle.stream_run.specs.Reports.{Readings, HasMoreResults}
+use Rattle.wire_stream.specs.declared.wire.Wire.TheVariants as wires
+use Rattle.stream_run.specs.Reports.{Readings, HasMoreResults, SettlesRules}
 use Rattle.stream_run.specs.Work.{Works}
 use Rattle.stream_run.specs.Fixes.{IsFixReport, FixesPass, files_fixed}
 use Rattle.stream_run.specs.Printed.{fix_line}
 use Rattle.stream_run.specs.Doing.{Setting}
+use Rattle.stream_run.specs.Asking.{HaveTexts, AsksOnce}
 use Rattle.stream_run.specs.Still.{setting, shelves_of, IsNew}
+use Rattle.stream_run.proofs.Gained.{Texts}
+use Rattle.stream_run.proofs.Asking.{Asked, none_decided, asks_once, asks_nothing, WentBy, went_by}
 use Rattle.folder_run.specs.Taking.{Takes, TakesNone}
 use Rattle.folder_run.specs.Ends.{FixEnds, none, too_many, over, fixed, FixPrints}
 use Rattle.folder_run.specs.Costs.{ScansOnce, FixedAfter}
+use Rattle.folder_run.specs.Asking.{FixGoesBy, FixedAsking}
 use Rattle.folder_run.specs.Written.{WritesAll, WritesBut, LeavesOf, kept, all, some, Leaves, by_fixes, Wrote}
 use Rattle.folder_run.proofs.Wrote.{kept_writes, writes_before}
 
@@ -73,11 +79,29 @@ leaves_before dry files told now new h (some e w) = some e (record {
   written = writes_but_before w.refused.path told now new w.first h w.written;
 })
 
+-- ---- how fixing ends, with all that is said of it
+
+-- it ended so, took these steps, and the builder was asked once for each text that it went by
+pub record FixedSo (s : Setting) (task : Task) (written written_after : Option (List ℕ)) (status : Status) (before after : ℕ) (asked asked_after : Asked) : Type 0 where
+  pub takes : FixedAfter s task written written_after status before after
+  pub texts : Texts
+  pub goes_by : FixGoesBy takes.prints.ends.1 texts
+  pub once : AsksOnce asked asked_after texts
+
+pub asking : (s : Setting) (task : Task) (written written_after : Option (List ℕ)) (status : Status) (before after : ℕ) (asked asked_after : Asked) → FixedSo s task written written_after status before after asked asked_after
+    → FixedAsking s task written written_after status asked asked_after
+asking s task written written_after status before after asked asked_after so = record { prints = so.takes.prints; texts = so.texts; goes_by = so.goes_by; asked = so.once }
+
 -- ---- the rules and the files were not taken
 
 module _ (s : Setting) (task : Task) (status : Status) (no : TakesNone s.readings s.told task.config task.prefix status) where
-  pub none_after : (written : Option (List ℕ)) (steps : ℕ) → FixedAfter s task written written status steps steps
-  none_after written steps = record { prints = record { lines = []; ends = ([], none status no); printed = nothing_written written }; takes = refl }
+  pub none_after : (written : Option (List ℕ)) (steps : ℕ) (asked : Asked) → FixedSo s task written written status steps steps asked asked
+  none_after written steps asked = record {
+    takes = record { prints = record { lines = []; ends = ([], none status no); printed = nothing_written written }; takes = refl };
+    texts = [];
+    goes_by = refl;
+    once = asks_nothing asked;
+  }
 
   pub none_wrote : (now : Option Files) → KeepsFiles s.told now → Wrote s task now status
   none_wrote now h = record { lines = []; fixed = []; ends = none status no; wrote = kept_writes s.told now h }
@@ -103,6 +127,17 @@ module _ {R : Type 0} (readings : R → Readings) (r r' : R) (same : r' ≡ r) (
     pub scans_once : ScansOnce s (shelves_of mid) before after
     scans_once = (was, seen, subst HasSeenNone (sym still) has-none, by_start (λ x t. Works (readings x) t mid.files mid.rules was seen before after) work)
 
+  -- the builder was asked once for each text of the rules that were taken
+  abbrev pub AsksTexts : Asked → Asked → Type 0
+  AsksTexts asked asked_after = (texts : Texts) × HaveTexts s.readings mid.rules texts × AsksOnce asked asked_after texts
+
+  pub texts_once : (asked asked_after : Asked) → SettlesRules (readings r').writes mid.rules mid.decided after-fix asked asked_after → AsksTexts asked asked_after
+  texts_once asked asked_after settles =
+      let by : WentBy (readings r') mid.rules wires.Fix mid.decided after-fix asked asked_after = went_by (readings r') mid.rules mid.decided after-fix asked asked_after wires.Fix settles in
+      let H : R → Type 0 = λ x. HaveTexts (readings x) mid.rules by.texts in
+      let S : Decisions → Type 0 = λ d. Settles by.texts d after-fix asked asked_after in
+      (by.texts, subst H same by.goes_by, asks_once by.texts after-fix asked asked_after (subst S (decided ∙ none_decided start new) by.settles))
+
   -- too many findings, or too many bytes
   module _ (n : ℕ) (n-is : n ≡ mid.most) (more : HasMoreResults (readings r') after-fix.refused mid.files mid.rules n) where
     -- there are as many as that where the fix began
@@ -115,10 +150,15 @@ module _ {R : Type 0} (readings : R → Readings) (r r' : R) (same : r' ≡ r) (
     many_ends : FixEnds s task (statuses.TooMany n) [] []
     many_ends = let P : ℕ → Type 0 = λ m. FixEnds s task (statuses.TooMany m) [] [] in subst P (sym many_is) (too_many (shelves_of mid) takes many_more)
 
-    pub many_after : (written : Option (List ℕ)) (steps steps_after : ℕ) → ScansOnce s (shelves_of mid) steps steps_after → FixedAfter s task written written (statuses.TooMany n) steps steps_after
-    many_after written steps steps_after once =
-        let P : ℕ → Type 0 = λ m. FixedAfter s task written written (statuses.TooMany m) steps steps_after in
-        subst P (sym many_is) (record { prints = record { lines = []; ends = ([], too_many (shelves_of mid) takes many_more); printed = nothing_written written }; takes = once })
+    pub many_after : (written : Option (List ℕ)) (steps steps_after : ℕ) (asked asked_after : Asked) → ScansOnce s (shelves_of mid) steps steps_after → AsksTexts asked asked_after → FixedSo s task written written (statuses.TooMany n) steps steps_after asked asked_after
+    many_after written steps steps_after asked asked_after once by =
+        let P : ℕ → Type 0 = λ m. FixedSo s task written written (statuses.TooMany m) steps steps_after asked asked_after in
+        subst P (sym many_is) (record {
+          takes = record { prints = record { lines = []; ends = ([], too_many (shelves_of mid) takes many_more); printed = nothing_written written }; takes = once };
+          texts = by.0;
+          goes_by = by.1;
+          once = by.2;
+        })
 
     pub many_wrote : Wrote s task now (statuses.TooMany n)
     many_wrote = record { lines = []; fixed = []; ends = many_ends; wrote = kept_writes told now kept-files }
@@ -129,9 +169,14 @@ module _ {R : Type 0} (readings : R → Readings) (r r' : R) (same : r' ≡ r) (
         let P : ℕ → Type 0 = λ m. FixesPass (readings r) gained mid.files mid.rules m kind n in
         subst P most (by_start (λ x t. FixesPass (readings x) t mid.files mid.rules mid.most kind n) passes)
 
-    pub over_after : (written : Option (List ℕ)) (steps steps_after : ℕ) → ScansOnce s (shelves_of mid) steps steps_after → FixedAfter s task written written (statuses.OverLimit kind n) steps steps_after
-    over_after written steps steps_after once =
-        record { prints = record { lines = []; ends = ([], over (shelves_of mid) kind n takes over_passes); printed = nothing_written written }; takes = once }
+    pub over_after : (written : Option (List ℕ)) (steps steps_after : ℕ) (asked asked_after : Asked) → ScansOnce s (shelves_of mid) steps steps_after → AsksTexts asked asked_after
+        → FixedSo s task written written (statuses.OverLimit kind n) steps steps_after asked asked_after
+    over_after written steps steps_after asked asked_after once by = record {
+      takes = record { prints = record { lines = []; ends = ([], over (shelves_of mid) kind n takes over_passes); printed = nothing_written written }; takes = once };
+      texts = by.0;
+      goes_by = by.1;
+      once = by.2;
+    }
 
     pub over_wrote : Wrote s task now (statuses.OverLimit kind n)
     over_wrote = record { lines = []; fixed = []; ends = over (shelves_of mid) kind n takes over_passes; wrote = kept_writes told now kept-files }
@@ -150,18 +195,23 @@ module _ {R : Type 0} (readings : R → Readings) (r r' : R) (same : r' ≡ r) (
     pub done_left : (after : Option Files) → LeavesOf task.flag changed.files now after → Leaves s task after
     done_left after left = by_fixes (shelves_of mid) changed takes report_is (leaves_before task.flag changed.files told now after kept-files left)
 
-    pub done_after : (status : Status) (written written_after : Option (List ℕ)) (steps steps_after : ℕ) → ScansOnce s (shelves_of mid) steps steps_after
-        → Printed (λ st lines. (st ≡ statuses.Done) × (lines ≡ fix_line changed ∷ [])) written written_after status → FixedAfter s task written written_after status steps steps_after
-    done_after status written written_after steps steps_after once p =
-        let P : Status → Type 0 = λ st. FixedAfter s task written written_after st steps steps_after in
+    pub done_after : (status : Status) (written written_after : Option (List ℕ)) (steps steps_after : ℕ) (asked asked_after : Asked) → ScansOnce s (shelves_of mid) steps steps_after → AsksTexts asked asked_after
+        → Printed (λ st lines. (st ≡ statuses.Done) × (lines ≡ fix_line changed ∷ [])) written written_after status → FixedSo s task written written_after status steps steps_after asked asked_after
+    done_after status written written_after steps steps_after asked asked_after once by p =
+        let P : Status → Type 0 = λ st. FixedSo s task written written_after st steps steps_after asked asked_after in
         let Q : List (List ℕ) → Type 0 = λ ls. Appends written written_after (concat ls) in
         subst P (sym p.ends.0) (record {
-          prints = record {
-            lines = fix_line changed ∷ [];
-            ends = ((if task.flag then [] else changed.files), fixed (shelves_of mid) changed takes report_is few_is within);
-            printed = subst Q p.ends.1 p.printed;
+          takes = record {
+            prints = record {
+              lines = fix_line changed ∷ [];
+              ends = ((if task.flag then [] else changed.files), fixed (shelves_of mid) changed takes report_is few_is within);
+              printed = subst Q p.ends.1 p.printed;
+            };
+            takes = once;
           };
-          takes = once;
+          texts = by.0;
+          goes_by = by.1;
+          once = by.2;
         })
 
     pub done_wrote : (status : Status) (after : Option Files) → status ≡ statuses.Done → WritesAll now after (if task.flag then [] else changed.files) → Wrote s task after status

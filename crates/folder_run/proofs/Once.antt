@@ -13,7 +13,6 @@ use Rattle.run_status.specs.Ways.{Printed, IsOnlyEnd}
 use Rattle.wire_stream.specs.declared.wire.Wire.TheVariants as wires
 use Rattle.wire_words.specs.Commands.{Task}
 use Rattle.stream_run.specs.Reports.{AreReadOnce}
-use Rattle.stream_run.specs.Fixes.{FixesPass, files_fixed}
 use Rattle.stream_run.specs.declared.reply.Reply.{Reply}
 use Rattle.stream_run.specs.declared.reply.Reply.TheVariants as replies
 use Rattle.stream_run.specs.Printed.{lines_of}

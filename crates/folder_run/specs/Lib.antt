@@ -2,4 +2,5 @@ pub mod Taking
 pub mod Causes
 pub mod Ends
 pub mod Costs
+pub mod Asking
 pub mod Written

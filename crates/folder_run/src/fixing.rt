@@ -13,6 +13,7 @@ ghost use Rattle.wire_words.specs.Commands.{task_of};
 ghost use Rattle.stream_run.specs.Still.{setting, IsNew};
 ghost use Rattle.folder_run.specs.Ends.{FixPrints};
 ghost use Rattle.folder_run.specs.Costs.{FixedAfter};
+ghost use Rattle.folder_run.specs.Asking.{FixedAsking};
 ghost use Rattle.stream_run.specs.Seen.{HasSeenNone};
 ghost use Rattle.folder_run.specs.Written.{WritesAll, LeavesOf, Wrote, Leaves};
 
@@ -62,7 +63,8 @@ fn write_and_print<T: Tree, K: Sink>(
 
 /// Fixes the files under the job's prefix by the rules of its config, as `specs/Ends.antt` says, by a workspace that has neither
 /// files nor rules: writes each changed file whole, in order of path, and prints the line. The flag asks for a dry run, which
-/// writes none. It takes the steps of one scan, as `specs/Costs.antt` says.
+/// writes none. It takes the steps of one scan, as `specs/Costs.antt` says, and asks the builder for the texts of regular expressions
+/// of the good rules, for each once, as `specs/Asking.antt` says.
 pub fn fix_folder<W: Workspace, T: Tree, K: Sink, P: Patterns, L: Ledger>(
     alloc: Global,
     job: &Job<'_>,
@@ -77,6 +79,7 @@ pub fn fix_folder<W: Workspace, T: Tree, K: Sink, P: Patterns, L: Ledger>(
     ensures ends { IsAnswer result → Printed (FixPrints (setting (W.readings (W.reader workspace.old)) (T.files tree.old) (W.state workspace.old).most (gained (P.refusals patterns.old) (P.refusals patterns.new))) (task_of job.now)) (K.written out.old) (K.written out.new) result }
     ensures only { IsAnswer result → IsSome (T.files tree.old) → IsOnlyEnd (FixPrints (setting (W.readings (W.reader workspace.old)) (T.files tree.old) (W.state workspace.old).most (gained (P.refusals patterns.old) (P.refusals patterns.new))) (task_of job.now)) (K.written out.old) (K.written out.new) result }
     ensures work { IsAnswer result → FixedAfter (setting (W.readings (W.reader workspace.old)) (T.files tree.old) (W.state workspace.old).most (gained (P.refusals patterns.old) (P.refusals patterns.new))) (task_of job.now) (K.written out.old) (K.written out.new) result steps.old steps.new }
+    ensures asked { IsAnswer result → FixedAsking (setting (W.readings (W.reader workspace.old)) (T.files tree.old) (W.state workspace.old).most (gained (P.refusals patterns.old) (P.refusals patterns.new))) (task_of job.now) (K.written out.old) (K.written out.new) result (P.asked patterns.old) (P.asked patterns.new) }
     ensures wrote { IsAnswer result → Wrote (setting (W.readings (W.reader workspace.old)) (T.files tree.old) (W.state workspace.old).most (gained (P.refusals patterns.old) (P.refusals patterns.new))) (task_of job.now) (T.files tree.new) result }
     ensures left { Leaves (setting (W.readings (W.reader workspace.old)) (T.files tree.old) (W.state workspace.old).most (gained (P.refusals patterns.old) (P.refusals patterns.new))) (task_of job.now) (T.files tree.new) }
     ensures tree_kept { IsAnswer result → T.faults tree.new ≡ T.faults tree.old }

@@ -1,5 +1,5 @@
 use Rattle.std.specs.Prelude.{None, Some}
-use Rattle.stream_run.proofs.Settled.{told_once, refused_once}
+use Rattle.stream_run.proofs.Settled.{told_once}
 use Rattle.folder_run.proofs.Taken.{none_read, no_rules, config_once, over_rules, over_files, taken}
 use Rattle.folder_run.proofs.taking.take_folder.Goals as goal
 
