@@ -1,10 +1,9 @@
 -- A run ends as what its words ask for ends.
-use Rattle.std.proofs.Common.{◌≡◌, ◌⊎◌, inl, inr, ℕ, List, [], length, take, refl, sym, ap, subst}
-use Rattle.std.specs.Prelude.{Option, IsSome, Bool}
+use Rattle.std.proofs.Common.{◌≡◌, ◌⊎◌, inl, inr, ℕ, List, [], length, refl, sym, subst}
+use Rattle.std.specs.Prelude.{Option, Bool}
 use Rattle.std.specs.List.{concat}
 use Rattle.std.specs.Io.KnownBytes.{Appends}
 use Rattle.std.proofs.Math.Seq.{take-length}
-use Rattle.scan_world.specs.Streams.{AppendsFront}
 use Rattle.node_tree.specs.declared.view.Lang.{Lang}
 use Rattle.scan_world.specs.Files.{Files}
 use Rattle.wire_words.specs.Commands.{Task, Request, Matching, Checking, Scanning, Fixing, Serving, Drilling}
@@ -15,8 +14,8 @@ use Rattle.scan_run.specs.Matching.{Matches}
 use Rattle.scan_run.specs.Checking.{Checks}
 use Rattle.scan_run.specs.Scan.{Scans}
 use Rattle.stream_run.specs.Playing.{PrintsFirst, PrintsFront}
-use Rattle.scan_run.specs.Serving.{setting, Serves, ServesFirst, Fixes, Drills}
-use Rattle.scan_run.specs.Run.{Asks, AreOtherWords, Ends, usage, matched, checked, scanned, fixed, served, drilled, StartsWith, whole, commands, WritesFront, WritesSome, WritesCommands, IsTold, AreTold, AskToMatch, AskToRead, AskToWrite, AskToServe, AskForNoScan, ScansNothing}
+use Rattle.scan_run.specs.Serving.{setting, Serves, Fixes, Drills}
+use Rattle.scan_run.specs.Run.{Asks, AreOtherWords, Ends, usage, matched, checked, scanned, fixed, served, drilled, whole, commands, WritesFront, WritesSome, WritesCommands, IsTold, AreTold, AskToMatch, AskToRead, AskToServe, AskForNoScan, ScansNothing}
 use Rattle.scan_run.proofs.Streaming.{nothing_written}
 
 module _ (words : List (List ℕ)) (left : Option (List ℕ)) (told : Option Files) (refused : List (List ℕ)) where

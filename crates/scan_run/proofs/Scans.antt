@@ -25,7 +25,11 @@ use Rattle.scan_run.specs.Scanned.{ScansFiles}
 use Rattle.scan_run.specs.Config.{IsConfig, IsRules, ConfigEnds, IsOneFile, HasRules, HasConfigEnd}
 use Rattle.scan_run.specs.Scan.{grammars, report_line, status_of, HasMoreFindings, ReportEnds, too_many, reported, ScanEnds, over_limit, searched, Scans, no_rules, with_rules, IsOneReport}
 use Rattle.scan_run.proofs.Streaming.{nothing_written}
+use Rattle.running_rules.specs.Running.{stated, texts_of}
+use Rattle.stream_run.specs.Asking.{AsksOnce}
+use Rattle.stream_run.proofs.Asking.{Asked, asks_nothing}
 use Rattle.stream_run.proofs.Synced.{some_map}
+use Rattle.scan_run.specs.Asking.{ScansAsking}
 use Rattle.scan_run.proofs.Files.{config_once, files_once}
 use Rattle.scan_run.proofs.Rules.{same_rules, rules_or_end, config_ends_once}
 
@@ -151,6 +155,18 @@ module _ (task : Task) (refused : List (List ℕ)) (config : Option (List ℕ)) 
 pub ends_by_config : (task : Task) (told : Option Files) (refused : List (List ℕ)) (w : Option (List ℕ)) (status : Status) → HasConfigEnd told task.config status → Printed (Scans task told refused) w w status
 ends_by_config task told refused w status h = record { lines = []; ends = no_rules h.config status h.is_config h.ends; printed = nothing_written w }
 
+pub asking_by_config : (task : Task) (told : Option Files) (refused : List (List ℕ)) (w : Option (List ℕ)) (status : Status) (asked : Asked) → HasConfigEnd told task.config status → ScansAsking task told refused w w status asked asked
+asking_by_config task told refused w status asked h = record {
+  prints = record { lines = []; ends = no_rules h.config status h.is_config h.ends; printed = nothing_written w };
+  texts = [];
+  goes_by = refl;
+  asked = asks_nothing asked;
+}
+
+-- the texts of the rule file that is the only one
+pub asks_of_one : (asked asked_after : Asked) (rules : RuleFile) (all : List RuleFile) → all ≡ rules ∷ [] → AsksOnce asked asked_after (texts_of (stated all)) → AsksOnce asked asked_after (texts_of (stated (rules ∷ [])))
+asks_of_one asked asked_after rules all e asks = subst (λ (files : List RuleFile). AsksOnce asked asked_after (texts_of (stated files))) e asks
+
 module _ (task : Task) (told : Option Files) (refused : List (List ℕ)) (rules : RuleFile) (h : HasRules told task.config rules) where
   -- by a limit on its files
   pub ends_by_limit : (w : Option (List ℕ)) (status : Status) → FilesEnd told task.prefix status → Printed (Scans task told refused) w w status
@@ -158,6 +174,14 @@ module _ (task : Task) (told : Option Files) (refused : List (List ℕ)) (rules 
 
   pub only_limit : (w : Option (List ℕ)) (status : Status) → (IsFinished status → ⊥) → FilesEnd told task.prefix status → IsSome told → IsOnlyEnd (Scans task told refused) w w status
   only_limit w status nay (files, are, e) = only_files task refused h.config h.one_file told rules files w w status [] h.is_config h.are_rules are (λ f. absurd (nay f)) (over_limit status e) (nothing_written w)
+
+  pub asking_by_limit : (w : Option (List ℕ)) (status : Status) → FilesEnd told task.prefix status → (asked asked_after : Asked) → AsksOnce asked asked_after (texts_of (stated (rules ∷ []))) → ScansAsking task told refused w w status asked asked_after
+  asking_by_limit w status (files, are, e) asked asked_after asks = record {
+    prints = record { lines = []; ends = with_rules h.config rules files status [] h.is_config h.are_rules are (over_limit status e); printed = nothing_written w };
+    texts = texts_of (stated (rules ∷ []));
+    goes_by = refl;
+    asked = asks;
+  }
 
   module _ (files : List File) (are : AreFiles told task.prefix files) (within : limit_end 0 0 files ≡ None) (traced : Bool) (as_asked : traced ≡ task.trace) where
     -- by what the rules find
@@ -169,6 +193,15 @@ module _ (task : Task) (told : Option Files) (refused : List (List ℕ)) (rules 
 
     pub ends_by_report : (w v : Option (List ℕ)) (status : Status) → Printed (ReportEnds task.flag task.most traced refused files rules) w v status → Printed (Scans task told refused) w v status
     ends_by_report w v status p = record { lines = p.lines; ends = scanned status p.lines p.ends; printed = p.printed }
+
+    pub asking_by_report : (w v : Option (List ℕ)) (status : Status) → Printed (ReportEnds task.flag task.most traced refused files rules) w v status → (asked asked_after : Asked) → AsksOnce asked asked_after (texts_of (stated (rules ∷ [])))
+        → ScansAsking task told refused w v status asked asked_after
+    asking_by_report w v status p asked asked_after asks = record {
+      prints = record { lines = p.lines; ends = with_rules h.config rules files status p.lines h.is_config h.are_rules are (searched_so status p.lines p.ends); printed = p.printed };
+      texts = texts_of (stated (rules ∷ []));
+      goes_by = refl;
+      asked = asks;
+    }
 
     pub front_of_report : (w v : Option (List ℕ)) → PrintedFront (ReportEnds task.flag task.most traced refused files rules) w v → PrintedFront (Scans task told refused) w v
     front_of_report w v p = record { status = p.status; finished = p.finished; lines = p.lines; ends = scanned p.status p.lines p.ends; printed = p.printed }

@@ -11,3 +11,4 @@ pub mod Scanned
 pub mod Serving
 pub mod Steps
 pub mod Run
+pub mod Asking

@@ -10,10 +10,13 @@ use Rattle.stream_run.specs.Reports.{Readings, readings_of}
 use Rattle.stream_run.specs.Doing.{Setting}
 use Rattle.stream_run.specs.Playing.{SessionEnds, AreFirstLines, PrintsWhole, PrintsToSync}
 use Rattle.stream_run.specs.Costs.{EndsAfter}
+use Rattle.stream_run.specs.Asking.{EndsAsking}
 use Rattle.folder_run.specs.Ends.{FixEnds}
 use Rattle.folder_run.specs.Costs.{FixedAfter}
+use Rattle.folder_run.specs.Asking.{FixedAsking}
 use Rattle.drill_run.specs.Drilling.{DrillEnds}
 use Rattle.drill_run.specs.Costs.{DrilledAfter}
+use Rattle.drill_run.specs.Asking.{DrilledAsking}
 use Rattle.wire_words.specs.Commands.{Task}
 
 -- what texts and rules say in JSON, Python and C, and whether findings have their traces
@@ -63,3 +66,17 @@ FixesAfter task told refused written written_after status before after = FixedAf
 -- the drill ended so, and its commands took these steps
 abbrev pub DrillsAfter : ℕ → List (List ℕ) → Option (List ℕ) → Option (List ℕ) → Status → ℕ → ℕ → Type 0
 DrillsAfter count refused written written_after status before after = DrilledAfter (setting 50000 false None refused) count written written_after status before after
+
+-- ---- which texts their builder was asked for: the lists are before and after, where the builder tells them
+
+-- the session ended so, and the builder was asked once for each text that its commands went by
+abbrev pub ServesAsking : ℕ → Bool → Option Files → List (List ℕ) → Option (List ℕ) → Option (List ℕ) → Option (List ℕ) → Status → Option (List (List ℕ)) → Option (List (List ℕ)) → Type 0
+ServesAsking most traced told refused left written written_after status before after = EndsAsking (setting most traced told refused) left written written_after status before after
+
+-- fixing the folder ended so, and the builder was asked once for each text that it went by
+abbrev pub FixesAsking : Task → Option Files → List (List ℕ) → Option (List ℕ) → Option (List ℕ) → Status → Option (List (List ℕ)) → Option (List (List ℕ)) → Type 0
+FixesAsking task told refused written written_after status before after = FixedAsking (setting task.most task.trace told refused) task written written_after status before after
+
+-- the drill ended so, and the builder was asked once for each text that its commands went by
+abbrev pub DrillsAsking : ℕ → List (List ℕ) → Option (List ℕ) → Option (List ℕ) → Status → Option (List (List ℕ)) → Option (List (List ℕ)) → Type 0
+DrillsAsking count refused written written_after status before after = DrilledAsking (setting 50000 false None refused) count written written_after status before after

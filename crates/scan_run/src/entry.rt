@@ -10,6 +10,7 @@ ghost use Rattle.run_status.specs.Ways.{Printed, IsOnlyEnd};
 ghost use Rattle.wire_words.specs.Commands.{Request, request as requested};
 ghost use Rattle.scan_run.specs.Run.{Asks, IsBuilt, Ends, WritesFront, WritesSome, WritesCommands, WritesAllRead, WritesToSync, FixWrote, FixLeaves, AreTold, AskToMatch, AskToRead, AskToServe, AskToWrite, AskForNoScan, AskForNoSearch, Takes};
 ghost use Rattle.scan_run.specs.Steps.{TakesSteps};
+ghost use Rattle.scan_run.specs.Asking.{Gives, GivesFirst};
 
 use crate::checking::run_check;
 use crate::matching::run_match;
@@ -94,6 +95,12 @@ pub fn run<T: Tree, S: Source, K: Sink, P: Patterns, L: Ledger>(
     // The list of refused texts gains those that were refused in the run, however it ends; where no scan is asked for there is none.
     ensures patterns_grow { Gains (P.refusals patterns.old) (P.refusals patterns.new) }
     ensures patterns_kept { AskForNoScan (map string_bytes words.now.items) → P.refusals patterns.new ≡ P.refusals patterns.old }
+
+    // If the builder tells what it is asked for, these are the texts of regular expressions that the scans go by, in order and each
+    // once. After a fault in a session they are those of its first commands, and where no scan is asked for there are none.
+    ensures texts_asked { IsAnswer result → Gives (map string_bytes words.now.items) (S.left input.old) (T.files tree.old) (gained (P.refusals patterns.old) (P.refusals patterns.new)) (K.written out.old) (K.written out.new) result (P.asked patterns.old) (P.asked patterns.new) }
+    ensures texts_to_fault { AskToServe (map string_bytes words.now.items) → (IsAnswer result → ⊥) → (result ≡ Status.Memory → ⊥) → GivesFirst (map string_bytes words.now.items) (S.left input.old) (T.files tree.old) (gained (P.refusals patterns.old) (P.refusals patterns.new)) (K.written out.old) (K.written out.new) (P.asked patterns.old) (P.asked patterns.new) }
+    ensures none_asked { AskForNoScan (map string_bytes words.now.items) → P.asked patterns.new ≡ P.asked patterns.old }
 
     // A match takes steps as its status says, and a run that searches nothing takes none.
     ensures work { AskToMatch (map string_bytes words.now.items) → TakesSteps result steps.old steps.new }

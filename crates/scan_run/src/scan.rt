@@ -1,16 +1,19 @@
 //! The command `scan`: what rules find in a folder.
 
-ghost use Rattle.std.specs.Prelude.{◌≡◌, [], ◌∷◌, IfOk, IsSome};
+ghost use Rattle.std.specs.Prelude.{◌≡◌, [], ◌∷◌, IfOk, OnOk, IsSome};
 ghost use Rattle.scan_world.specs.Faults.{Rose};
 ghost use Rattle.scan_world.specs.Trees.{KeepsFiles};
 ghost use Rattle.wire_words.specs.Commands.{task_of};
 ghost use Rattle.decided_texts.specs.Refused.{Gains, gained};
+ghost use Rattle.running_rules.specs.Running.{stated, texts_of};
 ghost use Rattle.scan_session.specs.Scans.{HasScanned};
 ghost use Rattle.run_status.specs.Status.{IsAnswer, IsFinished};
 ghost use Rattle.run_status.specs.Ways.{Printed, PrintedFront, IsOnlyEnd};
 ghost use Rattle.scan_run.specs.Status.{IsOfReport};
 ghost use Rattle.scan_run.specs.Scan.{grammars, status_of, ReportEnds, IsOneReport, Scans};
 ghost use Rattle.scan_run.specs.Scanned.{AfterScanBy};
+ghost use Rattle.scan_run.specs.Asking.{ScansAsking};
+ghost use Rattle.stream_run.specs.Asking.{AsksOnce};
 
 use crate::config::read_config;
 use crate::taking::scan_files;
@@ -47,7 +50,7 @@ fn one_file(alloc: Global, rules: RuleFile) -> Result<List<RuleFile>, Memory>
     Ok(all)
 }
 
-// A scan that has no file so far, with traces if `traced` says so. The builder is asked for all texts of its rules.
+// A scan that has no file so far, with traces if `traced` says so. The builder is asked for all texts of its rules, for each once.
 fn begin<'r, P: Patterns>(
     alloc: Global,
     languages: &'r Languages,
@@ -57,6 +60,7 @@ fn begin<'r, P: Patterns>(
     patterns: &mut P,
 ) -> Result<Scanner<'r, Languages>, Memory>
     ensures grows { Gains (P.refusals patterns.old) (P.refusals patterns.new) }
+    ensures asked { OnOk result (AsksOnce (P.asked patterns.old) (P.asked patterns.new) (texts_of (stated rules.now))) }
     ensures traced { IfOk result (λ scanner. scanner.traced ≡ traced) }
     ensures begun { IfOk result (HasScanned (grammars traced) (gained (P.refusals patterns.old) (P.refusals patterns.new)) rules.now most []) }
 {
@@ -115,6 +119,7 @@ pub fn run_scan<T: Tree, K: Sink, P: Patterns, L: Ledger>(
 ) -> Status
     ensures ends { IsAnswer result → Printed (Scans (task_of job.now) (T.files tree.old) (gained (P.refusals patterns.old) (P.refusals patterns.new))) (K.written out.old) (K.written out.new) result }
     ensures only { IsAnswer result → IsSome (T.files tree.old) → IsOnlyEnd (Scans (task_of job.now) (T.files tree.old) (gained (P.refusals patterns.old) (P.refusals patterns.new))) (K.written out.old) (K.written out.new) result }
+    ensures asked { IsAnswer result → ScansAsking (task_of job.now) (T.files tree.old) (gained (P.refusals patterns.old) (P.refusals patterns.new)) (K.written out.old) (K.written out.new) result (P.asked patterns.old) (P.asked patterns.new) }
     ensures files_kept { KeepsFiles (T.files tree.old) (T.files tree.new) }
     ensures tree_kept { IsAnswer result → T.faults tree.new ≡ T.faults tree.old }
     ensures output_kept { IsAnswer result → K.faults out.new ≡ K.faults out.old }

@@ -9,7 +9,8 @@ ghost use Rattle.run_status.specs.Status.{IsAnswer, IsCutShort};
 ghost use Rattle.run_status.specs.Ways.{Printed, PrintedFront, IsOnlyEnd};
 ghost use Rattle.folder_run.specs.Written.{Wrote, Leaves};
 ghost use Rattle.stream_run.specs.Playing.{PrintsFirst, PrintsFront};
-ghost use Rattle.scan_run.specs.Serving.{setting, Serves, ServesWhole, ServesToSync, Fixes, Drills, ServesAfter, FixesAfter, DrillsAfter};
+ghost use Rattle.stream_run.specs.Asking.{FrontAsking};
+ghost use Rattle.scan_run.specs.Serving.{setting, Serves, ServesWhole, ServesToSync, Fixes, Drills, ServesAfter, FixesAfter, DrillsAfter, ServesAsking, FixesAsking, DrillsAsking};
 
 use drill_run::drill;
 use folder_run::fix_folder;
@@ -39,6 +40,7 @@ pub fn run_fix<T: Tree, K: Sink, P: Patterns, L: Ledger>(
     ensures ends { IsAnswer result → Printed (Fixes (task_of job.now) (T.files tree.old) (gained (P.refusals patterns.old) (P.refusals patterns.new))) (K.written out.old) (K.written out.new) result }
     ensures only { IsAnswer result → IsSome (T.files tree.old) → IsOnlyEnd (Fixes (task_of job.now) (T.files tree.old) (gained (P.refusals patterns.old) (P.refusals patterns.new))) (K.written out.old) (K.written out.new) result }
     ensures work { IsAnswer result → FixesAfter (task_of job.now) (T.files tree.old) (gained (P.refusals patterns.old) (P.refusals patterns.new)) (K.written out.old) (K.written out.new) result steps.old steps.new }
+    ensures asked { IsAnswer result → FixesAsking (task_of job.now) (T.files tree.old) (gained (P.refusals patterns.old) (P.refusals patterns.new)) (K.written out.old) (K.written out.new) result (P.asked patterns.old) (P.asked patterns.new) }
     ensures wrote { IsAnswer result → Wrote (setting job.now.most job.now.trace (T.files tree.old) (gained (P.refusals patterns.old) (P.refusals patterns.new))) (task_of job.now) (T.files tree.new) result }
     ensures left { Leaves (setting job.now.most job.now.trace (T.files tree.old) (gained (P.refusals patterns.old) (P.refusals patterns.new))) (task_of job.now) (T.files tree.new) }
     ensures tree_kept { IsAnswer result → T.faults tree.new ≡ T.faults tree.old }
@@ -72,6 +74,8 @@ pub fn run_session<T: Tree, S: Source, K: Sink, P: Patterns, L: Ledger>(
     ensures ends { IsAnswer result → Printed (Serves most traced (T.files tree.old) (gained (P.refusals patterns.old) (P.refusals patterns.new)) (S.left input.old)) (K.written out.old) (K.written out.new) result }
     ensures only { IsAnswer result → IsSome (S.left input.old) → IsSome (T.files tree.old) → IsOnlyEnd (Serves most traced (T.files tree.old) (gained (P.refusals patterns.old) (P.refusals patterns.new)) (S.left input.old)) (K.written out.old) (K.written out.new) result }
     ensures work { IsAnswer result → ServesAfter most traced (T.files tree.old) (gained (P.refusals patterns.old) (P.refusals patterns.new)) (S.left input.old) (K.written out.old) (K.written out.new) result steps.old steps.new }
+    ensures asked { IsAnswer result → ServesAsking most traced (T.files tree.old) (gained (P.refusals patterns.old) (P.refusals patterns.new)) (S.left input.old) (K.written out.old) (K.written out.new) result (P.asked patterns.old) (P.asked patterns.new) }
+    ensures asked_to_fault { (IsAnswer result → ⊥) → (result ≡ Status.Memory → ⊥) → FrontAsking (setting most traced (T.files tree.old) (gained (P.refusals patterns.old) (P.refusals patterns.new))) (S.left input.old) (K.written out.old) (K.written out.new) (P.asked patterns.old) (P.asked patterns.new) }
     ensures commands_written { IsCutShort result → PrintsFirst (setting most traced (T.files tree.old) (gained (P.refusals patterns.old) (P.refusals patterns.new))) (S.left input.old) (K.written out.old) (K.written out.new) }
     ensures all_read_written { result ≡ Status.InputFault → ServesWhole most traced (T.files tree.old) (gained (P.refusals patterns.old) (P.refusals patterns.new)) (S.left input.old) (S.left input.new) (K.written out.old) (K.written out.new) }
     ensures before_sync_written { result ≡ Status.TreeFault → ServesToSync most traced (T.files tree.old) (gained (P.refusals patterns.old) (P.refusals patterns.new)) (S.left input.old) (K.written out.old) (K.written out.new) }
@@ -103,6 +107,7 @@ pub fn run_drill<T: Tree, K: Sink, P: Patterns, L: Ledger>(
     ensures ends { IsAnswer result → Printed (Drills count (gained (P.refusals patterns.old) (P.refusals patterns.new))) (K.written out.old) (K.written out.new) result }
     ensures only { IsAnswer result → IsOnlyEnd (Drills count (gained (P.refusals patterns.old) (P.refusals patterns.new))) (K.written out.old) (K.written out.new) result }
     ensures work { IsAnswer result → DrillsAfter count (gained (P.refusals patterns.old) (P.refusals patterns.new)) (K.written out.old) (K.written out.new) result steps.old steps.new }
+    ensures asked { IsAnswer result → DrillsAsking count (gained (P.refusals patterns.old) (P.refusals patterns.new)) (K.written out.old) (K.written out.new) result (P.asked patterns.old) (P.asked patterns.new) }
     ensures files_kept { KeepsFiles (T.files tree.old) (T.files tree.new) }
     ensures tree_kept { IsAnswer result → T.faults tree.new ≡ T.faults tree.old }
     ensures output_kept { IsAnswer result → K.faults out.new ≡ K.faults out.old }

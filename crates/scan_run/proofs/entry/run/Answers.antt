@@ -7,6 +7,7 @@ use Rattle.scan_run.specs.Status.{IsOfInput}
 use Rattle.scan_run.proofs.Files.{keeps_self}
 use Rattle.decided_texts.specs.Refused.{gained}
 use Rattle.scan_run.specs.Run.{Asks, TakesFor}
+use Rattle.scan_run.specs.Asking.{GivesFor}
 use Rattle.scan_run.proofs.Requests.{ends_usage, only_usage, only_by, ends_match, front_match, some_match, ends_check, front_check, ends_scan, front_scan, ends_fix, front_fix, ends_session, front_session, some_session, commands_session, ends_drill, front_drill, as_asked, fix_asked, scans_something, no_match_in_check, no_match_in_scan, no_read_in_scan, no_match_in_fix, no_read_in_fix, no_session_in_fix, no_match_in_session, no_read_in_session, no_fix_in_session, no_fix_in_match, no_session_in_match, no_fix_in_check, no_session_in_check, no_fix_in_scan, no_session_in_scan, no_match_in_drill, no_read_in_drill, no_fix_in_drill, no_session_in_drill}
 use Rattle.scan_run.proofs.Leaving.{kept_unless_written, cut_by_memory}
 use Rattle.folder_run.specs.Written.{Wrote, Leaves}
@@ -37,6 +38,9 @@ returns-in-None-clause-work g c (lang, text, is) = absurd (c.in-None.ensures.onl
 
 pub returns-in-None-clause-session_work : goal.returns-in-None-clause-session_work
 returns-in-None-clause-session_work g c a r is = absurd (c.in-None.ensures.only r is)
+
+pub returns-in-None-clause-texts_asked : goal.returns-in-None-clause-texts_asked
+returns-in-None-clause-texts_asked g c a r is = absurd (c.in-None.ensures.only r is)
 
 pub returns-in-None-clause-nothing_written : goal.returns-in-None-clause-nothing_written
 returns-in-None-clause-nothing_written g c nay e = refl
@@ -86,6 +90,13 @@ returns-in-Some-Match-clause-session_work g c a =
     let is = asks (map string_bytes c.args.words.now.items) _ _ c.in-Some-Match.field-0-is c.in-Some-Match.ensures.read in
     as_asked (map string_bytes c.args.words.now.items) (Matching c.in-Some-Match.lang c.in-Some-Match.text.now) (only_asks (map string_bytes c.args.words.now.items) _ _ c.in-Some-Match.field-0-is c.in-Some-Match.ensures.only) is
     (λ (r : Request). TakesFor r (g.S.Source.left c.args.input.now) (g.T.Tree.files c.args.tree.now) (gained (g.P.Patterns.refusals c.args.patterns.now) (g.P.Patterns.refusals c.args.patterns.now)) (g.K.Sink.written c.args.out.now) (g.K.Sink.written c.run_match.new.out) c.run_match.result c.args.steps.now c.run_match.new.steps)
+    tt
+
+pub returns-in-Some-Match-clause-texts_asked : goal.returns-in-Some-Match-clause-texts_asked
+returns-in-Some-Match-clause-texts_asked g c a =
+    let is = asks (map string_bytes c.args.words.now.items) _ _ c.in-Some-Match.field-0-is c.in-Some-Match.ensures.read in
+    as_asked (map string_bytes c.args.words.now.items) (Matching c.in-Some-Match.lang c.in-Some-Match.text.now) (only_asks (map string_bytes c.args.words.now.items) _ _ c.in-Some-Match.field-0-is c.in-Some-Match.ensures.only) is
+    (λ (r : Request). GivesFor r (g.S.Source.left c.args.input.now) (g.T.Tree.files c.args.tree.now) (gained (g.P.Patterns.refusals c.args.patterns.now) (g.P.Patterns.refusals c.args.patterns.now)) (g.K.Sink.written c.args.out.now) (g.K.Sink.written c.run_match.new.out) c.run_match.result (g.P.Patterns.asked c.args.patterns.now) (g.P.Patterns.asked c.args.patterns.now))
     tt
 
 pub returns-in-Some-Match-clause-no_work : goal.returns-in-Some-Match-clause-no_work
@@ -140,6 +151,13 @@ returns-in-Some-Check-clause-session_work g c a =
     (λ (r : Request). TakesFor r (g.S.Source.left c.args.input.now) (g.T.Tree.files c.args.tree.now) (gained (g.P.Patterns.refusals c.args.patterns.now) (g.P.Patterns.refusals c.args.patterns.now)) (g.K.Sink.written c.args.out.now) (g.K.Sink.written c.run_check.new.out) c.run_check.result c.args.steps.now c.args.steps.now)
     tt
 
+pub returns-in-Some-Check-clause-texts_asked : goal.returns-in-Some-Check-clause-texts_asked
+returns-in-Some-Check-clause-texts_asked g c a =
+    let is = asks (map string_bytes c.args.words.now.items) _ _ c.in-Some-Check.field-0-is c.in-Some-Check.ensures.read in
+    as_asked (map string_bytes c.args.words.now.items) (Checking) (only_asks (map string_bytes c.args.words.now.items) _ _ c.in-Some-Check.field-0-is c.in-Some-Check.ensures.only) is
+    (λ (r : Request). GivesFor r (g.S.Source.left c.args.input.now) (g.T.Tree.files c.args.tree.now) (gained (g.P.Patterns.refusals c.args.patterns.now) (g.P.Patterns.refusals c.args.patterns.now)) (g.K.Sink.written c.args.out.now) (g.K.Sink.written c.run_check.new.out) c.run_check.result (g.P.Patterns.asked c.args.patterns.now) (g.P.Patterns.asked c.args.patterns.now))
+    tt
+
 pub returns-in-Some-Check-clause-no_work : goal.returns-in-Some-Check-clause-no_work
 returns-in-Some-Check-clause-no_work g c nay = refl
 
@@ -185,6 +203,13 @@ returns-in-Some-Scan-clause-session_work g c a =
     (λ (r : Request). TakesFor r (g.S.Source.left c.args.input.now) (g.T.Tree.files c.args.tree.now) (gained (g.P.Patterns.refusals c.args.patterns.now) (g.P.Patterns.refusals c.run_scan.new.patterns)) (g.K.Sink.written c.args.out.now) (g.K.Sink.written c.run_scan.new.out) c.run_scan.result c.args.steps.now c.run_scan.new.steps)
     tt
 
+pub returns-in-Some-Scan-clause-texts_asked : goal.returns-in-Some-Scan-clause-texts_asked
+returns-in-Some-Scan-clause-texts_asked g c a =
+    let is = asks (map string_bytes c.args.words.now.items) _ _ c.in-Some-Scan.field-0-is c.in-Some-Scan.ensures.read in
+    as_asked (map string_bytes c.args.words.now.items) (Scanning (task_of c.in-Some-Scan.job)) (only_asks (map string_bytes c.args.words.now.items) _ _ c.in-Some-Scan.field-0-is c.in-Some-Scan.ensures.only) is
+    (λ (r : Request). GivesFor r (g.S.Source.left c.args.input.now) (g.T.Tree.files c.args.tree.now) (gained (g.P.Patterns.refusals c.args.patterns.now) (g.P.Patterns.refusals c.run_scan.new.patterns)) (g.K.Sink.written c.args.out.now) (g.K.Sink.written c.run_scan.new.out) c.run_scan.result (g.P.Patterns.asked c.args.patterns.now) (g.P.Patterns.asked c.run_scan.new.patterns))
+    (c.run_scan.ensures.asked a)
+
 pub returns-in-Some-Scan-clause-no_work : goal.returns-in-Some-Scan-clause-no_work
 returns-in-Some-Scan-clause-no_work g c nay =
     let is = asks (map string_bytes c.args.words.now.items) _ _ c.in-Some-Scan.field-0-is c.in-Some-Scan.ensures.read in
@@ -192,6 +217,11 @@ returns-in-Some-Scan-clause-no_work g c nay =
 
 pub returns-in-Some-Scan-clause-patterns_kept : goal.returns-in-Some-Scan-clause-patterns_kept
 returns-in-Some-Scan-clause-patterns_kept g c nay =
+    let is = asks (map string_bytes c.args.words.now.items) _ _ c.in-Some-Scan.field-0-is c.in-Some-Scan.ensures.read in
+    absurd (scans_something (map string_bytes c.args.words.now.items) (Scanning (task_of c.in-Some-Scan.job)) (only_asks (map string_bytes c.args.words.now.items) _ _ c.in-Some-Scan.field-0-is c.in-Some-Scan.ensures.only) is (λ x. x) nay)
+
+pub returns-in-Some-Scan-clause-none_asked : goal.returns-in-Some-Scan-clause-none_asked
+returns-in-Some-Scan-clause-none_asked g c nay =
     let is = asks (map string_bytes c.args.words.now.items) _ _ c.in-Some-Scan.field-0-is c.in-Some-Scan.ensures.read in
     absurd (scans_something (map string_bytes c.args.words.now.items) (Scanning (task_of c.in-Some-Scan.job)) (only_asks (map string_bytes c.args.words.now.items) _ _ c.in-Some-Scan.field-0-is c.in-Some-Scan.ensures.only) is (λ x. x) nay)
 
@@ -291,6 +321,13 @@ returns-in-Some-Fix-clause-session_work g c a =
     (λ (r : Request). TakesFor r (g.S.Source.left c.args.input.now) (g.T.Tree.files c.args.tree.now) (gained (g.P.Patterns.refusals c.args.patterns.now) (g.P.Patterns.refusals c.run_fix.new.patterns)) (g.K.Sink.written c.args.out.now) (g.K.Sink.written c.run_fix.new.out) c.run_fix.result c.args.steps.now c.run_fix.new.steps)
     (c.run_fix.ensures.work a)
 
+pub returns-in-Some-Fix-clause-texts_asked : goal.returns-in-Some-Fix-clause-texts_asked
+returns-in-Some-Fix-clause-texts_asked g c a =
+    let is = asks (map string_bytes c.args.words.now.items) _ _ c.in-Some-Fix.field-0-is c.in-Some-Fix.ensures.read in
+    as_asked (map string_bytes c.args.words.now.items) (Fixing (task_of c.in-Some-Fix.job)) (only_asks (map string_bytes c.args.words.now.items) _ _ c.in-Some-Fix.field-0-is c.in-Some-Fix.ensures.only) is
+    (λ (r : Request). GivesFor r (g.S.Source.left c.args.input.now) (g.T.Tree.files c.args.tree.now) (gained (g.P.Patterns.refusals c.args.patterns.now) (g.P.Patterns.refusals c.run_fix.new.patterns)) (g.K.Sink.written c.args.out.now) (g.K.Sink.written c.run_fix.new.out) c.run_fix.result (g.P.Patterns.asked c.args.patterns.now) (g.P.Patterns.asked c.run_fix.new.patterns))
+    (c.run_fix.ensures.asked a)
+
 pub returns-in-Some-Fix-clause-no_work : goal.returns-in-Some-Fix-clause-no_work
 returns-in-Some-Fix-clause-no_work g c nay =
     let is = asks (map string_bytes c.args.words.now.items) _ _ c.in-Some-Fix.field-0-is c.in-Some-Fix.ensures.read in
@@ -298,6 +335,11 @@ returns-in-Some-Fix-clause-no_work g c nay =
 
 pub returns-in-Some-Fix-clause-patterns_kept : goal.returns-in-Some-Fix-clause-patterns_kept
 returns-in-Some-Fix-clause-patterns_kept g c nay =
+    let is = asks (map string_bytes c.args.words.now.items) _ _ c.in-Some-Fix.field-0-is c.in-Some-Fix.ensures.read in
+    absurd (scans_something (map string_bytes c.args.words.now.items) (Fixing (task_of c.in-Some-Fix.job)) (only_asks (map string_bytes c.args.words.now.items) _ _ c.in-Some-Fix.field-0-is c.in-Some-Fix.ensures.only) is (λ x. x) nay)
+
+pub returns-in-Some-Fix-clause-none_asked : goal.returns-in-Some-Fix-clause-none_asked
+returns-in-Some-Fix-clause-none_asked g c nay =
     let is = asks (map string_bytes c.args.words.now.items) _ _ c.in-Some-Fix.field-0-is c.in-Some-Fix.ensures.read in
     absurd (scans_something (map string_bytes c.args.words.now.items) (Fixing (task_of c.in-Some-Fix.job)) (only_asks (map string_bytes c.args.words.now.items) _ _ c.in-Some-Fix.field-0-is c.in-Some-Fix.ensures.only) is (λ x. x) nay)
 
@@ -359,6 +401,13 @@ returns-in-Some-Session-clause-session_work g c a =
     (λ (r : Request). TakesFor r (g.S.Source.left c.args.input.now) (g.T.Tree.files c.args.tree.now) (gained (g.P.Patterns.refusals c.args.patterns.now) (g.P.Patterns.refusals c.run_session.new.patterns)) (g.K.Sink.written c.args.out.now) (g.K.Sink.written c.run_session.new.out) c.run_session.result c.args.steps.now c.run_session.new.steps)
     (c.run_session.ensures.work a)
 
+pub returns-in-Some-Session-clause-texts_asked : goal.returns-in-Some-Session-clause-texts_asked
+returns-in-Some-Session-clause-texts_asked g c a =
+    let is = asks (map string_bytes c.args.words.now.items) _ _ c.in-Some-Session.field-0-is c.in-Some-Session.ensures.read in
+    as_asked (map string_bytes c.args.words.now.items) (Serving c.in-Some-Session.most c.in-Some-Session.trace) (only_asks (map string_bytes c.args.words.now.items) _ _ c.in-Some-Session.field-0-is c.in-Some-Session.ensures.only) is
+    (λ (r : Request). GivesFor r (g.S.Source.left c.args.input.now) (g.T.Tree.files c.args.tree.now) (gained (g.P.Patterns.refusals c.args.patterns.now) (g.P.Patterns.refusals c.run_session.new.patterns)) (g.K.Sink.written c.args.out.now) (g.K.Sink.written c.run_session.new.out) c.run_session.result (g.P.Patterns.asked c.args.patterns.now) (g.P.Patterns.asked c.run_session.new.patterns))
+    (c.run_session.ensures.asked a)
+
 pub returns-in-Some-Session-clause-no_work : goal.returns-in-Some-Session-clause-no_work
 returns-in-Some-Session-clause-no_work g c nay =
     let is = asks (map string_bytes c.args.words.now.items) _ _ c.in-Some-Session.field-0-is c.in-Some-Session.ensures.read in
@@ -366,6 +415,11 @@ returns-in-Some-Session-clause-no_work g c nay =
 
 pub returns-in-Some-Session-clause-patterns_kept : goal.returns-in-Some-Session-clause-patterns_kept
 returns-in-Some-Session-clause-patterns_kept g c nay =
+    let is = asks (map string_bytes c.args.words.now.items) _ _ c.in-Some-Session.field-0-is c.in-Some-Session.ensures.read in
+    absurd (scans_something (map string_bytes c.args.words.now.items) (Serving c.in-Some-Session.most c.in-Some-Session.trace) (only_asks (map string_bytes c.args.words.now.items) _ _ c.in-Some-Session.field-0-is c.in-Some-Session.ensures.only) is (λ x. x) nay)
+
+pub returns-in-Some-Session-clause-none_asked : goal.returns-in-Some-Session-clause-none_asked
+returns-in-Some-Session-clause-none_asked g c nay =
     let is = asks (map string_bytes c.args.words.now.items) _ _ c.in-Some-Session.field-0-is c.in-Some-Session.ensures.read in
     absurd (scans_something (map string_bytes c.args.words.now.items) (Serving c.in-Some-Session.most c.in-Some-Session.trace) (only_asks (map string_bytes c.args.words.now.items) _ _ c.in-Some-Session.field-0-is c.in-Some-Session.ensures.only) is (λ x. x) nay)
 
@@ -428,6 +482,13 @@ returns-in-Some-Drill-clause-session_work g c a =
     (λ (r : Request). TakesFor r (g.S.Source.left c.args.input.now) (g.T.Tree.files c.args.tree.now) (gained (g.P.Patterns.refusals c.args.patterns.now) (g.P.Patterns.refusals c.run_drill.new.patterns)) (g.K.Sink.written c.args.out.now) (g.K.Sink.written c.run_drill.new.out) c.run_drill.result c.args.steps.now c.run_drill.new.steps)
     (c.run_drill.ensures.work a)
 
+pub returns-in-Some-Drill-clause-texts_asked : goal.returns-in-Some-Drill-clause-texts_asked
+returns-in-Some-Drill-clause-texts_asked g c a =
+    let is = asks (map string_bytes c.args.words.now.items) _ _ c.in-Some-Drill.field-0-is c.in-Some-Drill.ensures.read in
+    as_asked (map string_bytes c.args.words.now.items) (Drilling c.in-Some-Drill.count) (only_asks (map string_bytes c.args.words.now.items) _ _ c.in-Some-Drill.field-0-is c.in-Some-Drill.ensures.only) is
+    (λ (r : Request). GivesFor r (g.S.Source.left c.args.input.now) (g.T.Tree.files c.args.tree.now) (gained (g.P.Patterns.refusals c.args.patterns.now) (g.P.Patterns.refusals c.run_drill.new.patterns)) (g.K.Sink.written c.args.out.now) (g.K.Sink.written c.run_drill.new.out) c.run_drill.result (g.P.Patterns.asked c.args.patterns.now) (g.P.Patterns.asked c.run_drill.new.patterns))
+    (c.run_drill.ensures.asked a)
+
 pub returns-in-Some-Drill-clause-no_work : goal.returns-in-Some-Drill-clause-no_work
 returns-in-Some-Drill-clause-no_work g c nay =
     let is = asks (map string_bytes c.args.words.now.items) _ _ c.in-Some-Drill.field-0-is c.in-Some-Drill.ensures.read in
@@ -435,6 +496,11 @@ returns-in-Some-Drill-clause-no_work g c nay =
 
 pub returns-in-Some-Drill-clause-patterns_kept : goal.returns-in-Some-Drill-clause-patterns_kept
 returns-in-Some-Drill-clause-patterns_kept g c nay =
+    let is = asks (map string_bytes c.args.words.now.items) _ _ c.in-Some-Drill.field-0-is c.in-Some-Drill.ensures.read in
+    absurd (scans_something (map string_bytes c.args.words.now.items) (Drilling c.in-Some-Drill.count) (only_asks (map string_bytes c.args.words.now.items) _ _ c.in-Some-Drill.field-0-is c.in-Some-Drill.ensures.only) is (λ x. x) nay)
+
+pub returns-in-Some-Drill-clause-none_asked : goal.returns-in-Some-Drill-clause-none_asked
+returns-in-Some-Drill-clause-none_asked g c nay =
     let is = asks (map string_bytes c.args.words.now.items) _ _ c.in-Some-Drill.field-0-is c.in-Some-Drill.ensures.read in
     absurd (scans_something (map string_bytes c.args.words.now.items) (Drilling c.in-Some-Drill.count) (only_asks (map string_bytes c.args.words.now.items) _ _ c.in-Some-Drill.field-0-is c.in-Some-Drill.ensures.only) is (λ x. x) nay)
 
@@ -522,24 +588,49 @@ returns-in-Some-Session-clause-all_read_written g c ask fault =
 pub returns-in-Some-Match-clause-before_sync_written : goal.returns-in-Some-Match-clause-before_sync_written
 returns-in-Some-Match-clause-before_sync_written g c ask fault = absurd (no_session_in_match (map string_bytes c.args.words.now.items) c.in-Some-Match.lang c.in-Some-Match.text.now (only_asks (map string_bytes c.args.words.now.items) _ _ c.in-Some-Match.field-0-is c.in-Some-Match.ensures.only) ask)
 
+pub returns-in-Some-Match-clause-texts_to_fault : goal.returns-in-Some-Match-clause-texts_to_fault
+returns-in-Some-Match-clause-texts_to_fault g c ask fault got = absurd (no_session_in_match (map string_bytes c.args.words.now.items) c.in-Some-Match.lang c.in-Some-Match.text.now (only_asks (map string_bytes c.args.words.now.items) _ _ c.in-Some-Match.field-0-is c.in-Some-Match.ensures.only) ask)
+
 pub returns-in-Some-Check-clause-before_sync_written : goal.returns-in-Some-Check-clause-before_sync_written
 returns-in-Some-Check-clause-before_sync_written g c ask fault = absurd (no_session_in_check (map string_bytes c.args.words.now.items) (only_asks (map string_bytes c.args.words.now.items) _ _ c.in-Some-Check.field-0-is c.in-Some-Check.ensures.only) ask)
+
+pub returns-in-Some-Check-clause-texts_to_fault : goal.returns-in-Some-Check-clause-texts_to_fault
+returns-in-Some-Check-clause-texts_to_fault g c ask fault got = absurd (no_session_in_check (map string_bytes c.args.words.now.items) (only_asks (map string_bytes c.args.words.now.items) _ _ c.in-Some-Check.field-0-is c.in-Some-Check.ensures.only) ask)
 
 pub returns-in-Some-Scan-clause-before_sync_written : goal.returns-in-Some-Scan-clause-before_sync_written
 returns-in-Some-Scan-clause-before_sync_written g c ask fault = absurd (no_session_in_scan (map string_bytes c.args.words.now.items) (task_of c.in-Some-Scan.job) (only_asks (map string_bytes c.args.words.now.items) _ _ c.in-Some-Scan.field-0-is c.in-Some-Scan.ensures.only) ask)
 
+pub returns-in-Some-Scan-clause-texts_to_fault : goal.returns-in-Some-Scan-clause-texts_to_fault
+returns-in-Some-Scan-clause-texts_to_fault g c ask fault got = absurd (no_session_in_scan (map string_bytes c.args.words.now.items) (task_of c.in-Some-Scan.job) (only_asks (map string_bytes c.args.words.now.items) _ _ c.in-Some-Scan.field-0-is c.in-Some-Scan.ensures.only) ask)
+
 pub returns-in-None-clause-before_sync_written : goal.returns-in-None-clause-before_sync_written
 returns-in-None-clause-before_sync_written g c (most, trace, is) fault = absurd (c.in-None.ensures.only _ is)
 
+pub returns-in-None-clause-texts_to_fault : goal.returns-in-None-clause-texts_to_fault
+returns-in-None-clause-texts_to_fault g c (most, trace, is) fault got = absurd (c.in-None.ensures.only _ is)
+
 pub returns-in-Some-Fix-clause-before_sync_written : goal.returns-in-Some-Fix-clause-before_sync_written
 returns-in-Some-Fix-clause-before_sync_written g c ask fault =
+    absurd (no_session_in_fix (map string_bytes c.args.words.now.items) (task_of c.in-Some-Fix.job) (only_asks (map string_bytes c.args.words.now.items) _ _ c.in-Some-Fix.field-0-is c.in-Some-Fix.ensures.only) ask)
+
+pub returns-in-Some-Fix-clause-texts_to_fault : goal.returns-in-Some-Fix-clause-texts_to_fault
+returns-in-Some-Fix-clause-texts_to_fault g c ask fault got =
     absurd (no_session_in_fix (map string_bytes c.args.words.now.items) (task_of c.in-Some-Fix.job) (only_asks (map string_bytes c.args.words.now.items) _ _ c.in-Some-Fix.field-0-is c.in-Some-Fix.ensures.only) ask)
 
 pub returns-in-Some-Drill-clause-before_sync_written : goal.returns-in-Some-Drill-clause-before_sync_written
 returns-in-Some-Drill-clause-before_sync_written g c ask fault =
     absurd (no_session_in_drill (map string_bytes c.args.words.now.items) c.in-Some-Drill.count (only_asks (map string_bytes c.args.words.now.items) _ _ c.in-Some-Drill.field-0-is c.in-Some-Drill.ensures.only) ask)
 
+pub returns-in-Some-Drill-clause-texts_to_fault : goal.returns-in-Some-Drill-clause-texts_to_fault
+returns-in-Some-Drill-clause-texts_to_fault g c ask fault got =
+    absurd (no_session_in_drill (map string_bytes c.args.words.now.items) c.in-Some-Drill.count (only_asks (map string_bytes c.args.words.now.items) _ _ c.in-Some-Drill.field-0-is c.in-Some-Drill.ensures.only) ask)
+
 pub returns-in-Some-Session-clause-before_sync_written : goal.returns-in-Some-Session-clause-before_sync_written
 returns-in-Some-Session-clause-before_sync_written g c ask fault =
     let is = asks (map string_bytes c.args.words.now.items) _ _ c.in-Some-Session.field-0-is c.in-Some-Session.ensures.read in
     (c.in-Some-Session.most, c.in-Some-Session.trace, is, c.run_session.ensures.before_sync_written fault)
+
+pub returns-in-Some-Session-clause-texts_to_fault : goal.returns-in-Some-Session-clause-texts_to_fault
+returns-in-Some-Session-clause-texts_to_fault g c ask fault got =
+    let is = asks (map string_bytes c.args.words.now.items) _ _ c.in-Some-Session.field-0-is c.in-Some-Session.ensures.read in
+    (c.in-Some-Session.most, c.in-Some-Session.trace, is, c.run_session.ensures.asked_to_fault fault got)

@@ -3,7 +3,7 @@ use Rattle.wire_words.specs.Commands.{task_of}
 use Rattle.run_status.specs.declared.status.Status.TheVariants as statuses
 use Rattle.scan_run.proofs.Files.{files_before, end_before}
 use Rattle.scan_run.proofs.Causes.{reading_unfinished, config_kept, config_at}
-use Rattle.scan_run.proofs.Scans.{only_config, ends_by_config, ends_by_limit, only_limit, has_scanned, ends_by_report, front_of_report, only_report}
+use Rattle.scan_run.proofs.Scans.{only_config, ends_by_config, ends_by_limit, only_limit, has_scanned, ends_by_report, asking_by_config, asks_of_one, asking_by_limit, asking_by_report, front_of_report, only_report}
 use Rattle.scan_run.proofs.scan.run_scan.Goals as goal
 
 pub returns-in-Err-clause-ends : goal.returns-in-Err-clause-ends
@@ -65,3 +65,20 @@ returns-in-Ok-scan_files-clause-front_written g c e =
     let still = h.same_traced ∙ c.in-Ok-begin.ensures.traced in
     front_of_report (task_of c.args.job.now) _ _ rules c.in-Ok.ensures.rules h.files (files_before (g.T.Tree.files c.args.tree.now) (g.T.Tree.files c.read_config.new.tree) c.args.job.now.prefix.now h.files c.in-Ok.ensures.kept h.are) h.within _ still _ _
     (c.print_report.ensures.front_written e _ rules c.args.job.now.most h.files (has_scanned _ rules c.in-Ok-one_file.all c.args.job.now.most c.args.job.now.trace _ _ _ _ h c.in-Ok-begin.ensures.traced c.in-Ok-one_file.ensures c.in-Ok-begin.ensures.begun))
+
+pub returns-in-Err-clause-asked : goal.returns-in-Err-clause-asked
+returns-in-Err-clause-asked g c a = asking_by_config (task_of c.args.job.now) _ _ _ _ (g.P.Patterns.asked c.args.patterns.now) (c.in-Err.ensures.ended a)
+
+pub returns-clause-asked : goal.returns-clause-asked
+returns-clause-asked g c a =
+    asking_by_limit (task_of c.args.job.now) _ _ c.in-Ok.rules c.in-Ok.ensures.rules _ _ (end_before (g.T.Tree.files c.args.tree.now) (g.T.Tree.files c.read_config.new.tree) c.args.job.now.prefix.now c.in-Err-scan_files.status c.in-Ok.ensures.kept (c.in-Err-scan_files.ensures.ended a))
+    (g.P.Patterns.asked c.args.patterns.now) (g.P.Patterns.asked c.begin.new.patterns) (asks_of_one (g.P.Patterns.asked c.args.patterns.now) (g.P.Patterns.asked c.begin.new.patterns) c.in-Ok.rules c.in-Ok-one_file.all c.in-Ok-one_file.ensures c.in-Ok-begin.ensures.asked)
+
+pub returns-in-Ok-scan_files-clause-asked : goal.returns-in-Ok-scan_files-clause-asked
+returns-in-Ok-scan_files-clause-asked g c a =
+    let rules = c.in-Ok.rules in
+    let h = c.in-Ok-scan_files.ensures.scanned in
+    let still = h.same_traced ∙ c.in-Ok-begin.ensures.traced in
+    asking_by_report (task_of c.args.job.now) _ _ rules c.in-Ok.ensures.rules h.files (files_before (g.T.Tree.files c.args.tree.now) (g.T.Tree.files c.read_config.new.tree) c.args.job.now.prefix.now h.files c.in-Ok.ensures.kept h.are) h.within _ still _ _ _
+    (c.print_report.ensures.ends a _ rules c.args.job.now.most h.files (has_scanned _ rules c.in-Ok-one_file.all c.args.job.now.most c.args.job.now.trace _ _ _ _ h c.in-Ok-begin.ensures.traced c.in-Ok-one_file.ensures c.in-Ok-begin.ensures.begun))
+    (g.P.Patterns.asked c.args.patterns.now) (g.P.Patterns.asked c.begin.new.patterns) (asks_of_one (g.P.Patterns.asked c.args.patterns.now) (g.P.Patterns.asked c.begin.new.patterns) c.in-Ok.rules c.in-Ok-one_file.all c.in-Ok-one_file.ensures c.in-Ok-begin.ensures.asked)

@@ -3,6 +3,7 @@ use Rattle.run_status.specs.Ways.{Printed, PrintedFront, IsOnlyEnd}
 use Rattle.stream_run.specs.Doing.{Setting}
 use Rattle.drill_run.specs.Drilling.{DrillEnds}
 use Rattle.drill_run.specs.Costs.{DrilledAfter}
+use Rattle.drill_run.specs.Asking.{DrilledAsking}
 use Rattle.scan_run.proofs.Settings.{is_new, of_setting}
 use Rattle.scan_run.proofs.serving.run_drill.Goals as goal
 
@@ -16,6 +17,10 @@ returns-clause-ends g c a =
 pub returns-clause-work : goal.returns-clause-work
 returns-clause-work g c a =
     of_setting None _ 50000 false _ _ c.new-session.ensures.new c.new-session.ensures.traced (λ (s : Setting). DrilledAfter s c.args.count (g.K.Sink.written c.args.out.now) (g.K.Sink.written c.drill.new.out) c.drill.result c.args.steps.now c.drill.new.steps) (c.drill.ensures.work a)
+
+pub returns-clause-asked : goal.returns-clause-asked
+returns-clause-asked g c a =
+    of_setting None _ 50000 false _ _ c.new-session.ensures.new c.new-session.ensures.traced (λ (s : Setting). DrilledAsking s c.args.count (g.K.Sink.written c.args.out.now) (g.K.Sink.written c.drill.new.out) c.drill.result (g.P.Patterns.asked c.args.patterns.now) (g.P.Patterns.asked c.drill.new.patterns)) (c.drill.ensures.asked a)
 
 pub returns-clause-front_written : goal.returns-clause-front_written
 returns-clause-front_written g c e =

@@ -1,7 +1,8 @@
-use Rattle.run_status.specs.Ways.{Printed, IsOnlyEnd}
+use Rattle.run_status.specs.Ways.{IsOnlyEnd}
 use Rattle.stream_run.specs.Doing.{Setting}
 use Rattle.stream_run.specs.Playing.{SessionEnds, PrintsEnd, PrintsFirst, PrintsFront, PrintsWhole, PrintsToSync}
 use Rattle.stream_run.specs.Costs.{EndsAfter}
+use Rattle.stream_run.specs.Asking.{EndsAsking, FrontAsking}
 use Rattle.scan_run.proofs.Settings.{is_new, of_setting, printed_of, first_lines, no_absence}
 use Rattle.scan_run.proofs.serving.run_session.Goals as goal
 
@@ -17,6 +18,16 @@ pub returns-clause-work : goal.returns-clause-work
 returns-clause-work g c a =
     of_setting (g.T.Tree.files c.args.tree.now) _ c.args.most c.args.traced _ _ c.new-session.ensures.new c.new-session.ensures.traced
     (λ (s : Setting). EndsAfter s (g.S.Source.left c.args.input.now) (g.K.Sink.written c.args.out.now) (g.K.Sink.written c.serve.new.out) c.serve.result c.args.steps.now c.serve.new.steps) (c.serve.ensures.work a)
+
+pub returns-clause-asked : goal.returns-clause-asked
+returns-clause-asked g c a =
+    of_setting (g.T.Tree.files c.args.tree.now) _ c.args.most c.args.traced _ _ c.new-session.ensures.new c.new-session.ensures.traced
+    (λ (s : Setting). EndsAsking s (g.S.Source.left c.args.input.now) (g.K.Sink.written c.args.out.now) (g.K.Sink.written c.serve.new.out) c.serve.result (g.P.Patterns.asked c.args.patterns.now) (g.P.Patterns.asked c.serve.new.patterns)) (c.serve.ensures.asked a)
+
+pub returns-clause-asked_to_fault : goal.returns-clause-asked_to_fault
+returns-clause-asked_to_fault g c fault got =
+    of_setting (g.T.Tree.files c.args.tree.now) _ c.args.most c.args.traced _ _ c.new-session.ensures.new c.new-session.ensures.traced
+    (λ (s : Setting). FrontAsking s (g.S.Source.left c.args.input.now) (g.K.Sink.written c.args.out.now) (g.K.Sink.written c.serve.new.out) (g.P.Patterns.asked c.args.patterns.now) (g.P.Patterns.asked c.serve.new.patterns)) (c.serve.ensures.asked_to_fault fault got)
 
 pub returns-clause-commands_written : goal.returns-clause-commands_written
 returns-clause-commands_written g c cut =
