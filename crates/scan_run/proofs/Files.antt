@@ -1,169 +1,39 @@
--- Files that are taken and read, one after the other.
-use Rattle.std.proofs.Common.{◌≡◌, ◌↔◌, inl, inr, Bool, true, false, Ok, Err, ℕ, ◌+◌, ◌<◌, ◌≤◌, List, [], ◌∷◌, ◌++◌, length, take, drop, get_or, length-append, refl, sym, ap, ◌∙◌, subst, append_assoc, arith}
-use Rattle.std.specs.Prelude.{Option, Some, None, Result, IsTrue, IfErr, OnOk}
-use Rattle.std.proofs.lemmas.Bool.{false≢true}
-use Rattle.std.proofs.lemmas.List.{append-nil, take_all, take_more, take-append-drop, length-take}
+-- Files that are read, each scanned as it was.
+use Rattle.std.proofs.Common.{◌≡◌, inl, inr, Bool, Ok, Err, ℕ, ◌+◌, ◌<◌, ◌≤◌, List, [], ◌∷◌, ◌++◌, length, take, get_or, length-append, refl, sym, ap, ◌∙◌, subst, arith}
+use Rattle.std.specs.Prelude.{Option, Some, None, Result, IfErr, OnOk}
+use Rattle.std.proofs.lemmas.List.{take_all}
 use Rattle.std.specs.declared.cmp.Ordering.TheVariants.{Less}
 use Rattle.tree_match.specs.Ascending.{IsAscending}
-use Rattle.scan_world.specs.Files.{Files, file_at, path_cmp, PathsAscend}
-use Rattle.scan_world.specs.Trees.{KeepsFiles, LacksFile, HasFront, HasPaths, IsListing, HasTreeCause}
-use Rattle.scan_world.specs.declared.tree.TreeFault.{TreeFault}
-use Rattle.scan_world.specs.declared.tree.TreeFault.TheVariants.{Absent}
+use Rattle.scan_world.specs.Files.{Files, path_cmp, PathsAscend}
+use Rattle.scan_world.specs.Trees.{KeepsFiles, LacksFile, HasFront}
+use Rattle.folder_files.specs.Folder.{File, AreTaken, AreTakenUnder, AreRead, AreFiles}
+use Rattle.folder_files.proofs.Told.{read_before, files_before}
+use Rattle.folder_files.proofs.Reading.{step_absent, step_read, step_whole}
 use Rattle.languages.specs.declared.patterns.Languages.{Languages}
 use Rattle.scan_session.specs.declared.scanner.Scanner.{Scanner}
 use Rattle.scan_session.specs.Shown.{file_cmp}
 use Rattle.scan_session.specs.Scans.{Scans}
 use Rattle.scan_session.proofs.Scans.{scans_then}
 use Rattle.run_status.specs.declared.status.Status.{Status}
-use Rattle.scan_run.specs.Taking.{File, IsTaken, AreTaken, IsKept, AreRead, AreFiles, limit_end, IsOver, ReadingEnds, FilesEnd}
 use Rattle.run_status.specs.Status.{IsAnswer}
+use Rattle.stream_run.proofs.Paths.{Path, Below, tail_ascends, first_below}
+use Rattle.stream_run.proofs.Synced.{front_once, front_or_lack}
+use Rattle.scan_run.specs.Taking.{limit_end, IsOver, ReadingEnds, FilesEnd}
+use Rattle.scan_run.specs.Config.{IsConfig}
 use Rattle.scan_run.specs.Scan.{grammars}
 use Rattle.scan_run.specs.Scanned.{ScansRead, ScansFiles}
 use Rattle.scan_run.proofs.Limits.{bytes_of, limit_after, count_more}
-use Rattle.scan_run.specs.Config.{IsConfig}
-use Rattle.stream_run.proofs.Paths.{Below, tail_ascends, first_below}
-use Rattle.stream_run.proofs.Synced.{one_listing, front_once, front_or_lack}
 use Rattle.scan_run.proofs.Paths.{ascends_on}
-
-abbrev pub Path : Type 0
-Path = List ℕ
-
--- ---- a tree that keeps its files tells of them as before
-
-pub keeps_self : (told : Option Files) → KeepsFiles told told
-keeps_self None = tt
-keeps_self (Some files) = refl
-
-pub keeps_on : (a b c : Option Files) → KeepsFiles a b → KeepsFiles b c → KeepsFiles a c
-keeps_on None b c h k = tt
-keeps_on (Some x) None c h k = absurd h
-keeps_on (Some x) (Some y) None h k = absurd k
-keeps_on (Some x) (Some y) (Some z) h k = k ∙ h
-
-pub front_before : (told now : Option Files) (path : Path) (most : ℕ) (bytes : List ℕ) → KeepsFiles told now → HasFront now path most bytes → HasFront told path most bytes
-front_before None now path most bytes h k = tt
-front_before (Some x) None path most bytes h k = absurd h
-front_before (Some x) (Some y) path most bytes h k = let P : Files → Type 0 = λ files. HasFront (Some files) path most bytes in subst P h k
-
-pub lacks_before : (told now : Option Files) (path : Path) → KeepsFiles told now → LacksFile now path → LacksFile told path
-lacks_before None now path h k = tt
-lacks_before (Some x) None path h k = absurd h
-lacks_before (Some x) (Some y) path h k = let P : Files → Type 0 = λ files. LacksFile (Some files) path in subst P h k
-
-paths_before : (told now : Option Files) (prefix : Path) (paths : List Path) → KeepsFiles told now → HasPaths now prefix paths → HasPaths told prefix paths
-paths_before None now prefix paths h k = tt
-paths_before (Some x) None prefix paths h k = absurd h
-paths_before (Some x) (Some y) prefix paths h k = let P : Files → Type 0 = λ files. HasPaths (Some files) prefix paths in subst P h k
-
-listing_before : (told now : Option Files) (prefix : Path) (paths : List Path) → KeepsFiles told now → IsListing prefix now paths → IsListing prefix told paths
-listing_before told now prefix paths h l = record { ordered = l.ordered; under = l.under; all = paths_before told now prefix paths h l.all }
-
-pub read_before : (told now : Option Files) (paths : List Path) (files : List File) → KeepsFiles told now → AreRead now paths files → AreRead told paths files
-read_before told now [] files h k = k
-read_before told now (p ∷ ps) files h (inl (bytes, rest, e, kept, r)) = inl (bytes, rest, e, record { few = kept.few; front = front_before told now p 1000001 bytes h kept.front }, read_before told now ps rest h r)
-read_before told now (p ∷ ps) files h (inr (lacks, r)) = inr (lacks_before told now p h lacks, read_before told now ps files h r)
-
-pub files_before : (told now : Option Files) (prefix : Path) (files : List File) → KeepsFiles told now → AreFiles now prefix files → AreFiles told prefix files
-files_before told now prefix files h f = record {
-  paths = f.paths;
-  listed = listing_before told now prefix f.paths h f.listed;
-  taken = f.taken;
-  are_taken = f.are_taken;
-  are_read = read_before told now f.taken files h f.are_read;
-}
 
 pub end_before : (told now : Option Files) (prefix : Path) (status : Status) → KeepsFiles told now → FilesEnd now prefix status → FilesEnd told prefix status
 end_before told now prefix status h (files, are, e) = (files, files_before told now prefix files h are, e)
 
--- ---- one path after the other
-
-taken_on : (xs ys ts us : List Path) → AreTaken xs ts → AreTaken ys us → AreTaken (xs ++ ys) (ts ++ us)
-taken_on [] ys ts us h k = let P : List Path → Type 0 = λ l. AreTaken ys (l ++ us) in subst P (sym h) k
-taken_on (x ∷ xs) ys ts us (inl (is, (rest, e, r))) k = inl (is, (rest ++ us, ap (λ (l : List Path). l ++ us) e, taken_on xs ys rest us r k))
-taken_on (x ∷ xs) ys ts us (inr (nay, r)) k = inr (nay, taken_on xs ys ts us r k)
-
-module _ (paths taken : List Path) (i : ℕ) (x d : Path) (lt : i < length paths) (is : x ≡ get_or paths i d) (so_far : AreTaken (take i paths) taken) where
-  whole : take (i + 1) paths ≡ take i paths ++ x ∷ []
-  whole = take_more paths i d lt ∙ ap (λ (y : Path). take i paths ++ y ∷ []) (sym is)
-
-  pub one_taken : IsTaken x → AreTaken (take (i + 1) paths) (taken ++ x ∷ [])
-  one_taken t = let P : List Path → Type 0 = λ l. AreTaken l (taken ++ x ∷ []) in subst P (sym whole) (taken_on (take i paths) (x ∷ []) taken (x ∷ []) so_far (inl (t, ([], refl, refl))))
-
-  pub one_passed : (IsTaken x → ⊥) → AreTaken (take (i + 1) paths) taken
-  one_passed nay =
-      let P : List Path → Type 0 = λ l. AreTaken l taken in
-      let Q : List Path → Type 0 = λ l. AreTaken (take i paths ++ x ∷ []) l in
-      subst P (sym whole) (subst Q (append-nil taken) (taken_on (take i paths) (x ∷ []) taken [] so_far (inr (nay, refl))))
-
-read_on : (told : Option Files) (xs ys : List Path) (fs gs : List File) → AreRead told xs fs → AreRead told ys gs → AreRead told (xs ++ ys) (fs ++ gs)
-read_on told [] ys fs gs h k = let P : List File → Type 0 = λ l. AreRead told ys (l ++ gs) in subst P (sym h) k
-read_on told (x ∷ xs) ys fs gs (inl (bytes, rest, e, kept, r)) k = inl (bytes, rest ++ gs, ap (λ (l : List File). l ++ gs) e, kept, read_on told xs ys rest gs r k)
-read_on told (x ∷ xs) ys fs gs (inr (lacks, r)) k = inr (lacks, read_on told xs ys fs gs r k)
-
--- whatever files stand at the paths that are left
-rest_read : (told : Option Files) (paths : List Path) → (files : List File) × AreRead told paths files
-rest_read told [] = ([], refl)
-rest_read None (p ∷ ps) = let r = rest_read None ps in (r.0, inr (tt, r.1))
-rest_read (Some map) (p ∷ ps) = at (file_at p map) refl (rest_read (Some map) ps)
-  where
-    at : (found : Option (List ℕ)) → file_at p map ≡ found → ((files : List File) × AreRead (Some map) ps files) → (files : List File) × AreRead (Some map) (p ∷ ps) files
-    at None e r = (r.0, inr (e, r.1))
-    at (Some whole) e r =
-        let kept : IsKept (Some map) p (take 1000001 whole) = record { few = omega (arith, length-take 1000001 whole); front = (whole, e, refl) } in
-        ((p, take 1000001 whole) ∷ r.0, inl (take 1000001 whole, r.0, refl, kept, r.1))
-
-module _ (told : Option Files) (paths : List Path) (files : List File) (i : ℕ) (x d : Path) (lt : i < length paths) (is : x ≡ get_or paths i d) (so_far : AreRead told (take i paths) files) where
-  whole_paths : take (i + 1) paths ≡ take i paths ++ x ∷ []
-  whole_paths = take_more paths i d lt ∙ ap (λ (y : Path). take i paths ++ y ∷ []) (sym is)
-
-  pub one_read : (bytes : List ℕ) → IsKept told x bytes → AreRead told (take (i + 1) paths) (files ++ (x, bytes) ∷ [])
-  one_read bytes kept =
-      let P : List Path → Type 0 = λ l. AreRead told l (files ++ (x, bytes) ∷ []) in
-      subst P (sym whole_paths) (read_on told (take i paths) (x ∷ []) files ((x, bytes) ∷ []) so_far (inl (bytes, [], refl, kept, refl)))
-
-  pub one_absent : LacksFile told x → AreRead told (take (i + 1) paths) files
-  one_absent lacks =
-      let P : List Path → Type 0 = λ l. AreRead told l files in
-      let Q : List File → Type 0 = λ l. AreRead told (take i paths ++ x ∷ []) l in
-      subst P (sym whole_paths) (subst Q (append-nil files) (read_on told (take i paths) (x ∷ []) files [] so_far (inr (lacks, refl))))
-
-  -- with this file the files pass a limit, whatever follows
-  pub reading_ends : (bytes : List ℕ) (status : Status) → IsKept told x bytes → ((others : List File) → limit_end 0 0 (files ++ (x, bytes) ∷ others) ≡ Some status) → ReadingEnds told paths status
-  reading_ends bytes status kept over =
-      let r = rest_read told (drop (i + 1) paths) in
-      let P : List Path → Type 0 = λ l. AreRead told l ((files ++ (x, bytes) ∷ []) ++ r.0) in
-      let Q : List File → Type 0 = λ l. AreRead told paths l in
-      (files ++ (x, bytes) ∷ r.0, subst Q (append_assoc files ((x, bytes) ∷ []) r.0) (subst P (take-append-drop (i + 1) paths) (read_on told (take (i + 1) paths) (drop (i + 1) paths) (files ++ (x, bytes) ∷ []) r.0 (one_read bytes kept) r.1)), over r.0)
-
--- ---- the same as loops have it
-
-module _ (paths taken new : List Path) (i : ℕ) (x asked : Path) (b : Bool) (lt : i < length paths) (is : x ≡ get_or paths i x) (so_far : AreTaken (take i paths) taken) (test : IsTrue b ↔ IsTaken asked) (e : asked ≡ x) where
-  pub step_taken : (copy : Path) → b ≡ true → copy ≡ x → new ≡ taken ++ copy ∷ [] → AreTaken (take (i + 1) paths) new
-  step_taken copy t same put =
-      let P : List Path → Type 0 = λ l. AreTaken (take (i + 1) paths) l in
-      subst P (sym (put ∙ ap (λ (p : Path). taken ++ p ∷ []) same)) (one_taken paths taken i x x lt is so_far (subst IsTaken e (test.0 t)))
-
-  pub step_passed : b ≡ false → new ≡ taken → AreTaken (take (i + 1) paths) new
-  step_passed f put =
-      let P : List Path → Type 0 = λ l. AreTaken (take (i + 1) paths) l in
-      subst P (sym put) (one_passed paths taken i x x lt is so_far (λ t. absurd (false≢true (sym f ∙ test.1 (subst IsTaken (sym e) t)))))
-
-module _ (told now : Option Files) (kept : KeepsFiles told now) (paths : List Path) (files : List File) (i : ℕ) (x asked : Path) (lt : i < length paths) (is : x ≡ get_or paths i x) (so_far : AreRead told (take i paths) files) (e : asked ≡ x) where
-  pub step_absent : LacksFile now asked → AreRead told (take (i + 1) paths) files
-  step_absent lacks = one_absent told paths files i x x lt is so_far (lacks_before told now x kept (subst (λ (p : Path). LacksFile now p) e lacks))
-
-  module _ (bytes : List ℕ) (few : length bytes ≤ 1000001) (front : HasFront now asked 1000001 bytes) where
-    is_kept : IsKept told x bytes
-    is_kept = record { few = few; front = front_before told now x 1000001 bytes kept (subst (λ (p : Path). HasFront now p 1000001 bytes) e front) }
-
-    pub step_read : AreRead told (take (i + 1) paths) (files ++ (asked, bytes) ∷ [])
-    step_read =
-        let P : Path → Type 0 = λ p. AreRead told (take (i + 1) paths) (files ++ (p, bytes) ∷ []) in
-        subst P (sym e) (one_read told paths files i x x lt is so_far bytes is_kept)
-
-    pub step_over : (n total size : ℕ) (status : Status) → n ≡ length files → total ≡ bytes_of files → limit_end 0 0 files ≡ None → length bytes ≡ size → IsOver n total size status → ReadingEnds told paths status
-    step_over n total size status en et h es over =
-        reading_ends told paths files i x x lt is so_far bytes status is_kept (λ others. limit_after files ((x, bytes) ∷ others) n total en et h ∙ over x bytes es others)
+-- a file that is read passes a limit, whatever follows
+module _ (told now : Option Files) (kept : KeepsFiles told now) (paths : List Path) (files : List File) (i : ℕ) (x asked : Path) (lt : i < length paths) (is : x ≡ get_or paths i x) (so_far : AreRead told (take i paths) files) (e : asked ≡ x) (bytes : List ℕ) (few : length bytes ≤ 1000001) (front : HasFront now asked 1000001 bytes) where
+  pub step_over : (n total size : ℕ) (status : Status) → n ≡ length files → total ≡ bytes_of files → limit_end 0 0 files ≡ None → length bytes ≡ size → IsOver n total size status → ReadingEnds told paths status
+  step_over n total size status en et h es over =
+      let r = step_whole told now kept paths files i x asked lt is so_far e bytes few front in
+      (files ++ (asked, bytes) ∷ r.0, r.1, limit_after files ((asked, bytes) ∷ r.0) n total en et h ∙ over asked bytes es r.0)
 
 -- ---- files in order of their paths
 
@@ -201,7 +71,7 @@ read_ascend told (p ∷ ps) fs up (inl (bytes, rest, e, kept, r)) =
 read_ascend told (p ∷ ps) fs up (inr (lacks, r)) = read_ascend told ps fs (tail_ascends p ps up) r
 
 files_ascend : (told : Option Files) (prefix : Path) (files : List File) → AreFiles told prefix files → IsAscending file_cmp files
-files_ascend told prefix files f = read_ascend told f.taken files (taken_ascend f.paths f.taken f.listed.ordered f.are_taken) f.are_read
+files_ascend told prefix files f = let under = f.are_taken in read_ascend told f.taken files (taken_ascend under.paths f.taken under.listed.ordered under.are_taken) f.are_read
 
 -- ---- files that were read, each scanned as it was
 
@@ -258,9 +128,9 @@ far_all told paths i count total old new end far =
     record { files = far.files; are_read = subst P (take_all i paths end) far.are_read; within = far.within; scans = far.scans; same_traced = far.same_traced }
 
 -- the files that were read are those under the prefix
-module _ (told now : Option Files) (kept : KeepsFiles told now) (prefix : Path) (paths taken : List Path) (listed : IsListing prefix told paths) (are : AreTaken paths taken) where
+module _ (told now : Option Files) (kept : KeepsFiles told now) (prefix : Path) (taken : List Path) (are : AreTakenUnder told prefix taken) where
   all_files : (files : List File) → AreRead now taken files → AreFiles told prefix files
-  all_files files r = record { paths = paths; listed = listed; taken = taken; are_taken = are; are_read = read_before told now taken files kept r }
+  all_files files r = record { taken = taken; are_taken = are; are_read = read_before told now taken files kept r }
 
   pub all_scanned : {A : Type 0} (r : Result A Status) (old new : Scanner Languages) → OnOk r (ScansRead now taken old new) → OnOk r (ScansFiles told prefix old new)
   all_scanned (Ok u) old new h = let are = all_files h.files h.are_read in record { files = h.files; are = are; ascend = files_ascend told prefix h.files are; within = h.within; scans = h.scans; same_traced = h.same_traced }
@@ -270,36 +140,10 @@ module _ (told now : Option Files) (kept : KeepsFiles told now) (prefix : Path) 
   all_end (Ok u) h = tt
   all_end (Err s) h = λ a. let e = h a in (e.0, all_files e.0 e.1, e.2)
 
--- ---- a tree that tells its files has one list of them under a prefix
-
-taken_once : (xs ts us : List Path) → AreTaken xs ts → AreTaken xs us → us ≡ ts
-taken_once [] ts us h k = k ∙ sym h
-taken_once (x ∷ xs) ts us (inl (is, (rest, e, r))) (inl (is', (rest', e', r'))) = e' ∙ ap (λ (l : List Path). x ∷ l) (taken_once xs rest rest' r r') ∙ sym e
-taken_once (x ∷ xs) ts us (inl (is, _)) (inr (nay, _)) = absurd (nay is)
-taken_once (x ∷ xs) ts us (inr (nay, _)) (inl (is, _)) = absurd (nay is)
-taken_once (x ∷ xs) ts us (inr (nay, r)) (inr (nay', r')) = taken_once xs ts us r r'
-
-read_once : (map : Files) (ps : List Path) (fs gs : List File) → AreRead (Some map) ps fs → AreRead (Some map) ps gs → gs ≡ fs
-read_once map [] fs gs h k = k ∙ sym h
-read_once map (p ∷ ps) fs gs (inl (b, rest, e, kept, r)) (inl (b', rest', e', kept', r')) =
-    e' ∙ ap (λ (l : List ℕ). (p, l) ∷ rest') (front_once map p 1000001 b b' kept.front kept'.front) ∙ ap (λ (l : List File). (p, b) ∷ l) (read_once map ps rest rest' r r') ∙ sym e
-read_once map (p ∷ ps) fs gs (inl (b, rest, e, kept, r)) (inr (lacks, _)) = absurd (front_or_lack map p 1000001 b kept.front lacks)
-read_once map (p ∷ ps) fs gs (inr (lacks, _)) (inl (b, rest, e, kept, r)) = absurd (front_or_lack map p 1000001 b kept.front lacks)
-read_once map (p ∷ ps) fs gs (inr (lacks, r)) (inr (lacks', r')) = read_once map ps fs gs r r'
-
-pub files_once : (map : Files) (prefix : Path) (fs gs : List File) → AreFiles (Some map) prefix fs → AreFiles (Some map) prefix gs → gs ≡ fs
-files_once map prefix fs gs f g =
-    let P : List Path → Type 0 = λ l. AreTaken l g.taken in
-    let Q : List Path → Type 0 = λ l. AreRead (Some map) l gs in
-    let same = taken_once f.paths f.taken g.taken f.are_taken (subst P (one_listing map prefix g.paths f.paths g.listed f.listed) g.are_taken) in
-    read_once map f.taken fs gs f.are_read (subst Q same g.are_read)
+-- ---- a tree that tells its files has one config
 
 pub config_once : (map : Files) (path : Path) (a b : Option (List ℕ)) → IsConfig (Some map) path a → IsConfig (Some map) path b → b ≡ a
 config_once map path None None h k = refl
 config_once map path None (Some b) h k = absurd (front_or_lack map path 262145 b k.1 h)
 config_once map path (Some a) None h k = absurd (front_or_lack map path 262145 a h.1 k)
 config_once map path (Some a) (Some b) h k = ap (λ (l : List ℕ). Some l) (front_once map path 262145 a b h.1 k.1)
-
--- a file that is absent is no fault
-pub absent_kept : (f f' a a' : ℕ) (e : TreeFault) → e ≡ Absent → HasTreeCause {T = List ℕ} f f' a a' (Err e) → f' ≡ f
-absent_kept f f' a a' e same h = (subst (λ (x : TreeFault). HasTreeCause {T = List ℕ} f f' a a' (Err x)) same h).0

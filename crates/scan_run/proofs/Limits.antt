@@ -6,7 +6,8 @@ use Rattle.std.proofs.lemmas.Bool.Decides.{nat_tests}
 use Rattle.run_status.specs.declared.status.Status.{Status}
 use Rattle.run_status.specs.declared.status.Status.TheVariants.{OverLimit}
 use Rattle.file_map.specs.declared.limit.LimitKind.TheVariants as kinds
-use Rattle.scan_run.specs.Taking.{File, limit_end, IsOver}
+use Rattle.folder_files.specs.Folder.{File}
+use Rattle.scan_run.specs.Taking.{limit_end, IsOver}
 
 -- the bytes of all files
 abbrev pub bytes_of : List File → ℕ

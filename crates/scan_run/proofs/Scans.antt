@@ -20,7 +20,8 @@ use Rattle.run_status.specs.declared.status.Status.TheVariants.{Done, Findings, 
 use Rattle.run_status.specs.Status.{IsFinished}
 use Rattle.scan_run.specs.Status.{IsOfReport}
 use Rattle.run_status.specs.Ways.{Printed, PrintedFront, IsOnlyEnd}
-use Rattle.scan_run.specs.Taking.{File, AreFiles, limit_end, FilesEnd}
+use Rattle.folder_files.specs.Folder.{File, AreFiles}
+use Rattle.scan_run.specs.Taking.{limit_end, FilesEnd}
 use Rattle.scan_run.specs.Scanned.{ScansFiles}
 use Rattle.scan_run.specs.Config.{IsConfig, IsRules, ConfigEnds, IsOneFile, HasRules, HasConfigEnd}
 use Rattle.scan_run.specs.Scan.{grammars, report_line, status_of, HasMoreFindings, ReportEnds, too_many, reported, ScanEnds, over_limit, searched, Scans, no_rules, with_rules, IsOneReport}
@@ -28,9 +29,9 @@ use Rattle.scan_run.proofs.Streaming.{nothing_written}
 use Rattle.running_rules.specs.Running.{stated, texts_of}
 use Rattle.stream_run.specs.Asking.{AsksOnce}
 use Rattle.stream_run.proofs.Asking.{Asked, asks_nothing}
-use Rattle.stream_run.proofs.Synced.{some_map}
+use Rattle.stream_run.proofs.Synced.{some_map, files_once}
 use Rattle.scan_run.specs.Asking.{ScansAsking}
-use Rattle.scan_run.proofs.Files.{config_once, files_once}
+use Rattle.scan_run.proofs.Files.{config_once}
 use Rattle.scan_run.proofs.Rules.{same_rules, rules_or_end, config_ends_once}
 
 -- the status and the lines of a run

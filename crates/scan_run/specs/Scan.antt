@@ -16,7 +16,8 @@ use Rattle.scan_session.specs.Fresh.{IsResult, IsFresh}
 use Rattle.wire_words.specs.Commands.{Task}
 use Rattle.run_status.specs.declared.status.Status.{Status}
 use Rattle.run_status.specs.declared.status.Status.TheVariants.{TooMany, Done, Findings}
-use Rattle.scan_run.specs.Taking.{File, AreFiles, limit_end}
+use Rattle.folder_files.specs.Folder.{File, AreFiles}
+use Rattle.scan_run.specs.Taking.{limit_end}
 use Rattle.scan_run.specs.Config.{IsConfig, IsRules, ConfigEnds}
 
 -- the trees, the known names and the comments of texts in JSON, Python and C, and whether findings have their traces

@@ -8,7 +8,8 @@ use Rattle.scan_session.specs.declared.scanner.Scanner.{Scanner}
 use Rattle.scan_session.specs.Shown.{file_cmp}
 use Rattle.scan_session.specs.Scans.{Scans, HasScanned}
 use Rattle.scan_run.specs.Scan.{grammars}
-use Rattle.scan_run.specs.Taking.{File, AreRead, AreFiles, limit_end}
+use Rattle.folder_files.specs.Folder.{File, AreRead, AreFiles}
+use Rattle.scan_run.specs.Taking.{limit_end}
 
 -- the files at these paths were scanned, which are within the limits, with traces or without, as before
 pub record ScansRead (told : Option Files) (paths : List (List ℕ)) (old new : Scanner Languages) : Type 0 where

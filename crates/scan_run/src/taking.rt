@@ -1,15 +1,15 @@
 //! Which files are scanned, and scanning them as they are read.
 
-ghost use Rattle.std.specs.Prelude.{◌≡◌, ◌↔◌, ◌+◌, ◌≤◌, ◌<◌, IsTrue, IfOk, IfErr, OnOk};
+ghost use Rattle.std.specs.Prelude.{◌≡◌, ◌+◌, ◌≤◌, ◌<◌, IfOk, IfErr, OnOk};
 ghost use Rattle.scan_world.specs.Trees.{KeepsFiles};
 ghost use Rattle.run_status.specs.Status.{IsAnswer};
 ghost use Rattle.scan_run.specs.Status.{IsOfLimit, HasReadingCause};
-ghost use Rattle.scan_run.specs.Taking.{IsTaken, AreTaken, IsOver, ReadingEnds, FilesEnd};
+ghost use Rattle.scan_run.specs.Taking.{IsOver, ReadingEnds, FilesEnd};
 ghost use Rattle.scan_run.specs.Scanned.{ScansRead, ScansFiles};
 
+use folder_files::taken_under;
 use languages::Languages;
-use node_tree::{List, Memory, Steps, Text, Twin};
-use path_glob::{has_hidden, lang_of, path_ok};
+use node_tree::{List, Steps, Text};
 use run_status::{LimitKind, Status};
 use scan_session::Scanner;
 use scan_world::{Tree, TreeFault};
@@ -24,26 +24,6 @@ const MOST_BYTES: usize = 33_554_432;
 
 // The most bytes of a file that is scanned.
 const MOST: u64 = 1_000_000;
-
-/// Whether a file of this path is scanned: it is a path, its ending names a language, and no segment of it begins with a dot.
-fn is_taken(path: &str) -> bool
-    ensures { IsTrue result ↔ IsTaken path.now }
-{
-    path_ok(path) && lang_of(path).is_some() && !has_hidden(path)
-}
-
-// Those of the paths that are taken.
-fn taken_paths(alloc: Global, paths: &List<Text>) -> Result<List<Text>, Memory>
-    ensures { IfOk result (AreTaken paths.now) }
-{
-    let mut taken = List::new(alloc);
-    for path in paths.as_slice() {
-        if is_taken(path.as_str()) {
-            taken.push(path.copy()?)?;
-        }
-    }
-    Ok(taken)
-}
 
 // Counts a file more, after so many files and bytes: how many bytes all have then.
 fn count_file(files: usize, total: usize, bytes: usize) -> Result<usize, Status>
@@ -109,11 +89,10 @@ pub fn scan_files<T: Tree, L: Ledger>(
     ensures unfailed { OnOk result (T.faults tree.new ≡ T.faults tree.old) }
     ensures cause { IfErr result (HasReadingCause (T.faults tree.old) (T.faults tree.new)) }
 {
-    let paths = match tree.list(prefix) {
+    let paths = match taken_under(alloc, tree, prefix) {
         Ok(paths) => paths,
         Err(TreeFault::Failed) => return Err(Status::TreeFault),
         Err(_) => return Err(Status::Memory),
     };
-    let taken = taken_paths(alloc, &paths)?;
-    scan_all(alloc, tree, &taken, scanner, steps)
+    scan_all(alloc, tree, &paths, scanner, steps)
 }

@@ -39,7 +39,7 @@ read_once map (p ∷ ps) fs gs (inl (b, rest, e, kept, r)) (inr (lacks, _)) = ab
 read_once map (p ∷ ps) fs gs (inr (lacks, _)) (inl (b, rest, e, kept, r)) = absurd (front_or_lack map p 1000001 b kept.front lacks)
 read_once map (p ∷ ps) fs gs (inr (lacks, r)) (inr (lacks', r')) = read_once map ps fs gs r r'
 
-files_once : (map : Files) (prefix : Path) (fs gs : List File) → AreFiles (Some map) prefix fs → AreFiles (Some map) prefix gs → gs ≡ fs
+pub files_once : (map : Files) (prefix : Path) (fs gs : List File) → AreFiles (Some map) prefix fs → AreFiles (Some map) prefix gs → gs ≡ fs
 files_once map prefix fs gs f g =
     let P : List Path → Type 0 = λ l. AreTaken l g.taken in
     let Q : List Path → Type 0 = λ l. AreRead (Some map) l gs in

@@ -4,7 +4,7 @@ use Rattle.wire_words.specs.Commands.{Task, Request, Matching, Checking, Scannin
 use Rattle.run_status.specs.declared.status.Status.{Status}
 use Rattle.run_status.specs.declared.status.Status.TheVariants as statuses
 use Rattle.scan_run.specs.Status.{IsOfInput}
-use Rattle.scan_run.proofs.Files.{keeps_self}
+use Rattle.folder_files.proofs.Told.{keeps_self}
 use Rattle.decided_texts.specs.Refused.{gained}
 use Rattle.scan_run.specs.Run.{Asks, TakesFor}
 use Rattle.scan_run.specs.Asking.{GivesFor}

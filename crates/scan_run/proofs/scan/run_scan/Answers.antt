@@ -1,7 +1,8 @@
 use Rattle.std.proofs.Common.{◌∙◌}
 use Rattle.wire_words.specs.Commands.{task_of}
 use Rattle.run_status.specs.declared.status.Status.TheVariants as statuses
-use Rattle.scan_run.proofs.Files.{files_before, end_before}
+use Rattle.folder_files.proofs.Told.{files_before}
+use Rattle.scan_run.proofs.Files.{end_before}
 use Rattle.scan_run.proofs.Causes.{reading_unfinished, config_kept, config_at}
 use Rattle.scan_run.proofs.Scans.{only_config, ends_by_config, ends_by_limit, only_limit, has_scanned, ends_by_report, asking_by_config, asks_of_one, asking_by_limit, asking_by_report, front_of_report, only_report}
 use Rattle.scan_run.proofs.scan.run_scan.Goals as goal

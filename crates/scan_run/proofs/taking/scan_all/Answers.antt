@@ -1,6 +1,7 @@
 use Rattle.std.proofs.Common.{◌≡◌, ◌∙◌, Err, ap, sym}
 use Rattle.std.proofs.lemmas.Result.{err_from_is_err_and}
-use Rattle.scan_run.proofs.Files.{keeps_on, far_absent, far_read, far_over, far_all, absent_kept}
+use Rattle.folder_files.proofs.Told.{keeps_on, absent_kept}
+use Rattle.scan_run.proofs.Files.{far_absent, far_read, far_over, far_all}
 use Rattle.scan_run.proofs.Rules.{limit_cause}
 use Rattle.scan_run.proofs.taking.scan_all.Goals as goal
 
