@@ -38,12 +38,26 @@ fn answer<P: Patterns>(
     Ok(out)
 }
 
-// The texts that a builder refused, each with a space behind it.
-fn refused<P: Patterns>(alloc: Global, patterns: &P) -> Result<String, AllocError> {
-    let mut out = String::new(alloc);
-    for text in patterns.refused().as_slice() {
+// Writes the texts, each with a space behind it.
+fn write_texts(out: &mut String, texts: &List<Text>) -> Result<(), AllocError> {
+    for text in texts.as_slice() {
         write!(out, "{} ", text.as_str())?;
     }
+    Ok(())
+}
+
+// The texts that a builder refused.
+fn refused<P: Patterns>(alloc: Global, patterns: &P) -> Result<String, AllocError> {
+    let mut out = String::new(alloc);
+    write_texts(&mut out, patterns.refused())?;
+    Ok(out)
+}
+
+// The texts that a builder refused, and those that it was asked for.
+fn log_of(alloc: Global, patterns: &FakePatterns) -> Result<String, AllocError> {
+    let mut out = refused(alloc, patterns)?;
+    out.push_str("of ")?;
+    write_texts(&mut out, patterns.asked())?;
     Ok(out)
 }
 
@@ -72,7 +86,7 @@ fn builds_and_finds(rt: HostRuntime) -> Result<(), Fail> {
     same("refused", refused(rt.alloc(), &patterns)?.as_str(), "a( [ ")
 }
 
-// The fake refuses what it is told to, once.
+// The fake refuses what it is told to, once, and tells what it was asked for.
 #[test]
 fn a_fake_refuses_what_it_is_told_to(rt: HostRuntime) -> Result<(), Fail> {
     let mut told = List::new(rt.alloc());
@@ -90,5 +104,5 @@ fn a_fake_refuses_what_it_is_told_to(rt: HostRuntime) -> Result<(), Fail> {
             wanted,
         )?;
     }
-    same("refused", refused(rt.alloc(), &patterns)?.as_str(), "a+ ( ")
+    same("log", log_of(rt.alloc(), &patterns)?.as_str(), "a+ ( of b a+ a+ ( ")
 }

@@ -3,7 +3,7 @@
 ghost use Rattle.std.specs.Prelude.{◌≡◌, ◌+◌, ◌<◌, IfOk};
 
 use code_reader::PatternReader;
-use file_open::{Opened, open_file};
+use file_open::{Opened, open_file, with_names};
 use file_parts::{Part, PartLeaf, join, parts_of};
 use languages::Languages;
 use node_tree::{Bytes, Lang, List, Memory, Pattern, Steps, Twin};
@@ -124,6 +124,7 @@ fn scan<L: Ledger>(
         lines.push_str("no tree\n")?;
         return Ok(());
     };
+    let view = with_names(alloc, &Languages, view)?;
     let parts = parts_of(&view)?;
     let all = parts.all(alloc)?;
     let taken = match_parts(alloc, kept, all.as_slice(), pattern, steps)?;
@@ -200,6 +201,16 @@ fn matches_what_changed(rt: HostRuntime) -> Result<(), Fail> {
         // A pattern of statements needs the whole file too, for its runs at the top level.
         "a()\nb() ⇒ a()\nb()\na()\n ⇒ a()\nb()\na()\n ⇒ 4 steps\n0..7\n1 steps\n0..7\n",
         "a()\nb() ⇒ if c:\n    a()\n    b()\na()\nb()\n ⇒ \nif c:\n    a()\n    b()\n ⇒ 5 steps\n10..21\n22..29\n2 steps\n11..22\n",
+        // A comment is no part of a statement.
+        "f($X) ⇒ f(1)  # nosemgrep\nf(2)\nf(3)\n ⇒ f(1)  # nosemgrep: q\nf(2)\nf(3)\n ⇒ 4 steps\n0..4 $X=2..3\n18..22 $X=20..21\n23..27 $X=25..26\n1 steps\n0..4 $X=2..3\n21..25 $X=23..24\n26..30 $X=28..29\n",
+        // A function in which a name holds another literal is another one.
+        "f(\"a\") ⇒ K = \"a\"\ndef g():\n    f(K)\n ⇒ K = \"b\"\ndef g():\n    f(K)\n ⇒ 3 steps\n21..25\n3 steps\n",
+        // The first file of a drill and its edit, by each of the four patterns of its rules. Beside the step that opens the file each
+        // takes one, so a drill of 1,000 files takes 1,000 times five steps, and then five.
+        "run($X) ⇒ def f0(q):\n    s = read()\n    run(s)\n ⇒ def f0(q):\n    s = clean(read())\n    run(s)\n ⇒ 2 steps\n30..36 $X=34..35\n2 steps\n37..43 $X=41..42\n",
+        "read() ⇒ def f0(q):\n    s = read()\n    run(s)\n ⇒ def f0(q):\n    s = clean(read())\n    run(s)\n ⇒ 2 steps\n19..25\n2 steps\n25..31\n",
+        "run(...) ⇒ def f0(q):\n    s = read()\n    run(s)\n ⇒ def f0(q):\n    s = clean(read())\n    run(s)\n ⇒ 2 steps\n30..36\n2 steps\n37..43\n",
+        "clean(...) ⇒ def f0(q):\n    s = read()\n    run(s)\n ⇒ def f0(q):\n    s = clean(read())\n    run(s)\n ⇒ 2 steps\n2 steps\n19..32\n",
         // A file without statements.
         "a()\nb() ⇒  ⇒ # c\n ⇒ 2 steps\n2 steps\n",
     ];

@@ -23,8 +23,8 @@ use yaml_read::read_yaml;
 const HUNDRED: &str =
     "####################################################################################################";
 
-// The rule of a language and a formula, if it is one.
-fn rule_of(alloc: Global, lang: &str, formula: &str) -> Result<Option<Rule>, Memory> {
+/// The rule of a language and a formula, if it is one.
+pub fn rule_of(alloc: Global, lang: &str, formula: &str) -> Result<Option<Rule>, Memory> {
     let text = format!(in alloc;
         "rules:\n- id: p\n  languages: [{lang}]\n  severity: INFO\n  message: m\n{formula}"
     )?;
@@ -43,8 +43,8 @@ fn rule_of(alloc: Global, lang: &str, formula: &str) -> Result<Option<Rule>, Mem
     }
 }
 
-// The regular expressions of these texts, but for those that are none.
-fn built(alloc: Global, texts: &[Text]) -> Result<List<Rx>, Memory> {
+/// The regular expressions of these texts, but for those that are none.
+pub fn built(alloc: Global, texts: &[Text]) -> Result<List<Rx>, Memory> {
     let mut patterns = RealPatterns::new(alloc);
     let mut rx = List::new(alloc);
     for text in texts {
@@ -57,8 +57,8 @@ fn built(alloc: Global, texts: &[Text]) -> Result<List<Rx>, Memory> {
     Ok(rx)
 }
 
-// The members of the patterns in the file.
-fn leaves_of<L: Ledger>(
+/// The members of the patterns in the file.
+pub fn leaves_of<L: Ledger>(
     alloc: Global,
     view: &FileView,
     patterns: &[Pattern],

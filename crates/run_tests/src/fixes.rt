@@ -89,6 +89,7 @@ fn writes_changed_files(rt: HostRuntime) -> Result<(), Fail> {
             0,
             "{\"fixed\":[{\"path\":\"src/a.py\",\"ranges\":[[0,7,\"g(f(1))\"],[8,12,\"g(2)\"]]},{\"path\":\"src/b.py\",\"ranges\":[[0,4,\"g(3)\"]]}],\"notices\":[],\"results\":[{\"check_id\":\"p\",\"end\":{\"col\":8,\"line\":1,\"offset\":7},\"extra\":{\"fix\":\"g(f(1))\",\"message\":\"m\",\"metavars\":{\"$X\":[2,6]},\"severity\":\"INFO\"},\"path\":\"src/a.py\",\"start\":{\"col\":1,\"line\":1,\"offset\":0}},{\"check_id\":\"p\",\"end\":{\"col\":7,\"line\":1,\"offset\":6},\"extra\":{\"fix\":\"g(1)\",\"message\":\"m\",\"metavars\":{\"$X\":[4,5]},\"severity\":\"INFO\"},\"path\":\"src/a.py\",\"start\":{\"col\":3,\"line\":1,\"offset\":2}},{\"check_id\":\"p\",\"end\":{\"col\":5,\"line\":2,\"offset\":12},\"extra\":{\"fix\":\"g(2)\",\"message\":\"m\",\"metavars\":{\"$X\":[10,11]},\"severity\":\"INFO\"},\"path\":\"src/a.py\",\"start\":{\"col\":1,\"line\":2,\"offset\":8}},{\"check_id\":\"p\",\"end\":{\"col\":5,\"line\":1,\"offset\":4},\"extra\":{\"fix\":\"g(3)\",\"message\":\"m\",\"metavars\":{\"$X\":[2,3]},\"severity\":\"INFO\"},\"path\":\"src/b.py\",\"start\":{\"col\":1,\"line\":1,\"offset\":0}}]}\n ⇒ g(f(1))\ng(2)\ng(3)\n",
         ),
+        (FIX, TWO, 5, "TreeFault ⇒ f(f(1))\nf(2)\nf(3)\n"),
         (FIX, TWO, 6, "TreeFault ⇒ g(f(1))\ng(2)\nf(3)\n"),
     ];
     for (words, files, failing, wanted) in rows {
