@@ -1,4 +1,5 @@
 """The built program: its statuses with their lines on standard error, over real folders, pipes and devices."""
+import json
 import os
 import resource
 import subprocess
@@ -154,6 +155,27 @@ class Statuses(InFolder):
     def test_more_than_may_be_found(self):
         self.refuses(9, b'semscan: more than 0\n', 'scan', '--max', '0', '--config', 'r.yaml', '.')
         self.refuses(9, b'semscan: more than 10000\n', 'match', 'json', '0', input=b'[0%s]' % (b',0' * 10_000))
+
+    def test_how_much_may_be_found(self):
+        """At most 50,000 findings, of which a rule may have 10,000 in a file."""
+        for number in range(5):
+            self.put('src/f%d.py' % number, CALL * 10_000)
+        printed = json.loads(self.said(0, b'', 'scan', '--config', 'r.yaml', 'src'))
+        self.assertEqual((len(printed['results']), printed['notices']), (50_000, []))
+        self.put('src/g.py', CALL)
+        self.refuses(9, b'semscan: more than 50000\n', 'scan', '--config', 'r.yaml', 'src')
+
+    def test_how_many_bytes_fixed_files_may_have(self):
+        """The files of a session have 33,554,432 bytes together. A fix that is as long as what was there is taken, a longer one isn't."""
+        puts = [(b'f%d.txt' % number, b'#' * 1_000_000) for number in range(33)] + [(b'f33.txt', b'#' * 554_427), (b'a.py', b'f(2)\n')]
+        files = b''.join(b'put %d %s\n%s\n' % (len(whole), path, whole) for path, whole in puts)
+        self.assertEqual(sum(len(whole) for _, whole in puts), 33_554_432)
+        for fix, status, said in (('g($X)', 0, b''), ('gg($X)', 8, b'semscan: over limit 33554433\n')):
+            rules = (RULE + '  fix: %s\n' % fix).encode()
+            stream = files + b'rule %d r.yaml\n%s\nfix\nend\n' % (len(rules), rules)
+            printed = self.said(status, said, 'session', input=stream)
+            fixed = [json.loads(each)['fixed'] for each in printed.splitlines()]
+            self.assertEqual(fixed, [[{'path': 'a.py', 'ranges': [[0, 4, 'g(2)']]}]] if status == 0 else [])
 
     def test_paths_that_lead_nowhere(self):
         for config in ('no.yaml', 'no/r.yaml', 'a.py/r.yaml'):
