@@ -104,5 +104,9 @@ fn a_fake_refuses_what_it_is_told_to(rt: HostRuntime) -> Result<(), Fail> {
             wanted,
         )?;
     }
-    same("log", log_of(rt.alloc(), &patterns)?.as_str(), "a+ ( of b a+ a+ ( ")
+    same(
+        "log",
+        log_of(rt.alloc(), &patterns)?.as_str(),
+        "a+ ( of b a+ a+ ( ",
+    )
 }
