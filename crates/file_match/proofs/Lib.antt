@@ -1,3 +1,5 @@
 pub mod Needed
 pub mod Gathered
+pub mod Places
+pub mod Bits
 pub mod Marked

@@ -28,8 +28,8 @@ use Rattle.node_match.proofs.Numbering.{kids_nodes, among_nodes}
 use Rattle.node_tree.specs.declared.known.Known.{Known}
 use Rattle.node_tree.specs.Numbers.{Numbered, kids_at, pre_at}
 use Rattle.node_tree.specs.Numbers.{root_of}
-use Rattle.tree_match.specs.Members.{Member, MemberOf, kids_between}
-use Rattle.file_match.specs.Words.{Word, word_of, Has, Needs, own, below, inside, NeedsOf}
+use Rattle.tree_match.specs.Members.{Member, MemberOf, MemberRun, kids_between}
+use Rattle.file_match.specs.Words.{Word, word_of, Has, Needs, own, below, inside, PartNeeds, NeedsOf}
 
 -- ---- nodes among lists
 
@@ -256,12 +256,17 @@ module _ (C : List Known) (fixed : Bool) (none : fixed ≡ true → C ≡ []) wh
   pub needed : (p : Node) (w : Word) → Needs fixed p w → (n : Numbered) (b c : List Bound) → Matches C p n b c → Has (pre_of n.node) w
   needed p w needs n b c x = met_needs p w needs n b c (inl x)
 
-  -- a tree with a member has each word that the pattern needs
-  pub member_needs : (shape : Shape) (p tree : Node) (w : Word) (m : Member) → NeedsOf fixed shape p w → MemberOf C shape p tree m → Has (pre_of tree) w
-  member_needs Expr p tree w m needs (n, among, (stands, range, x)) = has_in tree n.node w (among_pre (root_of tree) n among) (needed p w needs n [] m.1 x)
-  member_needs Run p tree w m (q, part, needs) (h, among, r) =
+  -- a node with a run of its own has each word that the run needs
+  pub run_needs : (p : Node) (h : Numbered) (w : Word) (m : Member) → PartNeeds fixed p w → MemberRun C p h m → Has (pre_of h.node) w
+  run_needs p h w m (q, part, needs) r =
       let met = part_met C h q (parts_of p) (kids_between h r.from r.end) [] m.1 (needs_one fixed q w needs) part r.matches in
       let k = met_needs q w needs met.node met.before met.after met.matches in
       let kid = spot_drop r.from (kids_at h) met.node (spot_take _ (drop r.from (kids_at h)) met.node met.among) in
+      (k.0, in_kid h.node met.node.node k.0 (among_kids h met.node kid) k.1, k.2)
+
+  -- a tree with a member has each word that the pattern needs
+  pub member_needs : (shape : Shape) (p tree : Node) (w : Word) (m : Member) → NeedsOf fixed shape p w → MemberOf C shape p tree m → Has (pre_of tree) w
+  member_needs Expr p tree w m needs (n, among, (stands, range, x)) = has_in tree n.node w (among_pre (root_of tree) n among) (needed p w needs n [] m.1 x)
+  member_needs Run p tree w m needs (h, among, r) =
       let block = among_pre (root_of tree) h (spot_filter (λ (z : Numbered). is_block (kind_of z.node)) (pre_at (root_of tree)) h among) in
-      (k.0, in_below tree h.node k.0 block (in_kid h.node met.node.node k.0 (among_kids h met.node kid) k.1), k.2)
+      has_in tree h.node w block (run_needs p h w m needs r)

@@ -1,6 +1,7 @@
 -- The words of a file, and those that a pattern needs.
-use Rattle.std.specs.Prelude.{◌≡◌, ◌↔◌, ℕ, ◌+◌, ◌*◌, List, [], ◌∷◌, ◌%◌, slice_index_or, Bool, true, false, not, Some}
-use Rattle.std.specs.List.{slice_get}
+use Rattle.std.specs.Prelude.{◌≡◌, ◌↔◌, ◌<◌, ◌≤◌, ℕ, ◌+◌, ◌*◌, ◌/◌, ◌%◌, List, [], ◌∷◌, length, nat_eq, Bool, true, not, Some}
+use Rattle.std.specs.List.{slice_get, slice_index_or}
+use Rattle.std.specs.Int.{bit_at}
 use Rattle.node_tree.specs.declared.node.Node.{Node}
 use Rattle.node_tree.specs.declared.kind.Kind.{Kind}
 use Rattle.node_tree.specs.declared.view.Shape.{Shape}
@@ -41,6 +42,10 @@ abbrev pub NeedsOf : Bool → Shape → Node → Word → Type 0
 NeedsOf fixed Expr p w = Needs fixed p w
 NeedsOf fixed Run p w = PartNeeds fixed p w
 
+-- the tree lacks a word that the pattern needs
+abbrev pub Lacks : Bool → Shape → Node → Node → Type 0
+Lacks fixed shape p tree = (w : Word) × NeedsOf fixed shape p w × (Has (pre_of tree) w → ⊥)
+
 -- ---- marks
 
 -- the place of a text among so many, with what came before it
@@ -52,17 +57,33 @@ mixed h (b ∷ bs) = mixed ((h * 31 + b) % 65536) bs
 abbrev pub place_of : Word → ℕ
 place_of w = mixed (kind_place w.0) w.1
 
--- a place is marked
-abbrev pub IsMarked : List Bool → ℕ → Type 0
-IsMarked marks place = slice_index_or marks place false ≡ true
+-- the place of a word among so many
+abbrev pub place_among : ℕ → Word → ℕ
+place_among count w = place_of w % count
 
 -- one of these nodes has a word of that place
 abbrev pub HasPlace : List Node → ℕ → Type 0
 HasPlace ns place = (n : Node) × Among ns n × (place_of (word_of n) ≡ place)
 
--- just the places of the nodes' words are marked
-abbrev pub Covers : List Bool → List Node → Type 0
-Covers marks ns = (place : ℕ) → IsMarked marks place ↔ HasPlace ns place
+-- the same among so many places
+abbrev pub HasPlaceAmong : ℕ → List Node → ℕ → Type 0
+HasPlaceAmong count ns place = (n : Node) × Among ns n × (place_among count (word_of n) ≡ place)
+
+-- a place is marked, by its bit in numbers of 64
+abbrev pub is_marked : List ℕ → ℕ → Bool
+is_marked marks place = nat_eq (bit_at (slice_index_or marks (place / 64) 0) (place % 64)) 1
+
+abbrev pub IsMarked : List ℕ → ℕ → Type 0
+IsMarked marks place = is_marked marks place ≡ true
+
+-- there are some places, and a bit for each
+abbrev pub HasRoom : ℕ → List ℕ → Type 0
+HasRoom count marks = (0 < count) × (count ≤ 64 * length marks)
+
+-- just the places of the nodes' words, among so many, are marked
+pub record Covers (count : ℕ) (marks : List ℕ) (ns : List Node) : Type 0 where
+  pub room : HasRoom count marks
+  pub exact : (place : ℕ) → IsMarked marks place ↔ HasPlaceAmong count ns place
 
 -- the place of a word of this set
 abbrev pub PlaceIn : (Word → Type 0) → ℕ → Type 0
@@ -72,9 +93,9 @@ PlaceIn Set place = (w : Word) × Set w × (place ≡ place_of w)
 abbrev pub ArePlaces : Bool → Shape → Node → List ℕ → Type 0
 ArePlaces fixed shape p places = (place : ℕ) → Among places place ↔ PlaceIn (NeedsOf fixed shape p) place
 
--- each place is marked
-abbrev pub AreMarked : List Bool → List ℕ → Type 0
-AreMarked marks places = (place : ℕ) → Among places place → IsMarked marks place
+-- each place is marked, as a place among so many
+abbrev pub AreMarked : ℕ → List ℕ → List ℕ → Type 0
+AreMarked count marks places = (place : ℕ) → Among places place → IsMarked marks (place % count)
 
 -- for each word that the pattern needs, whatever names are known to hold literals, the tree has one of the same place
 abbrev pub MayHave : Pattern → Node → Type 0

@@ -2,10 +2,12 @@
 #![tactic(auto)]
 
 mod answer;
+mod pattern;
 mod ready;
 mod tree;
 mod words;
 
 pub use answer::{match_leaf, match_ready};
+pub use pattern::ReadyPattern;
 pub use ready::ReadyFile;
 pub use tree::{ReadyTree, match_own_runs, match_tree};

@@ -10,7 +10,7 @@ ghost use Rattle.tree_match.specs.Members.{Member, IsMember};
 ghost use Rattle.file_match.specs.Trees.{known_in};
 ghost use Rattle.file_match.specs.Words.{MayHave};
 
-use crate::words::{Words, may_match, wanted_of, words_of};
+use crate::words::{ALL_PLACES, Words, may_match, wanted_of, words_of};
 use node_pool::{NodePool, Spot, spot_at};
 use node_tree::{FileView, Memory, Node, Pattern};
 use std::alloc::Global;
@@ -39,7 +39,7 @@ impl<'v> Model for ReadyFile<'v> {
 
     ghost view = { λ f. f.view.now };
 
-    ghost invariant = { λ f. IsReady f.view.now.tree f.pool.nodes f.kinds.items f.words.marks.items };
+    ghost invariant = { λ f. IsReady f.view.now.tree f.pool.nodes f.kinds.items f.words };
 }
 
 impl<'v> ReadyFile<'v> {
@@ -49,7 +49,7 @@ impl<'v> ReadyFile<'v> {
     {
         let pool = pool_of(alloc, &view.tree)?;
         let kinds = kinds_of(alloc, root_in(&pool))?;
-        let words = words_of(alloc, &view.tree)?;
+        let words = words_of(alloc, &view.tree, ALL_PLACES)?;
         Ok(ReadyFile {
             view,
             pool,

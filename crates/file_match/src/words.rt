@@ -1,25 +1,25 @@
 //! The words of a file, and those that a pattern needs: where a needed word stands nowhere in the file, the pattern has no
 //! member there.
 
-ghost use Rattle.std.specs.Prelude.{◌≡◌, ◌↔◌, ◌<◌, ◌&&◌, not, List as list, [], Bool, IsTrue, false, true, length, IfOk, OnOk, slice_index_or, slice_set, vec_len};
+ghost use Rattle.std.specs.Prelude.{◌≡◌, ◌↔◌, ◌⊎◌, ◌<◌, ◌/◌, ◌%◌, ◌&&◌, ℕ, not, Bool, IsTrue, false, length, IfOk, OnOk};
 ghost use Rattle.node_tree.specs.declared.node.Node.{Node as node_value};
 ghost use Rattle.node_tree.specs.declared.view.Shape.{Shape as shape_value};
 ghost use Rattle.node_tree.specs.Tree.{pre_of, kids_of};
 ghost use Rattle.node_tree.specs.Tree.{kind_of};
 ghost use Rattle.node_tree.specs.Kinds.{is_literal as literal};
 ghost use Rattle.node_match.specs.Kinds.{role_of as role};
-ghost use Rattle.node_tree.specs.declared.known.Known.{Known as known_value};
 ghost use Rattle.node_match.specs.declared.class.Role.TheVariants.{Deep};
 ghost use Rattle.node_match.specs.Sets.{Adds};
-ghost use Rattle.tree_match.specs.Members.{Member, MemberOf};
-ghost use Rattle.file_match.specs.Words.{word_of, place_of as place, mixed, Needs, PartNeeds, Covers, PlaceIn, ArePlaces, AreMarked, NeedsOwn, NeedsBelow, NeedsAt};
+ghost use Rattle.file_match.specs.Words.{word_of, place_of as place, mixed, Needs, PartNeeds, Lacks};
+ghost use Rattle.file_match.specs.Words.{PlaceIn, ArePlaces, NeedsOwn, NeedsBelow, NeedsAt};
+ghost use Rattle.file_match.specs.Words.{HasRoom, IsMarked, AreMarked, Covers, is_marked as has_mark};
 
 use node_match::{Role, is_free, is_text_free, role_of};
 use node_tree::{Kind, List, Memory, Node, Shape};
 use std::alloc::Global;
 
-// How many places there are.
-const PLACES: usize = 65536;
+/// How many places the words of a file have.
+pub const ALL_PLACES: u32 = 65536;
 
 // The place of the text, with what came before it.
 fn mix(begin: u32, text: &[u8]) -> u32
@@ -42,10 +42,11 @@ fn place_of(node: &Node) -> u32
     mix(node.kind.place() as u32, node.text.as_str().as_bytes())
 }
 
-/// The marked places of the words of a file.
+/// The marked places of the words of a file or a tree: how many places there are, and a bit for each, 64 in a number.
 #[derive(Drop)]
 pub struct Words {
-    pub marks: Vec<bool>,
+    pub count: u32,
+    pub marks: Vec<u64>,
 }
 
 /// The places of words that a pattern needs.
@@ -55,22 +56,25 @@ pub struct Wanted {
 }
 
 // Marks a place.
-fn mark(marks: &mut Vec<bool>, place: u32)
-    requires { place < vec_len marks.old }
-    ensures items { marks.new.items ≡ slice_set marks.old.items place true }
+fn mark(marks: &mut Vec<u64>, at: usize)
+    requires { at / 64 < length marks.old.items }
+    ensures room { length marks.new.items ≡ length marks.old.items }
+    ensures marked { (i : ℕ) → IsMarked marks.new.items i ↔ (IsMarked marks.old.items i ⊎ (at ≡ i)) }
 {
-    marks[place as usize] = true;
+    marks[at / 64] |= 1 << (at % 64);
 }
 
-/// The words of a tree.
-pub fn words_of(alloc: Global, tree: &Node) -> Result<Words, Memory>
-    ensures { IfOk result (λ words. Covers words.marks.items (pre_of tree.now)) }
+/// The words of a tree, by their places among so many.
+pub fn words_of(alloc: Global, tree: &Node, count: u32) -> Result<Words, Memory>
+    requires { 0 < count }
+    ensures count { IfOk result (λ words. words.count ≡ count) }
+    ensures exact { IfOk result (λ words. Covers words.count words.marks.items (pre_of tree.now)) }
 {
-    let mut marks = vec![in alloc; false; PLACES]?;
+    let mut marks = vec![in alloc; 0u64; (count as usize + 63) / 64]?;
     for node in tree.walk()? {
-        mark(&mut marks, place_of(node));
+        mark(&mut marks, (place_of(node) % count) as usize);
     }
-    Ok(Words { marks })
+    Ok(Words { count, marks })
 }
 
 // Adds the places of the words that a pattern node needs.
@@ -176,11 +180,13 @@ pub fn wanted_of(alloc: Global, fixed: bool, shape: Shape, pattern: &Node) -> Re
     Ok(Wanted { places })
 }
 
-/// Whether each place is marked. Where one isn't, a pattern that needs its word has no member.
+/// Whether each place is marked. Where one isn't, the tree lacks a word that the pattern needs.
 pub fn may_match(words: &Words, wanted: &Wanted) -> bool
-    ensures exact { IsTrue result ↔ AreMarked words.now.marks.items wanted.now.places }
-    ensures lacks { result ≡ false → (fixed : Bool) (known : list known_value) → (fixed ≡ true → known ≡ []) → (shape : shape_value) (pattern tree : node_value)
-        → Covers words.now.marks.items (pre_of tree) → ArePlaces fixed shape pattern wanted.now.places → (m : Member) → MemberOf known shape pattern tree m → ⊥ }
+    requires { HasRoom words.now.count words.now.marks.items }
+    ensures exact { IsTrue result ↔ AreMarked words.now.count words.now.marks.items wanted.now.places }
+    ensures lacks { result ≡ false → (fixed : Bool) (shape : shape_value) (pattern tree : node_value) →
+        Covers words.now.count words.now.marks.items (pre_of tree) →
+        ArePlaces fixed shape pattern wanted.now.places → Lacks fixed shape pattern tree }
 {
     for place in wanted.places.as_slice() {
         if !is_marked(words, *place) {
@@ -190,12 +196,11 @@ pub fn may_match(words: &Words, wanted: &Wanted) -> bool
     true
 }
 
-// Whether the place is marked.
+// Whether the place is marked, by its place among those that there are.
 fn is_marked(words: &Words, place: u32) -> bool
-    ensures { result ≡ slice_index_or words.now.marks.items place false }
+    requires { HasRoom words.now.count words.now.marks.items }
+    ensures { result ≡ has_mark words.now.marks.items (place % words.now.count) }
 {
-    match words.marks.as_slice().get(place as usize) {
-        None => false,
-        Some(mark) => *mark,
-    }
+    let at = (place % words.count) as usize;
+    (words.marks[at / 64] >> (at % 64)) & 1 == 1
 }
