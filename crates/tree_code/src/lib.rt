@@ -1,0 +1,11 @@
+//! Trees written as bytes, and read back.
+//!
+//! No two trees have the same bytes, nor does what one begins with make up another, so bytes of trees serve as keys. They take a
+//! fraction of the memory that the trees do.
+#![tactic(auto)]
+
+mod look;
+mod written;
+
+pub use look::Look;
+pub use written::{add_length, add_number, add_text, add_tree};
