@@ -1,2 +1,4 @@
 pub mod Parts
 pub mod Numbers
+pub mod Telling
+pub mod Reading

@@ -18,9 +18,13 @@ number_code n =
 abbrev pub text_code : List ℕ → List ℕ
 text_code text = number_code (length text) ++ text
 
--- the place of a kind, where its node begins, and where it ends
+-- a range: where it begins, and where it ends
+abbrev pub span_code : Span → List ℕ
+span_code span = number_code span.from ++ number_code span.to
+
+-- the place of a kind, and the range of its node
 abbrev pub place_code : Kind → Span → List ℕ
-place_code kind span = kind_place kind ∷ (number_code span.from ++ number_code span.to)
+place_code kind span = kind_place kind ∷ span_code span
 
 -- a tree: the kind with the range, the text, the number of kids, and these
 unfoldable pub tree_code : Node → List ℕ

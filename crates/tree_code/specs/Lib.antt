@@ -1,3 +1,4 @@
 pub mod Code
+pub mod Heads
 pub mod Looks
 pub mod Reads

@@ -4,8 +4,11 @@
 //! fraction of the memory that the trees do.
 #![tactic(auto)]
 
+mod front;
+mod head;
 mod look;
 mod written;
 
+pub use front::Front;
 pub use look::Look;
 pub use written::{add_length, add_number, add_text, add_tree};

@@ -1,0 +1,6 @@
+//! Trees that are kept as bytes.
+#![tactic(auto)]
+
+mod packed;
+
+pub use packed::PackedTree;
