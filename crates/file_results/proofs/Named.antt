@@ -33,6 +33,7 @@ use Rattle.running_rules.proofs.Members.{among_left, among_right}
 use Rattle.file_results.specs.Looking.{AreLeaves, LooksAt, RuleFinds, named_leaf, own_leaf}
 use Rattle.file_results.specs.Needing.{UsesNames, RulesUseNames, AreWanted, HasNoneOrAll, NeedsNoNames, RulesNeedNoNames, Serves, ServesRules}
 use Rattle.file_results.specs.Quieted.{Comments}
+use Rattle.file_results.specs.Taking.{SomeTakeNamesIn}
 use Rattle.file_results.specs.Shown.{IsFoundIn, IsShownIn, IsNotedIn}
 use Rattle.file_results.specs.Tracing.{PartHas, IsPartTrace, IsRuleTrace, IsTraced, HasTrace}
 
@@ -56,6 +57,10 @@ lacking lang tree p none known other leaf h =
     subst P (sym (seen_once lang (known_in tree known) p leaf (Full []) h (none known))) (none other)
 
 -- ---- rules that may use no names
+
+-- rules that may use names in a file take them
+pub used_taken : (lang : Lang) (tree : Node) (rules : List Rule) → RulesUseNames lang tree rules → SomeTakeNamesIn lang rules
+used_taken lang tree rules (rule, runs, (part, has, (looks, (p, a, uses)))) = (rule, runs, (part, has, (looks, (p, a, uses.0))))
 
 -- a pattern that may use no names needs none
 uses_none : (lang : Lang) (tree : Node) (p : Pattern) (b : Bool) → uses_literals p ≡ b → (UsesNames lang tree p → ⊥) → NeedsNoNames lang tree p

@@ -15,9 +15,9 @@ mod looking;
 mod needing;
 mod quiet;
 mod reporting;
-mod resolving;
 mod row;
 mod scanning;
+mod taking;
 mod tracing;
 
 pub use needing::with_needed_names;

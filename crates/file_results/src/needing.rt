@@ -5,7 +5,7 @@ ghost use Rattle.std.specs.Prelude.{◌≡◌, ◌↔◌, [], IsTrue, IfOk};
 ghost use Rattle.file_results.specs.Needing.{UsesNames, PatternsUseNames, PartUsesNames, PartsUseNames, RulesUseNames, HasNoneOrAll, AreWanted};
 
 use crate::looking::looks_at;
-use crate::resolving::resolved_or_itself;
+use crate::taking::some_take_names_in;
 use code_reader::TreeReader;
 use file_open::with_names;
 use file_search::WholeFile;
@@ -77,12 +77,15 @@ pub fn rules_need(
     Ok(false)
 }
 
-// The same of a file that isn't ready for the search.
+// The same of a file that isn't ready for the search. It is made ready only for rules that may take names.
 fn view_needs(alloc: Global, view: &FileView, running: &[Runner<'_>]) -> Result<bool, Memory>
     ensures { IfOk result (λ need. IsTrue need ↔ RulesUseNames view.now.lang view.now.tree running.now) }
 {
+    if !some_take_names_in(running, view.lang) {
+        return Ok(false);
+    }
     let beside = resolved_beside(alloc, view)?;
-    let file = WholeFile::of(alloc, view, resolved_or_itself(view, &beside))?;
+    let file = WholeFile::of(alloc, view, &beside)?;
     rules_need(alloc, &file, running)
 }
 

@@ -17,7 +17,6 @@ use crate::looking::judge_all;
 use crate::needing::rules_need;
 use crate::quiet::without_quieted;
 use crate::reporting::{note_judged, report_rows};
-use crate::resolving::resolved_or_itself;
 use crate::row::rows_of;
 use crate::tracing::with_traces;
 use code_reader::TreeReader;
@@ -101,7 +100,7 @@ fn show_bare<R: TreeReader + CommentReader, L: Ledger>(
     ensures untold { IfOk result (λ shown. shown ≡ None → notices.new.items ≡ notices.old.items) }
 {
     let beside = resolved_beside(alloc, view)?;
-    let mut file = WholeFile::of(alloc, view, resolved_or_itself(view, &beside))?;
+    let mut file = WholeFile::of(alloc, view, &beside)?;
     if rules_need(alloc, &file, running)? {
         return Ok(None);
     }
@@ -127,7 +126,7 @@ fn show_named<R: TreeReader + CommentReader, L: Ledger>(
 {
     let named = with_names(alloc, reader, view)?;
     let beside = resolved_beside(alloc, &named)?;
-    let mut file = WholeFile::of(alloc, &named, resolved_or_itself(&named, &beside))?;
+    let mut file = WholeFile::of(alloc, &named, &beside)?;
     scan_view(
         alloc, reader, path, &named, &mut file, running, traced, steps, notices,
     )

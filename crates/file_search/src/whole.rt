@@ -1,6 +1,6 @@
 //! The search of a whole file.
 
-ghost use Rattle.std.specs.Prelude.{◌≡◌, ◌↔◌, false, IsTrue, IfOk, OnOk};
+ghost use Rattle.std.specs.Prelude.{◌≡◌, ◌↔◌, false, IsTrue, IfOk, OnOk, MatchOption};
 ghost use Rattle.tree_match.specs.Members.{known_tree};
 ghost use Rattle.node_tree.specs.declared.view.Lang.TheVariants.{Python as python};
 ghost use Rattle.import_names.specs.Resolved.{IsResolved};
@@ -57,7 +57,7 @@ fn beside_python<'v>(
 }
 
 // The same of a file in any language.
-fn beside<'v>(
+fn beside_resolved<'v>(
     alloc: Global,
     view: &FileView,
     resolved: &'v FileView,
@@ -71,15 +71,30 @@ fn beside<'v>(
     }
 }
 
+// The same of a file that has another one beside it, or resolves to itself.
+fn beside<'v>(
+    alloc: Global,
+    view: &FileView,
+    resolved: &'v Option<FileView>,
+) -> Result<Option<ReadyFile<'v>>, Memory>
+    requires { MatchOption resolved.now (IsResolved view.now view.now) (IsResolved view.now) }
+    ensures { IfOk result (IsBeside view.now) }
+{
+    match resolved {
+        None => Ok(None),
+        Some(resolved) => beside_resolved(alloc, view, resolved),
+    }
+}
+
 impl<'v> WholeFile<'v> {
-    /// Makes a file ready, of which the other is the file with its names resolved. In another language than Python that isn't
-    /// looked at.
+    /// Makes a file ready, of which the other is the file with its names resolved. None says that the file resolves to itself, and
+    /// costs nothing. In another language than Python the other isn't looked at.
     pub fn of(
         alloc: Global,
         view: &'v FileView,
-        resolved: &'v FileView,
+        resolved: &'v Option<FileView>,
     ) -> Result<WholeFile<'v>, Memory>
-        requires { IsResolved view.now resolved.now }
+        requires { MatchOption resolved.now (IsResolved view.now view.now) (IsResolved view.now) }
         ensures { IfOk result (λ file. file ≡ view.now) }
     {
         Ok(WholeFile {
