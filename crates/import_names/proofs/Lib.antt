@@ -7,3 +7,4 @@ pub mod Replacing
 pub mod Renumbering
 pub mod Placing
 pub mod Itself
+mod Telling

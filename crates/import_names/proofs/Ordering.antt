@@ -63,10 +63,10 @@ pub parts_through : (name : List ℕ) (claims : List Claim) → AreInOrder claim
 parts_through name claims up i j d le lt e =
     sym (index_le _) ∙ IsPartitionedBy-leb (λ (c : Claim). ordering_index (slice_cmp nat_cmp c.name name)) claims 1 (rises name claims up) i j d le lt (index_le _ ∙ e)
 
-filter_yes : {X : Type 0} (p : X → Bool) (x : X) (xs : List X) → p x ≡ true → filter p (x ∷ xs) ≡ x ∷ filter p xs
+pub filter_yes : {X : Type 0} (p : X → Bool) (x : X) (xs : List X) → p x ≡ true → filter p (x ∷ xs) ≡ x ∷ filter p xs
 filter_yes p x xs e = ap (λ b. cond b (x ∷ filter p xs) (filter p xs)) e
 
-filter_no : {X : Type 0} (p : X → Bool) (x : X) (xs : List X) → p x ≡ false → filter p (x ∷ xs) ≡ filter p xs
+pub filter_no : {X : Type 0} (p : X → Bool) (x : X) (xs : List X) → p x ≡ false → filter p (x ∷ xs) ≡ filter p xs
 filter_no p x xs e = ap (λ b. cond b (x ∷ filter p xs) (filter p xs)) e
 
 filter_none : {X : Type 0} (p : X → Bool) (xs : List X) → AllWithin (λ x. p x ≡ false) xs 0 (length xs) → filter p xs ≡ []

@@ -3,3 +3,4 @@ pub mod Resolved
 pub mod Pieces
 pub mod Ordered
 pub mod Itself
+pub mod Telling

@@ -3,7 +3,7 @@
 ghost use Rattle.std.specs.Prelude.{IsTrue};
 ghost use Rattle.import_names.specs.Itself.{IsItself, AllThemselves};
 
-use node_tree::{List, Written};
+use node_tree::{List, Memory, Twin, Written};
 
 /// What a place of a file says of a name: the parts of the dotted name for which it stands there, none where it stands for no
 /// other.
@@ -11,6 +11,17 @@ use node_tree::{List, Written};
 pub struct Claim<'t> {
     pub name: Written<'t>,
     pub parts: List<Written<'t>>,
+}
+
+impl<'t> Twin for Claim<'t> {
+    fn copy(&self) -> Result<Claim<'t>, Memory> {
+        let mut parts = List::new(self.parts.alloc());
+        for part in self.parts.as_slice() {
+            parts.push(Written::new(part.as_str()))?;
+        }
+        let name = Written::new(self.name.as_str());
+        Ok(Claim { name, parts })
+    }
 }
 
 // Whether by what is said of it the name stands for no other than itself.

@@ -92,6 +92,9 @@ pub fn kept(
         spec.kept (said.meaning claims.now) tree.now known.now) }
 {
     let mut kept = List::new(alloc);
+    if known.is_empty() {
+        return Ok(kept);
+    }
     let numbers = numbers(alloc, claims, tree)?;
     for one in known {
         add_known(numbers.as_slice(), one, &mut kept)?;

@@ -3,9 +3,11 @@
 ghost use Rattle.std.specs.Prelude.{◌≡◌, ◌≤◌, length, IfOk};
 ghost use Rattle.import_names.specs.Claims as spec;
 ghost use Rattle.import_names.specs.Ordered.{AreInOrder, is_before, is_through, Parts};
+ghost use Rattle.import_names.specs.Telling.{tells as spec_tells};
 
 use crate::claim::Claim;
-use node_tree::{Memory, Written};
+use node_tree::{Memory, Twin, Written};
+use std::alloc::Global;
 
 /// What is said of names, in order of name.
 pub fn in_order<'t>(mut claims: Vec<Claim<'t>>) -> Result<Vec<Claim<'t>>, Memory>
@@ -54,4 +56,31 @@ pub fn meaning<'c, 't>(claims: &'c [Claim<'t>], name: &str) -> &'c [Written<'t>]
         return said[0].parts.as_slice();
     }
     &[]
+}
+
+// Whether the claim says that its name stands for another, and no other claim is made of that.
+fn tells(claims: &[Claim<'_>], claim: &Claim<'_>) -> bool
+    requires { AreInOrder claims.now }
+    ensures { result ≡ spec_tells claims.now claim.now }
+{
+    if claim.parts.is_empty() {
+        return false;
+    }
+    !meaning(claims, claim.name.as_str()).is_empty()
+}
+
+/// The claims by which a name stands for another, in order of name. Most claims are of names that stand for none, and a name is
+/// looked up faster among few.
+pub fn telling<'t>(alloc: Global, claims: &[Claim<'t>]) -> Result<Vec<Claim<'t>>, Memory>
+    requires { AreInOrder claims.now }
+    ensures ordered { IfOk result (λ few. AreInOrder few.items) }
+    ensures same { IfOk result (λ few. spec.meaning few.items ≡ spec.meaning claims.now) }
+{
+    let mut few = Vec::new(alloc);
+    for claim in claims {
+        if tells(claims, claim) {
+            few.push(claim.copy()?)?;
+        }
+    }
+    Ok(few)
 }

@@ -5,11 +5,13 @@ ghost use Rattle.std.specs.Str.{IsUtf8};
 ghost use Rattle.node_tree.specs.KnownNames.{AreNames, AreInOrder as AreKnownInOrder};
 ghost use Rattle.node_tree.specs.Spans.{SpansLieIn};
 ghost use Rattle.node_tree.specs.declared.view.Lang.TheVariants.{Python};
+ghost use Rattle.import_names.specs.Claims.{meaning, claims_of as said_in};
+ghost use Rattle.import_names.specs.Ordered.{AreInOrder};
 ghost use Rattle.import_names.specs.Resolved.{IsResolved};
 
-use crate::claim::are_themselves;
+use crate::claim::{Claim, are_themselves};
 use crate::known::kept;
-use crate::meanings::in_order;
+use crate::meanings::{in_order, telling};
 use crate::replace::replaced;
 use crate::say::{claims_of, own_claims};
 use node_tree::{Bytes, FileView, Known, Lang, List, MOST_BYTES, Memory, Node, Twin, copy_all};
@@ -35,12 +37,21 @@ fn view_of(lang: Lang, bytes: Bytes, tree: Node, known: List<Known>) -> FileView
     }
 }
 
+// The claims of a tree by which names stand for others.
+fn told_of<'t>(alloc: Global, tree: &'t Node) -> Result<Vec<Claim<'t>>, Memory>
+    ensures ordered { IfOk result (λ claims. AreInOrder claims.items) }
+    ensures same { IfOk result (λ claims. meaning claims.items ≡ meaning (said_in tree.now)) }
+{
+    let all = in_order(claims_of(alloc, tree)?)?;
+    telling(alloc, all.as_slice())
+}
+
 // The view of a file in Python.
 fn resolve_python(alloc: Global, view: &FileView) -> Result<FileView, Memory>
     requires { view.now.lang ≡ Python }
     ensures { IfOk result (IsResolved view.now) }
 {
-    let claims = in_order(claims_of(alloc, &view.tree)?)?;
+    let claims = told_of(alloc, &view.tree)?;
     let tree = replaced(alloc, claims.as_slice(), &view.tree)?;
     let known = kept(alloc, claims.as_slice(), &view.tree, view.known.as_slice())?;
     let bytes = view.bytes.copy()?;
