@@ -5,7 +5,7 @@ use Rattle.piece_form.specs.declared.piece.Piece.{Piece}
 use Rattle.piece_form.specs.Code.{piece_code}
 use Rattle.piece_form.specs.Identity.{identity_of}
 
--- the key has the bytes of the piece, and all else that counts of it as numbers
+-- the key has the bytes of the piece, and all else that counts of it written as bytes
 pub record IsKeyOf (piece : Piece) (key : PieceKey) : Type 0 where
   pub bytes : key.bytes.items ≡ piece.bytes
-  pub numbers : key.numbers.items ≡ piece_code (identity_of piece)
+  pub code : key.code.items ≡ piece_code (identity_of piece)

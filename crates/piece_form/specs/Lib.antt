@@ -2,4 +2,3 @@ pub mod Code
 pub mod Cut
 pub mod Identity
 pub mod Keys
-pub mod Looks

@@ -4,17 +4,20 @@ ghost use Rattle.std.specs.Prelude.{◌≡◌, IfOk};
 ghost use Rattle.piece_form.specs.Code.{pattern_code};
 ghost use Rattle.piece_form.specs.Keys.{IsKeyOf};
 
-use crate::look::Look;
 use crate::piece::Piece;
-use crate::written::{add_known, add_tree};
+use crate::written::add_known;
 use node_tree::{Memory, Pattern};
 use std::alloc::Global;
+use tree_code::{Look, add_tree};
 
-/// A piece as a key: its bytes, and the rest of it written out as numbers. Keys are in order of their bytes first.
+// How many bytes of a key a byte of a piece takes, about.
+const CODE_BYTES: usize = 4;
+
+/// A piece as a key: its bytes, and the rest of it written as bytes. Keys are in order of the piece's bytes first.
 #[derive(Debug, PartialEq, Eq, PartialOrd, Ord, Drop)]
 pub struct PieceKey {
     pub bytes: Vec<u8>,
-    pub numbers: Vec<u32>,
+    pub code: Vec<u8>,
 }
 
 impl PieceKey {
@@ -23,32 +26,33 @@ impl PieceKey {
         ensures { IfOk result (IsKeyOf piece.now) }
     {
         let bytes = Vec::from_slice(alloc, piece.bytes.as_slice())?;
-        let mut numbers = Vec::new(alloc);
-        numbers.push(piece.lang as u32)?;
-        add_tree(&mut numbers, &piece.tree, Look::Whole)?;
-        add_known(&mut numbers, piece.known.as_slice())?;
-        numbers.shrink_to_fit();
-        Ok(PieceKey { bytes, numbers })
+        let room = bytes.len().saturating_mul(CODE_BYTES);
+        let mut code = Vec::with_capacity(alloc, room)?;
+        code.push(piece.lang as u8)?;
+        add_tree(&mut code, &piece.tree, Look::Whole)?;
+        add_known(&mut code, piece.known.as_slice())?;
+        code.shrink_to_fit();
+        Ok(PieceKey { bytes, code })
     }
 }
 
-/// A pattern as a key: written out as numbers.
+/// A pattern as a key: written as bytes.
 #[derive(Debug, PartialEq, Eq, PartialOrd, Ord, Drop)]
 pub struct PatternKey {
-    pub numbers: Vec<u32>,
+    pub code: Vec<u8>,
 }
 
 impl PatternKey {
     /// The key of a pattern. `Memory` is also the answer where a length in it passes the largest `u32`.
     pub fn of(alloc: Global, pattern: &Pattern) -> Result<PatternKey, Memory>
-        ensures { IfOk result (λ key. key.numbers.items ≡ pattern_code pattern.now) }
+        ensures { IfOk result (λ key. key.code.items ≡ pattern_code pattern.now) }
     {
-        let mut numbers = Vec::new(alloc);
-        numbers.push(pattern.lang as u32)?;
-        numbers.push(pattern.shape as u32)?;
-        numbers.push(pattern.constants as u32)?;
-        add_tree(&mut numbers, &pattern.tree, Look::Whole)?;
-        numbers.shrink_to_fit();
-        Ok(PatternKey { numbers })
+        let mut code = Vec::new(alloc);
+        code.push(pattern.lang as u8)?;
+        code.push(pattern.shape as u8)?;
+        code.push(pattern.constants as u8)?;
+        add_tree(&mut code, &pattern.tree, Look::Whole)?;
+        code.shrink_to_fit();
+        Ok(PatternKey { code })
     }
 }
