@@ -10,7 +10,6 @@
 //! [`FileSearch`]: file_search::FileSearch
 #![tactic(auto)]
 
-mod following;
 mod looking;
 mod needing;
 mod quiet;

@@ -88,19 +88,20 @@ fn leaves_of<S: FileSearch, L: Ledger>(
 /// What the part with that number finds, after the members of its patterns.
 pub fn judge_part<S: FileSearch, L: Ledger>(
     alloc: Global,
-    view: &SharedFile<'_>,
+    view: &mut SharedFile<'_>,
     rule: &Runner<'_>,
     part: usize,
     search: &mut S,
     steps: &mut Steps<L>,
 ) -> Result<(List<Leaf>, Found), Memory>
     requires part { part < length rule.now.parts }
-    requires file { S.file search.old ≡ view.now }
-    ensures leaves { (p : a_part) → slice_get rule.now.parts part ≡ Some p → IfOk result (λ judged. AreLeaves (named_leaf view.now.known view.now.lang) view.now.tree p.patterns judged.0) }
-    ensures leaves_placed { IfOk result (λ judged. All (λ leaf. IsLeafPlaced view.now.bytes leaf) judged.0) }
-    ensures finds { (p : a_part) → slice_get rule.now.parts part ≡ Some p → IfOk result (λ judged. PartJudges view.now.lang rule.now.texts view.now.bytes (known_tree view.now) p judged.1) }
-    ensures placed { IfOk result (λ judged. All (λ finding. IsFindingPlaced view.now.bytes finding) (findings_of judged.1)) }
+    requires file { S.file search.old ≡ view.old }
+    ensures leaves { (p : a_part) → slice_get rule.now.parts part ≡ Some p → IfOk result (λ judged. AreLeaves (named_leaf view.old.known view.old.lang) view.old.tree p.patterns judged.0) }
+    ensures leaves_placed { IfOk result (λ judged. All (λ leaf. IsLeafPlaced view.old.bytes leaf) judged.0) }
+    ensures finds { (p : a_part) → slice_get rule.now.parts part ≡ Some p → IfOk result (λ judged. PartJudges view.old.lang rule.now.texts view.old.bytes (known_tree view.old) p judged.1) }
+    ensures placed { IfOk result (λ judged. All (λ finding. IsFindingPlaced view.old.bytes finding) (findings_of judged.1)) }
     ensures same { S.file search.new ≡ S.file search.old }
+    ensures kept { view.new ≡ view.old }
     ensures asked { (p : a_part) → slice_get rule.now.parts part ≡ Some p → OnOk result (Asked S.asks p.patterns search.old steps.old search.new steps.new) }
 {
     let Ok(number) = u32::try_from(part) else {
@@ -108,8 +109,9 @@ pub fn judge_part<S: FileSearch, L: Ledger>(
     };
     let mut rx = rule.expressions()?;
     let rule = rule.rule();
-    let patterns = &rule.parts.as_slice()[part].patterns;
-    let leaves = leaves_of(alloc, patterns.as_slice(), search, steps)?;
+    let one = &rule.parts.as_slice()[part];
+    let leaves = leaves_of(alloc, one.patterns.as_slice(), search, steps)?;
+    view.prepare(alloc, &one.body, &leaves)?;
     let found = judge(
         alloc,
         view.view(),
@@ -125,7 +127,7 @@ pub fn judge_part<S: FileSearch, L: Ledger>(
 // Adds what the part with that number finds, if it looks at the file.
 fn add_part<S: FileSearch, L: Ledger>(
     alloc: Global,
-    view: &SharedFile<'_>,
+    view: &mut SharedFile<'_>,
     number: usize,
     rule: &Runner<'_>,
     part: usize,
@@ -134,11 +136,12 @@ fn add_part<S: FileSearch, L: Ledger>(
     judged: &mut Vec<Judged>,
 ) -> Result<(), Memory>
     requires part { part < length rule.now.parts }
-    requires file { S.file search.old ≡ view.now }
-    ensures judged { (p : a_part) → slice_get rule.now.parts part ≡ Some p → OnOk result (Adds judged.old.items judged.new.items (PartAdds rule.now.texts view.now.lang view.now.bytes (known_tree view.now) number p)) }
-    ensures placed { AreAllPlaced view.now.bytes judged.old.items → OnOk result (AreAllPlaced view.now.bytes judged.new.items) }
+    requires file { S.file search.old ≡ view.old }
+    ensures judged { (p : a_part) → slice_get rule.now.parts part ≡ Some p → OnOk result (Adds judged.old.items judged.new.items (PartAdds rule.now.texts view.old.lang view.old.bytes (known_tree view.old) number p)) }
+    ensures placed { AreAllPlaced view.old.bytes judged.old.items → OnOk result (AreAllPlaced view.old.bytes judged.new.items) }
     ensures same { S.file search.new ≡ S.file search.old }
-    ensures asked { (p : a_part) → slice_get rule.now.parts part ≡ Some p → OnOk result (AsksFor S.asks (PartAsksFor view.now.lang p) search.old steps.old search.new steps.new) }
+    ensures kept { view.new ≡ view.old }
+    ensures asked { (p : a_part) → slice_get rule.now.parts part ≡ Some p → OnOk result (AsksFor S.asks (PartAsksFor view.old.lang p) search.old steps.old search.new steps.new) }
 {
     if !looks_at(&rule.rule().parts.as_slice()[part], view.view().lang) {
         return Ok(());
@@ -151,18 +154,19 @@ fn add_part<S: FileSearch, L: Ledger>(
 // Adds what each part of the rule finds that looks at the file.
 fn add_parts<S: FileSearch, L: Ledger>(
     alloc: Global,
-    view: &SharedFile<'_>,
+    view: &mut SharedFile<'_>,
     number: usize,
     rule: &Runner<'_>,
     search: &mut S,
     steps: &mut Steps<L>,
     judged: &mut Vec<Judged>,
 ) -> Result<(), Memory>
-    requires { S.file search.old ≡ view.now }
-    ensures judged { OnOk result (Adds judged.old.items judged.new.items (RuleJudges rule.now.texts view.now.lang view.now.bytes (known_tree view.now) number rule.now.parts)) }
-    ensures placed { AreAllPlaced view.now.bytes judged.old.items → OnOk result (AreAllPlaced view.now.bytes judged.new.items) }
+    requires { S.file search.old ≡ view.old }
+    ensures judged { OnOk result (Adds judged.old.items judged.new.items (RuleJudges rule.now.texts view.old.lang view.old.bytes (known_tree view.old) number rule.now.parts)) }
+    ensures placed { AreAllPlaced view.old.bytes judged.old.items → OnOk result (AreAllPlaced view.old.bytes judged.new.items) }
     ensures same { S.file search.new ≡ S.file search.old }
-    ensures asked { OnOk result (AsksFor S.asks (PartsAskFor view.now.lang rule.now.parts) search.old steps.old search.new steps.new) }
+    ensures kept { view.new ≡ view.old }
+    ensures asked { OnOk result (AsksFor S.asks (PartsAskFor view.old.lang rule.now.parts) search.old steps.old search.new steps.new) }
 {
     for part in 0..rule.rule().parts.len() {
         add_part(alloc, view, number, rule, part, search, steps, judged)?;
@@ -174,18 +178,19 @@ fn add_parts<S: FileSearch, L: Ledger>(
 fn add_rule<S: FileSearch, L: Ledger>(
     alloc: Global,
     path: &str,
-    view: &SharedFile<'_>,
+    view: &mut SharedFile<'_>,
     number: usize,
     rule: &Runner<'_>,
     search: &mut S,
     steps: &mut Steps<L>,
     judged: &mut Vec<Judged>,
 ) -> Result<(), Memory>
-    requires { S.file search.old ≡ view.now }
-    ensures judged { OnOk result (Adds judged.old.items judged.new.items (RuleAdds path.now view.now.lang view.now.bytes (known_tree view.now) number rule.now)) }
-    ensures placed { AreAllPlaced view.now.bytes judged.old.items → OnOk result (AreAllPlaced view.now.bytes judged.new.items) }
+    requires { S.file search.old ≡ view.old }
+    ensures judged { OnOk result (Adds judged.old.items judged.new.items (RuleAdds path.now view.old.lang view.old.bytes (known_tree view.old) number rule.now)) }
+    ensures placed { AreAllPlaced view.old.bytes judged.old.items → OnOk result (AreAllPlaced view.old.bytes judged.new.items) }
     ensures same { S.file search.new ≡ S.file search.old }
-    ensures asked { OnOk result (AsksFor S.asks (RuleAsksFor path.now view.now.lang rule.now) search.old steps.old search.new steps.new) }
+    ensures kept { view.new ≡ view.old }
+    ensures asked { OnOk result (AsksFor S.asks (RuleAsksFor path.now view.old.lang rule.now) search.old steps.old search.new steps.new) }
 {
     if !allows(rule.rule(), path) {
         return Ok(());
@@ -197,16 +202,17 @@ fn add_rule<S: FileSearch, L: Ledger>(
 pub fn judge_all<S: FileSearch, L: Ledger>(
     alloc: Global,
     path: &str,
-    view: &SharedFile<'_>,
+    view: &mut SharedFile<'_>,
     running: &[Runner<'_>],
     search: &mut S,
     steps: &mut Steps<L>,
 ) -> Result<Vec<Judged>, Memory>
-    requires { S.file search.old ≡ view.now }
-    ensures judged { IfOk result (λ judged. (x : a_judged) → Among judged.items x ↔ IsJudged path.now view.now.lang view.now.bytes (known_tree view.now) running.now x) }
-    ensures placed { IfOk result (λ judged. AreAllPlaced view.now.bytes judged.items) }
+    requires { S.file search.old ≡ view.old }
+    ensures judged { IfOk result (λ judged. (x : a_judged) → Among judged.items x ↔ IsJudged path.now view.old.lang view.old.bytes (known_tree view.old) running.now x) }
+    ensures placed { IfOk result (λ judged. AreAllPlaced view.old.bytes judged.items) }
     ensures same { S.file search.new ≡ S.file search.old }
-    ensures asked { OnOk result (AsksFor S.asks (IsAskedFor path.now view.now.lang running.now) search.old steps.old search.new steps.new) }
+    ensures kept { view.new ≡ view.old }
+    ensures asked { OnOk result (AsksFor S.asks (IsAskedFor path.now view.old.lang running.now) search.old steps.old search.new steps.new) }
 {
     let mut judged = Vec::new(alloc);
     for (number, rule) in running.iter().enumerate() {

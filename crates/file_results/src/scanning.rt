@@ -12,7 +12,6 @@ ghost use Rattle.file_results.specs.Quieted.{grammars_of};
 ghost use Rattle.file_results.specs.Shown.{IsResultIn, IsShownIn, IsNotedIn, IsNoticeIn};
 ghost use Rattle.file_results.specs.Followed.{IsTracedIn};
 
-use crate::following::some_follows_in;
 use crate::looking::judge_all;
 use crate::needing::rules_need;
 use crate::quiet::without_quieted;
@@ -50,16 +49,17 @@ fn find_view<S: FileSearch, L: Ledger>(
     ensures notices { OnOk result (Adds notices.old.items notices.new.items (IsNotedIn (named_leaf view.now.known) running.now path.now view.now.lang view.now.bytes view.now.tree)) }
     ensures asked { OnOk result (AsksFor S.asks (IsAskedFor path.now view.now.lang running.now) search.old steps.old search.new steps.new) }
 {
-    let follows = some_follows_in(running, view.lang);
-    let file = SharedFile::of(alloc, view, follows)?;
-    let judged = judge_all(alloc, path, &file, running, search, steps)?;
+    let mut file = SharedFile::of(view);
+    let judged = judge_all(alloc, path, &mut file, running, search, steps)?;
     let found = judged.as_slice();
     note_judged(alloc, path, running, found, notices)?;
     let unsorted = rows_of(alloc, running, found)?;
     let rows = settled(alloc, unsorted)?;
     let shown = rows.as_slice();
     let bares = report_rows(alloc, path, view, running, shown)?;
-    with_traces(alloc, traced, &file, running, shown, bares, search, steps)
+    with_traces(
+        alloc, traced, &mut file, running, shown, bares, search, steps,
+    )
 }
 
 /// What the rules find in the file at that path and no comment there quiets, by the names that are known in what was opened. The

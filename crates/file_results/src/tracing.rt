@@ -68,17 +68,18 @@ fn sets_for(
 // What the part with that number finds, if it follows data in the file.
 fn follow_part<S: FileSearch, L: Ledger>(
     alloc: Global,
-    file: &SharedFile<'_>,
+    file: &mut SharedFile<'_>,
     rule: &Runner<'_>,
     part: usize,
     search: &mut S,
     steps: &mut Steps<L>,
 ) -> Result<Option<Followed>, Memory>
     requires part { part < length rule.now.parts }
-    requires file { S.file search.old ≡ file.now }
-    ensures followed { (p : a_part) → slice_get rule.now.parts part ≡ Some p → IfOk result (IsFollowedPart file.now.lang rule.now.texts file.now.bytes (known_tree file.now) p) }
+    requires file { S.file search.old ≡ file.old }
+    ensures followed { (p : a_part) → slice_get rule.now.parts part ≡ Some p → IfOk result (IsFollowedPart file.old.lang rule.now.texts file.old.bytes (known_tree file.old) p) }
     ensures same { S.file search.new ≡ S.file search.old }
-    ensures asked { (p : a_part) → slice_get rule.now.parts part ≡ Some p → OnOk result (AsksAmong S.asks (PartAsksFor file.now.lang p) search.old steps.old search.new steps.new) }
+    ensures kept { file.new ≡ file.old }
+    ensures asked { (p : a_part) → slice_get rule.now.parts part ≡ Some p → OnOk result (AsksAmong S.asks (PartAsksFor file.old.lang p) search.old steps.old search.new steps.new) }
 {
     let one = &rule.rule().parts.as_slice()[part];
     let Body::Taint(body) = &one.body else {
@@ -95,16 +96,17 @@ fn follow_part<S: FileSearch, L: Ledger>(
 // The same of each part of the rule, if it is wanted.
 fn follow_parts<S: FileSearch, L: Ledger>(
     alloc: Global,
-    file: &SharedFile<'_>,
+    file: &mut SharedFile<'_>,
     rule: &Runner<'_>,
     wanted: bool,
     search: &mut S,
     steps: &mut Steps<L>,
 ) -> Result<List<Option<Followed>>, Memory>
-    requires { S.file search.old ≡ file.now }
-    ensures followed { wanted ≡ true → IfOk result (AreFollowedParts file.now.lang rule.now.texts file.now.bytes (known_tree file.now) rule.now.parts) }
+    requires { S.file search.old ≡ file.old }
+    ensures followed { wanted ≡ true → IfOk result (AreFollowedParts file.old.lang rule.now.texts file.old.bytes (known_tree file.old) rule.now.parts) }
     ensures same { S.file search.new ≡ S.file search.old }
-    ensures asked { OnOk result (AsksAmong S.asks (λ p. (wanted ≡ true) × PartsAskFor file.now.lang rule.now.parts p) search.old steps.old search.new steps.new) }
+    ensures kept { file.new ≡ file.old }
+    ensures asked { OnOk result (AsksAmong S.asks (λ p. (wanted ≡ true) × PartsAskFor file.old.lang rule.now.parts p) search.old steps.old search.new steps.new) }
 {
     let mut followed = List::new(alloc);
     if !wanted {
@@ -119,15 +121,16 @@ fn follow_parts<S: FileSearch, L: Ledger>(
 // The same of each rule whose number is wanted.
 fn follow_rules<S: FileSearch, L: Ledger>(
     alloc: Global,
-    file: &SharedFile<'_>,
+    file: &mut SharedFile<'_>,
     running: &[Runner<'_>],
     wanted: &BTreeSet<usize>,
     search: &mut S,
     steps: &mut Steps<L>,
 ) -> Result<List<List<Option<Followed>>>, Memory>
-    requires { S.file search.old ≡ file.now }
-    ensures followed { IfOk result (AreFollowedRules file.now.lang file.now.bytes (known_tree file.now) running.now (λ n. contains nat_cmp wanted.now n ≡ true)) }
-    ensures asked { OnOk result (AsksAmong S.asks (WantedAsk file.now.lang running.now (λ n. contains nat_cmp wanted.now n ≡ true)) search.old steps.old search.new steps.new) }
+    requires { S.file search.old ≡ file.old }
+    ensures followed { IfOk result (AreFollowedRules file.old.lang file.old.bytes (known_tree file.old) running.now (λ n. contains nat_cmp wanted.now n ≡ true)) }
+    ensures kept { file.new ≡ file.old }
+    ensures asked { OnOk result (AsksAmong S.asks (WantedAsk file.old.lang running.now (λ n. contains nat_cmp wanted.now n ≡ true)) search.old steps.old search.new steps.new) }
 {
     let mut followed = List::new(alloc);
     for (number, rule) in running.iter().enumerate() {
@@ -318,18 +321,18 @@ fn trace_rows(
 pub fn with_traces<S: FileSearch, L: Ledger>(
     alloc: Global,
     traced: bool,
-    file: &SharedFile<'_>,
+    file: &mut SharedFile<'_>,
     running: &[Runner<'_>],
     rows: &[Row<'_, '_>],
     bares: List<Reported>,
     search: &mut S,
     steps: &mut Steps<L>,
 ) -> Result<List<Reported>, Memory>
-    requires file { S.file search.old ≡ file.now }
-    requires found { AreFoundHits file.now.lang file.now.bytes (known_tree file.now) running.now rows.now }
+    requires file { S.file search.old ≡ file.old }
+    requires found { AreFoundHits file.old.lang file.old.bytes (known_tree file.old) running.now rows.now }
     requires bares { AreOfHits running.now rows.now bares }
-    ensures traced { IfOk result (AreTraced (HasTrace traced (named_leaf file.now.known) running.now file.now.lang file.now.bytes file.now.tree) bares) }
-    ensures asked { OnOk result (AsksAmong S.asks (WantedAsk file.now.lang running.now (IsWanted rows.now)) search.old steps.old search.new steps.new) }
+    ensures traced { IfOk result (AreTraced (HasTrace traced (named_leaf file.old.known) running.now file.old.lang file.old.bytes file.old.tree) bares) }
+    ensures asked { OnOk result (AsksAmong S.asks (WantedAsk file.old.lang running.now (IsWanted rows.now)) search.old steps.old search.new steps.new) }
 {
     if !traced {
         return Ok(bares);

@@ -6,6 +6,7 @@ mod found;
 mod judging;
 mod outcome;
 mod shared_file;
+mod sources;
 
 pub use found::{Found, FoundNotice};
 pub use judging::judge;

@@ -1,14 +1,18 @@
 //! Files that many rules look at.
 
-ghost use Rattle.std.specs.Prelude.{◌≡◌, IfOk, MatchOption};
+ghost use Rattle.std.specs.Prelude.{◌≡◌, MatchOption};
 ghost use Rattle.taint_judge.specs.Flows.{IsFlowIn};
 
-use node_tree::{FileView, Memory};
+use crate::sources::may_begin;
+use node_tree::{FileView, List, Memory};
+use rule_form::Body;
 use std::alloc::Global;
 use std::marker::Model;
 use taint_judge::FlowTree;
+use tree_match::Leaf;
 
-/// A file that is lent to many rules, ready for data to be followed in it where that is wanted. Contracts see the file.
+/// A file that is lent to many rules. What it takes to follow data in it is made for the first rule that needs it, and kept.
+/// Contracts see the file.
 #[derive(Drop)]
 pub struct SharedFile<'v> {
     view: &'v FileView,
@@ -29,28 +33,35 @@ impl<'v> Model for SharedFile<'v> {
     ghost invariant = { λ f. MatchOption f.flow (Unit {0}) (λ tree. tree ≡ f.view.now.tree) };
 }
 
-// What it takes to follow data in the file, where that is asked for.
-fn flow_of<'v>(
-    alloc: Global,
-    view: &'v FileView,
-    follows: bool,
-) -> Result<Option<FlowTree<'v>>, Memory>
-    ensures { IfOk result (λ flow. MatchOption flow (Unit {0}) (λ tree. tree ≡ view.now.tree)) }
-{
-    if follows {
-        Ok(Some(FlowTree::of(alloc, &view.tree)?))
-    } else {
-        Ok(None)
-    }
-}
-
 impl<'v> SharedFile<'v> {
-    /// A file to be lent, ready for data to be followed in it where `follows` says so.
-    pub fn of(alloc: Global, view: &'v FileView, follows: bool) -> Result<SharedFile<'v>, Memory>
-        ensures { IfOk result (λ file. file ≡ view.now) }
+    /// A file to be lent.
+    pub fn of(view: &'v FileView) -> SharedFile<'v>
+        ensures { result ≡ view.now }
     {
-        let flow = flow_of(alloc, view, follows)?;
-        Ok(SharedFile { view, flow })
+        SharedFile { view, flow: None }
+    }
+
+    // Makes what it takes to follow data in it, unless that is there.
+    fn make_ready(&mut self, alloc: Global) -> Result<(), Memory>
+        ensures { self.new ≡ self.old }
+    {
+        if self.flow.is_some() {
+            return Ok(());
+        }
+        let view = self.view;
+        self.flow = Some(FlowTree::of(alloc, &view.tree)?);
+        Ok(())
+    }
+
+    /// Makes what it takes to follow data in it, if the body may have a source there, where `leaves` has the members of its
+    /// patterns. It is made once. A body without a source needs nothing.
+    pub fn prepare(&mut self, alloc: Global, body: &Body, leaves: &List<Leaf>) -> Result<(), Memory>
+        ensures { self.new ≡ self.old }
+    {
+        if may_begin(leaves, body) {
+            self.make_ready(alloc)?;
+        }
+        Ok(())
     }
 
     /// What it takes to follow data in it, if it was made.

@@ -8,5 +8,6 @@ use Rattle.file_results.proofs.looking.judge_all.Given as goal
 
 abbrev pub invariant-loop-number : goal.invariant-loop-number
 invariant-loop-number g l =
-    UpTo l.path l.view.lang l.view.bytes (known_tree l.view) l.running l.number l.judged.items × AreAllPlaced l.view.bytes l.judged.items
-    × (g.S.FileSearch.file l.search ≡ g.S.FileSearch.file l.fn.search) × AsksTo g.S.FileSearch.asks (RuleAsksFor l.path l.view.lang) l.running l.fn.search l.fn.steps (drop l.number l.running) l.search l.steps
+    let v = l.fn.view in
+    UpTo l.path v.lang v.bytes (known_tree v) l.running l.number l.judged.items × AreAllPlaced v.bytes l.judged.items
+    × (g.S.FileSearch.file l.search ≡ g.S.FileSearch.file l.fn.search) × AsksTo g.S.FileSearch.asks (RuleAsksFor l.path v.lang) l.running l.fn.search l.fn.steps (drop l.number l.running) l.search l.steps × (l.view ≡ v)

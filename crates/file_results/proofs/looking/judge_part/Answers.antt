@@ -24,12 +24,13 @@ returns-clause-finds g c p at =
     let same = read_there c.as_slice.result.now parts c.args.part c.index-as_slice-part.result p (c.as_slice.ensures ∙ ap (λ (r : Rule). r.parts) rule) c.index-as_slice-part.is at in
     let number : c.in-Ok.number ≡ c.args.part = grind arith in
     let w = c.view.result.now in
+    let is = c.view.ensures ∙ c.prepare.ensures in
     let s = g.S.FileSearch.file c.args.search.now in
     let P : List Pattern → Type 0 = λ ps. AreLeaves (named_leaf s.known s.lang) s.tree ps c.in_ok-leaves.leaves in
     let Q : FileView → Type 0 = λ x. AreLeaves (named_leaf x.known x.lang) x.tree p.patterns c.in_ok-leaves.leaves in
-    let are = subst Q (c.requires.file ∙ sym c.view.ensures) (subst P (c.as_slice-2.ensures ∙ ap (λ (q : Part). q.patterns) (sym c.index-as_slice-part.is ∙ same)) c.in_ok-leaves.ensures.leaves) in
+    let are = subst Q (c.requires.file ∙ sym is) (subst P (c.as_slice-2.ensures ∙ ap (λ (q : Part). q.patterns) same) c.in_ok-leaves.ensures.leaves) in
     let J : FileView → Type 0 = λ x. PartJudges x.lang texts x.bytes (known_tree x) p c.in_ok-found.found in
-    subst J c.view.ensures (
+    subst J is (
     part_judges w.lang texts w.bytes (known_tree w) parts c.args.part c.in-Ok.number p c.in_ok-leaves.leaves at number are (Ok c.in_ok-found.found)
     (part_finds c.in_ok-leaves.leaves c.in_ok-rx.rx texts w.bytes w.tree c.rule-rule.result.now.parts parts c.in-Ok.number (Ok c.in_ok-found.found) c.in_ok-rx.ensures (ap (λ (r : Rule). r.parts) rule) c.in_ok-found.ensures.finds)
     (part_only c.in_ok-leaves.leaves c.in_ok-rx.rx texts w.bytes w.tree c.rule-rule.result.now.parts parts c.in-Ok.number (Ok c.in_ok-found.found) c.in_ok-rx.ensures (ap (λ (r : Rule). r.parts) rule) c.in_ok-found.ensures.only))
@@ -41,7 +42,7 @@ returns-clause-leaves g c p at =
     let s = g.S.FileSearch.file c.args.search.now in
     let P : List Pattern → Type 0 = λ ps. AreLeaves (named_leaf s.known s.lang) s.tree ps c.in_ok-leaves.leaves in
     let Q : FileView → Type 0 = λ x. AreLeaves (named_leaf x.known x.lang) x.tree p.patterns c.in_ok-leaves.leaves in
-    subst Q c.requires.file (subst P (c.as_slice-2.ensures ∙ ap (λ (q : Part). q.patterns) (sym c.index-as_slice-part.is ∙ same)) c.in_ok-leaves.ensures.leaves)
+    subst Q c.requires.file (subst P (c.as_slice-2.ensures ∙ ap (λ (q : Part). q.patterns) same) c.in_ok-leaves.ensures.leaves)
 
 pub returns-clause-leaves_placed : goal.returns-clause-leaves_placed
 returns-clause-leaves_placed g c =
@@ -51,12 +52,12 @@ returns-clause-leaves_placed g c =
 pub judge-requires-clause-placed : goal.judge-requires-clause-placed
 judge-requires-clause-placed g c =
     let P : FileView → Type 0 = λ w. All (λ leaf. IsLeafPlaced w.bytes leaf) c.in_ok-leaves.leaves in
-    subst P (c.requires.file ∙ sym c.view.ensures) c.in_ok-leaves.ensures.placed
+    subst P (c.requires.file ∙ sym (c.view.ensures ∙ c.prepare.ensures)) c.in_ok-leaves.ensures.placed
 
 pub returns-clause-placed : goal.returns-clause-placed
 returns-clause-placed g c =
     let P : FileView → Type 0 = λ w. All (λ finding. IsFindingPlaced w.bytes finding) (findings_of c.in_ok-found.found) in
-    subst P c.view.ensures c.in_ok-found.ensures.placed
+    subst P (c.view.ensures ∙ c.prepare.ensures) c.in_ok-found.ensures.placed
 
 pub judge-requires-clause-flow : goal.judge-requires-clause-flow
 judge-requires-clause-flow g c =
@@ -68,4 +69,4 @@ returns-clause-asked g c p at =
     let parts = c.args.rule.now.parts in
     let same = read_there c.as_slice.result.now parts c.args.part c.index-as_slice-part.result p (c.as_slice.ensures ∙ ap (λ (r : Rule). r.parts) c.rule-rule.ensures) c.index-as_slice-part.is at in
     let A : List Pattern → Type 0 = λ ps. Asked g.S.FileSearch.asks ps c.args.search.now c.args.steps.now c.leaves_of.new.search c.leaves_of.new.steps in
-    subst A (c.as_slice-2.ensures ∙ ap (λ (q : Part). q.patterns) (sym c.index-as_slice-part.is ∙ same)) c.in_ok-leaves.ensures.asked
+    subst A (c.as_slice-2.ensures ∙ ap (λ (q : Part). q.patterns) same) c.in_ok-leaves.ensures.asked

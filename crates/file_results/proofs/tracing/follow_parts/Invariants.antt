@@ -6,5 +6,6 @@ use Rattle.file_results.proofs.tracing.follow_parts.Given as goal
 
 abbrev pub invariant-loop-part : goal.invariant-loop-part
 invariant-loop-part g l =
-    (length l.followed ≡ l.part) × Pairs (FollowedAt l.file.lang l.rule.texts l.file.bytes (known_tree l.file)) l.rule.parts l.followed × (g.S.FileSearch.file l.search ≡ g.S.FileSearch.file l.fn.search)
-    × AsksAmong g.S.FileSearch.asks (λ p. (l.wanted ≡ true) × PartsAskFor l.file.lang l.rule.parts p) l.fn.search l.fn.steps l.search l.steps
+    let v = l.fn.file in
+    (length l.followed ≡ l.part) × Pairs (FollowedAt v.lang l.rule.texts v.bytes (known_tree v)) l.rule.parts l.followed × (g.S.FileSearch.file l.search ≡ g.S.FileSearch.file l.fn.search)
+    × AsksAmong g.S.FileSearch.asks (λ p. (l.wanted ≡ true) × PartsAskFor v.lang l.rule.parts p) l.fn.search l.fn.steps l.search l.steps × (l.file ≡ v)

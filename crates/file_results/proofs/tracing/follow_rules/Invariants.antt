@@ -8,5 +8,6 @@ use Rattle.file_results.proofs.tracing.follow_rules.Given as goal
 
 abbrev pub invariant-loop-number : goal.invariant-loop-number
 invariant-loop-number g l =
-    (length l.followed ≡ l.number-counter) × Pairs (RuleAt l.file.lang l.file.bytes (known_tree l.file) (λ n. contains nat_cmp l.wanted n ≡ true)) l.running l.followed × (g.S.FileSearch.file l.search ≡ g.S.FileSearch.file l.fn.search)
-    × AsksAmong g.S.FileSearch.asks (WantedAsk l.file.lang l.running (λ n. contains nat_cmp l.wanted n ≡ true)) l.fn.search l.fn.steps l.search l.steps
+    let v = l.fn.file in
+    (length l.followed ≡ l.number-counter) × Pairs (RuleAt v.lang v.bytes (known_tree v) (λ n. contains nat_cmp l.wanted n ≡ true)) l.running l.followed × (g.S.FileSearch.file l.search ≡ g.S.FileSearch.file l.fn.search)
+    × AsksAmong g.S.FileSearch.asks (WantedAsk v.lang l.running (λ n. contains nat_cmp l.wanted n ≡ true)) l.fn.search l.fn.steps l.search l.steps × (l.file ≡ v)

@@ -1,10 +1,11 @@
-use Rattle.std.proofs.Common.{◌≡◌, ℕ, Bool, true, false, List, refl, sym, subst}
+use Rattle.std.proofs.Common.{◌≡◌, Bool, true, false, List, refl, sym, subst}
 use Rattle.std.specs.Prelude.{Option}
 use Rattle.std.specs.BTreeSet.{contains}
 use Rattle.std.specs.Ordering.{nat_cmp}
+use Rattle.node_tree.specs.declared.view.FileView.{FileView}
 use Rattle.tree_match.specs.Members.{known_tree}
 use Rattle.file_results.specs.declared.tracing.Followed.{Followed}
-use Rattle.file_results.specs.Followed.{AreTraced, AreFollowedRules, IsWanted}
+use Rattle.file_results.specs.Followed.{AreTraced, AreFoundHits, AreFollowedRules, IsWanted}
 use Rattle.file_results.specs.Looking.{named_leaf}
 use Rattle.file_results.specs.Tracing.{HasTrace}
 use Rattle.file_results.proofs.Traces.{all_traced}
@@ -32,7 +33,8 @@ trace_rows-requires-clause-followed g c =
     let rules = c.args.running.now in
     let hs = c.args.rows.now in
     let P : List (List (Option Followed)) → Type 0 = λ fs. AreFollowedRules v.lang v.bytes (known_tree v) rules (IsWanted hs) fs in
-    subst P (sym c.as_slice-parts.ensures) (wanted_as v.lang v.bytes (known_tree v) rules (λ n. contains nat_cmp c.in_ok-wanted.wanted n ≡ true) (IsWanted hs) c.in_ok-followed.followed c.in_ok-followed.ensures.followed (λ n w. (c.in_ok-wanted.ensures n).1 w))
+    let K : FileView → Type 0 = λ w. AreFollowedRules w.lang w.bytes (known_tree w) rules (IsWanted hs) c.as_slice-parts.result.now in
+    subst K (sym c.follow_rules.ensures.kept) (subst P (sym c.as_slice-parts.ensures) (wanted_as v.lang v.bytes (known_tree v) rules (λ n. contains nat_cmp c.in_ok-wanted.wanted n ≡ true) (IsWanted hs) c.in_ok-followed.followed c.in_ok-followed.ensures.followed (λ n w. (c.in_ok-wanted.ensures n).1 w)))
 
 pub trace_rows-requires-in-None-clause-followed : goal.trace_rows-requires-in-None-clause-followed
 trace_rows-requires-in-None-clause-followed g c =
@@ -40,4 +42,15 @@ trace_rows-requires-in-None-clause-followed g c =
     let rules = c.args.running.now in
     let hs = c.args.rows.now in
     let P : List (List (Option Followed)) → Type 0 = λ fs. AreFollowedRules v.lang v.bytes (known_tree v) rules (IsWanted hs) fs in
-    subst P (sym c.as_slice-parts.ensures) (wanted_as v.lang v.bytes (known_tree v) rules (λ n. contains nat_cmp c.in_ok-wanted.wanted n ≡ true) (IsWanted hs) c.in_ok-followed.followed c.in_ok-followed.ensures.followed (λ n w. (c.in_ok-wanted.ensures n).1 w))
+    let K : FileView → Type 0 = λ w. AreFollowedRules w.lang w.bytes (known_tree w) rules (IsWanted hs) c.as_slice-parts.result.now in
+    subst K (sym c.follow_rules.ensures.kept) (subst P (sym c.as_slice-parts.ensures) (wanted_as v.lang v.bytes (known_tree v) rules (λ n. contains nat_cmp c.in_ok-wanted.wanted n ≡ true) (IsWanted hs) c.in_ok-followed.followed c.in_ok-followed.ensures.followed (λ n w. (c.in_ok-wanted.ensures n).1 w)))
+
+pub trace_rows-requires-clause-found : goal.trace_rows-requires-clause-found
+trace_rows-requires-clause-found g c =
+    let K : FileView → Type 0 = λ w. AreFoundHits w.lang w.bytes (known_tree w) c.args.running.now c.args.rows.now in
+    subst K (sym c.follow_rules.ensures.kept) c.requires.found
+
+pub trace_rows-requires-in-None-clause-found : goal.trace_rows-requires-in-None-clause-found
+trace_rows-requires-in-None-clause-found g c =
+    let K : FileView → Type 0 = λ w. AreFoundHits w.lang w.bytes (known_tree w) c.args.running.now c.args.rows.now in
+    subst K (sym c.follow_rules.ensures.kept) c.requires.found
