@@ -13,7 +13,7 @@ ghost use Rattle.piece_match.specs.Moved.{moved_leaf};
 ghost use Rattle.piece_match.specs.Pieces.{is_cut as cut, stands_alone, known_piece, IsPieceMember, IsMemberUnder};
 
 use crate::apart::{falls_apart, is_root};
-use file_match::{ReadyTree, match_own_runs, match_tree};
+use file_match::{ReadyPattern, ReadyTree, match_own_runs, match_tree};
 use node_match::Constants;
 use node_tree::{Memory, Pattern, Shape, Steps};
 use piece_form::Piece;
@@ -59,17 +59,21 @@ impl<'p> ReadyPiece<'p> {
 }
 
 // Whether the pattern is looked for in each statement of the piece by itself.
-fn is_cut(piece: &ReadyPiece<'_>, pattern: &Pattern) -> bool
+fn is_cut(piece: &ReadyPiece<'_>, pattern: &ReadyPattern<'_>) -> bool
     ensures { result ≡ cut pattern.now piece.now.tree }
 {
-    if is_root(pattern.tree.kind) {
+    if is_root(pattern.pattern().tree.kind) {
         return false;
     }
     piece.apart
 }
 
 // The members of a pattern in a piece.
-fn leaf_in(alloc: Global, piece: &ReadyPiece<'_>, pattern: &Pattern) -> Result<Leaf, Memory>
+fn leaf_in(
+    alloc: Global,
+    piece: &ReadyPiece<'_>,
+    pattern: &ReadyPattern<'_>,
+) -> Result<Leaf, Memory>
     ensures { IfOk result (λ leaf. IsLeaf (IsPieceMember pattern.now (known_piece piece.now)) leaf) }
 {
     let known = Constants {
@@ -78,19 +82,19 @@ fn leaf_in(alloc: Global, piece: &ReadyPiece<'_>, pattern: &Pattern) -> Result<L
     if !is_cut(piece, pattern) {
         return match_tree(alloc, &piece.tree, known, pattern);
     }
-    match pattern.shape {
+    match pattern.pattern().shape {
         Shape::Expr => Ok(Leaf::Full(LeafSet::empty(alloc))),
         Shape::Run => match_own_runs(alloc, &piece.tree, known, pattern),
     }
 }
 
-/// The members of a pattern in a piece that is ready. Of a whole file they are the runs of its statements alone, since what is
+/// The members of a pattern in a piece, which are both ready. Of a whole file they are the runs of its statements alone, since what is
 /// in these has pieces of its own. Equal pieces have the same members; where one stands as a statement in a file, its members
 /// are those of the file there, as much later as the statement begins. It is one step, whatever it answers.
 pub fn match_ready_piece<L: Ledger>(
     alloc: Global,
     piece: &ReadyPiece<'_>,
-    pattern: &Pattern,
+    pattern: &ReadyPattern<'_>,
     steps: &mut Steps<L>,
 ) -> Result<Leaf, Memory>
     ensures exact { IfOk result (λ leaf. IsLeaf (IsPieceMember pattern.now (known_piece piece.now)) leaf) }
@@ -118,5 +122,6 @@ pub fn match_piece<L: Ledger>(
 {
     steps.tick();
     let ready = ReadyPiece::of(alloc, piece)?;
-    leaf_in(alloc, &ready, pattern)
+    let pattern = ReadyPattern::of(alloc, pattern)?;
+    leaf_in(alloc, &ready, &pattern)
 }
