@@ -18,9 +18,11 @@ use Rattle.node_tree.specs.declared.view.Shape.{Shape}
 use Rattle.node_tree.specs.declared.view.Pattern.{Pattern}
 use Rattle.node_tree.specs.contracts.view.Lang.{the_type as the_langs}
 use Rattle.node_tree.specs.contracts.view.Shape.{the_type as the_shapes}
-use Rattle.piece_form.specs.Code.{code_of, lang_place, bool_place, pattern_code, piece_code}
+use Rattle.tree_code.specs.Code.{tree_code}
+use Rattle.tree_code.proofs.Telling.{tree_tells}
+use Rattle.piece_form.specs.Code.{lang_place, bool_place, pattern_code, piece_code}
 use Rattle.piece_form.specs.Identity.{Identity}
-use Rattle.piece_form.proofs.Telling.{tree_tells, keys_tell}
+use Rattle.piece_form.proofs.Telling.{keys_tell}
 use Rattle.piece_store.specs.declared.table.Table.{Table}
 use Rattle.piece_store.specs.Kept.{answer_of, by_number, row_answer}
 use Rattle.piece_store.specs.Slots.{slot, row_slot}
@@ -37,10 +39,10 @@ use Rattle.kept_leaves.specs.Pairs.{Pair, IsSamePair}
 -- ---- orders
 
 pub piece_total : IsTotalOrder piece_cmp
-piece_total = then_total (on_total (λ (a : PieceRef). a.value.bytes.items) nat_list_cmp_total) (on_total (λ (a : PieceRef). a.value.numbers.items) nat_list_cmp_total)
+piece_total = then_total (on_total (λ (a : PieceRef). a.value.bytes.items) nat_list_cmp_total) (on_total (λ (a : PieceRef). a.value.code.items) nat_list_cmp_total)
 
 pub pattern_total : IsTotalOrder pattern_cmp
-pattern_total = on_total (λ (b : PatternRef). b.value.numbers.items) nat_list_cmp_total
+pattern_total = on_total (λ (b : PatternRef). b.value.code.items) nat_list_cmp_total
 
 pub both_equal : (r s : Ordering) → ordering_then r s ≡ Equal → (r ≡ Equal) × (s ≡ Equal)
 both_equal Less s e = absurd cc
@@ -61,13 +63,13 @@ same_bool true false e = absurd (omega (arith, e))
 same_bool false true e = absurd (omega (arith, e))
 same_bool false false e = refl
 
--- patterns of which the same is written out are equal
+-- patterns of which the same is written are equal
 pub pattern_tells : (p q : Pattern) → pattern_code p ≡ pattern_code q → p ≡ q
 pattern_tells p q e =
     let lang : lang_place p.lang ≡ lang_place q.lang = cc in
     let shape : tag_of the_shapes p.shape ≡ tag_of the_shapes q.shape = cc in
     let constants : bool_place p.constants ≡ bool_place q.constants = cc in
-    let code : code_of p.tree ≡ code_of q.tree = cc in
+    let code : tree_code p.tree ≡ tree_code q.tree = cc in
     let tree = tree_tells p.tree q.tree [] [] (ap (λ (c : List ℕ). c ++ []) code) in
     let langs = tag_one the_langs tt p.lang q.lang lang in
     let shapes = tag_one the_shapes tt p.shape q.shape shape in
@@ -82,7 +84,7 @@ module _ (x y : Pair) (a : PieceRef) (b : PatternRef) (keys : AreKeys x a b) whe
   -- a pair that counts as one with this has the same keys
   pub keys_of_same : IsSamePair x y → AreKeys y a b
   keys_of_same same = record {
-    of_piece = record { bytes = keys.of_piece.bytes ∙ ap (λ (i : Identity). i.bytes) same.piece; numbers = keys.of_piece.numbers ∙ ap piece_code same.piece };
+    of_piece = record { bytes = keys.of_piece.bytes ∙ ap (λ (i : Identity). i.bytes) same.piece; code = keys.of_piece.code ∙ ap piece_code same.piece };
     of_pattern = keys.of_pattern ∙ ap pattern_code same.pattern;
   }
 
@@ -92,18 +94,18 @@ module _ (x y : Pair) (a : PieceRef) (b : PatternRef) (keys : AreKeys x a b) whe
     tied same =
         let k = keys_of_same same in
         let bytes = text_tied a.value.bytes.items c.value.bytes.items (k.of_piece.bytes ∙ sym its.of_piece.bytes) in
-        let numbers = text_tied a.value.numbers.items c.value.numbers.items (k.of_piece.numbers ∙ sym its.of_piece.numbers) in
-        let rest : Ordering = slice_cmp nat_cmp a.value.numbers.items c.value.numbers.items in
-        (ap (λ (o : Ordering). ordering_then o rest) bytes ∙ numbers, text_tied b.value.numbers.items d.value.numbers.items (k.of_pattern ∙ sym its.of_pattern))
+        let code = text_tied a.value.code.items c.value.code.items (k.of_piece.code ∙ sym its.of_piece.code) in
+        let rest : Ordering = slice_cmp nat_cmp a.value.code.items c.value.code.items in
+        (ap (λ (o : Ordering). ordering_then o rest) bytes ∙ code, text_tied b.value.code.items d.value.code.items (k.of_pattern ∙ sym its.of_pattern))
 
     -- pairs with equal keys count as one
     pub told : x.path ≡ y.path → piece_cmp a c ≡ Equal → pattern_cmp b d ≡ Equal → IsSamePair x y
     told path e f =
-        let parts = both_equal (slice_cmp nat_cmp a.value.bytes.items c.value.bytes.items) (slice_cmp nat_cmp a.value.numbers.items c.value.numbers.items) e in
+        let parts = both_equal (slice_cmp nat_cmp a.value.bytes.items c.value.bytes.items) (slice_cmp nat_cmp a.value.code.items c.value.code.items) e in
         record {
           path = path;
-          piece = keys_tell x.piece y.piece a.value c.value keys.of_piece its.of_piece (text_one a.value.bytes.items c.value.bytes.items parts.0) (text_one a.value.numbers.items c.value.numbers.items parts.1);
-          pattern = pattern_tells x.pattern y.pattern (sym keys.of_pattern ∙ text_one b.value.numbers.items d.value.numbers.items f ∙ its.of_pattern);
+          piece = keys_tell x.piece y.piece a.value c.value keys.of_piece its.of_piece (text_one a.value.bytes.items c.value.bytes.items parts.0) (text_one a.value.code.items c.value.code.items parts.1);
+          pattern = pattern_tells x.pattern y.pattern (sym keys.of_pattern ∙ text_one b.value.code.items d.value.code.items f ∙ its.of_pattern);
         }
 
 -- ---- equal keys find the same

@@ -96,11 +96,11 @@ stays_both old mid new a b = record { path = b.path ∙ a.path; pieces = b.piece
 -- the key of a piece is told by its value
 pub key_tied : (p : Piece) (piece key : PieceRef) → piece_cmp piece key ≡ Equal → IsKeyOf p key.value → IsKeyOf p piece.value
 key_tied p piece key e is =
-    let parts = both_equal (slice_cmp nat_cmp piece.value.bytes.items key.value.bytes.items) (slice_cmp nat_cmp piece.value.numbers.items key.value.numbers.items) e in
-    record { bytes = text_one piece.value.bytes.items key.value.bytes.items parts.0 ∙ is.bytes; numbers = text_one piece.value.numbers.items key.value.numbers.items parts.1 ∙ is.numbers }
+    let parts = both_equal (slice_cmp nat_cmp piece.value.bytes.items key.value.bytes.items) (slice_cmp nat_cmp piece.value.code.items key.value.code.items) e in
+    record { bytes = text_one piece.value.bytes.items key.value.bytes.items parts.0 ∙ is.bytes; code = text_one piece.value.code.items key.value.code.items parts.1 ∙ is.code }
 
 pub cmp_copy : (r a b : PieceRef) → a.value ≡ b.value → piece_cmp r a ≡ piece_cmp r b
-cmp_copy r a b e = ap (λ (v : PieceKey). ordering_then (slice_cmp nat_cmp r.value.bytes.items v.bytes.items) (slice_cmp nat_cmp r.value.numbers.items v.numbers.items)) e
+cmp_copy r a b e = ap (λ (v : PieceKey). ordering_then (slice_cmp nat_cmp r.value.bytes.items v.bytes.items) (slice_cmp nat_cmp r.value.code.items v.code.items)) e
 
 -- no row in hand is one of the key, nor of its copy
 pub none_out : (rows : List (HeldRow PieceRef KeptLeaf)) (key copy : PieceRef) → copy.value ≡ key.value
@@ -182,7 +182,7 @@ module _ (old new : OpenLeaves) (piece : PieceRef) (behind : pieces_in new ≡ p
       M o = MatchOption o (IsOut new key) (IsIn new key)
 
       swapped : piece_cmp piece key ≡ piece_cmp copy key
-      swapped = ap (λ (v : PieceKey). ordering_then (slice_cmp nat_cmp v.bytes.items key.value.bytes.items) (slice_cmp nat_cmp v.numbers.items key.value.numbers.items)) same
+      swapped = ap (λ (v : PieceKey). ordering_then (slice_cmp nat_cmp v.bytes.items key.value.bytes.items) (slice_cmp nat_cmp v.code.items key.value.code.items)) same
 
       old_one : (o : Option ℕ) → (piece_cmp piece key ≡ Equal → ⊥) → MatchOption o (IsOut old key) (IsIn old key) → M o
       old_one None differ out = out_new key differ out

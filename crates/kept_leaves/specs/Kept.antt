@@ -27,12 +27,12 @@ PieceRef = Rc PieceKey Global
 abbrev pub PatternRef : Type 0
 PatternRef = Rc PatternKey Global
 
--- by bytes, then by the numbers
+-- by bytes, then by the code
 abbrev pub piece_cmp : PieceRef → PieceRef → Ordering
-piece_cmp a b = ordering_then (slice_cmp nat_cmp a.value.bytes.items b.value.bytes.items) (slice_cmp nat_cmp a.value.numbers.items b.value.numbers.items)
+piece_cmp a b = ordering_then (slice_cmp nat_cmp a.value.bytes.items b.value.bytes.items) (slice_cmp nat_cmp a.value.code.items b.value.code.items)
 
 abbrev pub pattern_cmp : PatternRef → PatternRef → Ordering
-pattern_cmp a b = slice_cmp nat_cmp a.value.numbers.items b.value.numbers.items
+pattern_cmp a b = slice_cmp nat_cmp a.value.code.items b.value.code.items
 
 -- what is kept for a path, a piece and a pattern by their keys: the leaf, and whether the pair was met since the last turn
 abbrev pub Map : Type 0
@@ -41,7 +41,7 @@ Map = List ℕ → PieceRef → PatternRef → Option (KeptLeaf × Bool)
 -- these are keys of the pair's piece and pattern
 pub record AreKeys (x : Pair) (piece : PieceRef) (pattern : PatternRef) : Type 0 where
   pub of_piece : IsKeyOf x.piece piece.value
-  pub of_pattern : pattern.value.numbers.items ≡ pattern_code x.pattern
+  pub of_pattern : pattern.value.code.items ≡ pattern_code x.pattern
 
 -- ---- pairs that are kept
 

@@ -48,7 +48,7 @@ pub record ArePlacesOf (pieces : List PieceRef) (places : List ℕ) (parts : Lis
 -- the pattern has that number
 pub record IsNumberOf (leaves : OpenLeaves) (number : ℕ) (pattern : Pattern) : Type 0 where
   pub key : PatternRef
-  pub of_pattern : key.value.numbers.items ≡ pattern_code pattern
+  pub of_pattern : key.value.code.items ≡ pattern_code pattern
   pub found : get pattern_cmp leaves.store.store.numbers key ≡ Some number
 
 -- the path and the pieces in hand stay

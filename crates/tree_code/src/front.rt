@@ -18,6 +18,18 @@ pub struct Front<'b> {
 }
 
 impl<'b> Front<'b> {
+    /// Takes a byte off the front.
+    pub fn byte(&mut self) -> Result<u8, Memory>
+        ensures read { Reads (λ byte. byte ∷ []) self.old.rest.now result self.new.rest.now }
+        ensures shorter { Shortens self.old.rest.now result self.new.rest.now }
+    {
+        let [first, rest @ ..] = self.rest else {
+            return Err(Memory);
+        };
+        self.rest = rest;
+        Ok(*first)
+    }
+
     /// Takes a number off the front.
     pub fn number(&mut self) -> Result<u32, Memory>
         ensures read { Reads number_code self.old.rest.now result self.new.rest.now }
@@ -86,14 +98,11 @@ impl<'b> Front<'b> {
         ensures read { Reads (λ kind. kind_place kind ∷ []) self.old.rest.now result self.new.rest.now }
         ensures shorter { Shortens self.old.rest.now result self.new.rest.now }
     {
-        let [place, rest @ ..] = self.rest else {
-            return Err(Memory);
-        };
-        let Some(kind) = Kind::at_place(*place) else {
-            return Err(Memory);
-        };
-        self.rest = rest;
-        Ok(kind)
+        let place = self.byte()?;
+        match Kind::at_place(place) {
+            Some(kind) => Ok(kind),
+            None => Err(Memory),
+        }
     }
 
     // Takes off the front what of a node stands before its kids.

@@ -28,7 +28,7 @@ pub meet_needed-requires-clause-number : goal.meet_needed-requires-clause-number
 meet_needed-requires-clause-number g c =
     record {
       key = c.in_ok-key.key;
-      of_pattern = ap (λ (k : PatternKey). k.numbers.items) c.in_ok-key.ensures.ok ∙ c.in_ok-of.ensures;
+      of_pattern = ap (λ (k : PatternKey). k.code.items) c.in_ok-key.ensures.ok ∙ c.in_ok-of.ensures;
       found = c.in_ok-number.ensures.number;
     }
 
@@ -37,7 +37,7 @@ leaves_of-requires-clause-number g c =
     let mid : OpenLeaves = record { store = c.number.new.self } in
     let numbered : IsNumberOf mid c.in_ok-number.number c.args.pattern.now = record {
       key = c.in_ok-key.key;
-      of_pattern = ap (λ (k : PatternKey). k.numbers.items) c.in_ok-key.ensures.ok ∙ c.in_ok-of.ensures;
+      of_pattern = ap (λ (k : PatternKey). k.code.items) c.in_ok-key.ensures.ok ∙ c.in_ok-of.ensures;
       found = c.in_ok-number.ensures.number;
     } in
     number_stays mid c.meet_needed.new.leaves c.in_ok-meet_needed.ensures.stays c.in_ok-number.number c.args.pattern.now numbered
