@@ -1,12 +1,12 @@
 use Rattle.std.proofs.Common.{◌≡◌, ℕ, List, ◌++◌, length}
 use Rattle.node_tree.specs.declared.node.Node.{Node}
-use Rattle.piece_form.specs.Code.{code_of}
+use Rattle.tree_code.specs.Code.{tree_code}
 use Rattle.store_file.proofs.Forests.{Left}
-use Rattle.store_file.proofs.codes.Numbers.tree.Given as goal
+use Rattle.store_file.proofs.codes.move_tree.Given as goal
 
 abbrev pub invariant-loop-nodes : goal.invariant-loop-nodes
 invariant-loop-nodes l =
-    (n : Node) (r : List ℕ) → l.initial.self.rest.now ≡ code_of n ++ r → Left l.initial.self.rest.now l.initial.out l.nodes l.self.rest.now l.out n r
+    (n : Node) (r : List ℕ) → l.initial.code.rest.now ≡ tree_code n ++ r → Left l.initial.code.rest.now l.initial.out l.nodes l.code.rest.now l.out n r
 
 abbrev pub decreases-loop-nodes : goal.decreases-loop-nodes
-decreases-loop-nodes l = length l.self.rest.now
+decreases-loop-nodes l = length l.code.rest.now
