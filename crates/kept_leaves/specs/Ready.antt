@@ -12,6 +12,10 @@ pub record IsReadyPart (part : SeenPart) (key : PieceRef) (ready : Option Piece)
   pub of_piece : IsKeyOf part.placed.piece key.value
   pub same : IfSome ready (λ p. p ≡ part.placed.piece)
 
+-- what is ready is that pattern
+abbrev pub IsAskedPattern : Pattern → Option Pattern → Type 0
+IsAskedPattern pattern ready = IfSome ready (λ p. p ≡ pattern)
+
 -- the pair of a part and a pattern
 abbrev pub pair_of : List ℕ → Pattern → SeenPart → Pair
 pair_of path pattern part = record { path = path; piece = part.placed.piece; pattern = pattern }

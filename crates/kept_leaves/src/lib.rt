@@ -4,6 +4,7 @@
 //! kept. So after an edit the steps are those of the pieces that the edit changed. `KeptSearch` searches a file so.
 #![tactic(auto)]
 
+mod asked;
 mod kept;
 mod leaf;
 mod matching;
@@ -11,6 +12,7 @@ mod opening;
 mod part;
 mod search;
 
+pub use asked::AskedPattern;
 pub use kept::KeptLeaves;
 pub use leaf::{KeptLeaf, KeptPairs, OpenLeaves};
 pub use part::ReadyPart;

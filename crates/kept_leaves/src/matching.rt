@@ -12,6 +12,7 @@ ghost use Rattle.kept_leaves.specs.Opened.{open_map, pieces_in, StaysOpen, Keeps
 ghost use Rattle.kept_leaves.specs.Pairs.{IsOneOf};
 ghost use Rattle.kept_leaves.specs.Ready.{pairs_of};
 
+use crate::asked::AskedPattern;
 use crate::leaf::{KeptLeaf, OpenLeaves};
 use crate::part::ReadyPart;
 use file_parts::{PartLeaf, join};
@@ -28,20 +29,21 @@ fn meet<L: Ledger>(
     leaves: &mut OpenLeaves,
     part: &mut ReadyPart<'_>,
     place: usize,
-    pattern: &Pattern,
+    pattern: &mut AskedPattern<'_>,
     number: u32,
     steps: &mut Steps<L>,
 ) -> Result<(), Memory>
     requires leaves { IsOpenLeaves leaves.old }
     requires place { IsPlaceOf (pieces_in leaves.old) place part.old }
-    requires number { IsNumberOf leaves.old number pattern.now }
+    requires number { IsNumberOf leaves.old number pattern.old }
     ensures leaves { IsOpenLeaves leaves.new }
     ensures stays { StaysOpen leaves.old leaves.new }
     ensures same { part.new ≡ part.old }
-    ensures kept { OnOk result (Meets (IsOneOf (pairs_of leaves.old.store.path pattern.now (part.old ∷ [])))
+    ensures pattern { pattern.new ≡ pattern.old }
+    ensures kept { OnOk result (Meets (IsOneOf (pairs_of leaves.old.store.path pattern.old (part.old ∷ [])))
         (open_map leaves.old) steps.old (open_map leaves.new) steps.new) }
 {
-    if !part.is_needed(pattern) {
+    if !part.is_needed(pattern.pattern()) {
         return Ok(());
     }
     if leaves.store.mark(place, number) {
@@ -57,17 +59,18 @@ fn meet_needed<L: Ledger>(
     leaves: &mut OpenLeaves,
     parts: &mut [ReadyPart<'_>],
     places: &[usize],
-    pattern: &Pattern,
+    pattern: &mut AskedPattern<'_>,
     number: u32,
     steps: &mut Steps<L>,
 ) -> Result<(), Memory>
     requires leaves { IsOpenLeaves leaves.old }
     requires places { ArePlacesOf (pieces_in leaves.old) places.now parts.old }
-    requires number { IsNumberOf leaves.old number pattern.now }
+    requires number { IsNumberOf leaves.old number pattern.old }
     ensures leaves { IsOpenLeaves leaves.new }
     ensures stays { StaysOpen leaves.old leaves.new }
     ensures same { parts.new ≡ parts.old }
-    ensures kept { OnOk result (Meets (IsOneOf (pairs_of leaves.old.store.path pattern.now parts.old))
+    ensures pattern { pattern.new ≡ pattern.old }
+    ensures kept { OnOk result (Meets (IsOneOf (pairs_of leaves.old.store.path pattern.old parts.old))
         (open_map leaves.old) steps.old (open_map leaves.new) steps.new) }
 {
     for i in 0..parts.len() {
@@ -154,7 +157,8 @@ pub fn ask<L: Ledger>(
 {
     let key = Rc::new(alloc, PatternKey::of(alloc, pattern)?)?;
     let number = leaves.store.number(key)?;
-    meet_needed(alloc, leaves, parts, places, pattern, number, steps)?;
+    let mut asked = AskedPattern::of(pattern);
+    meet_needed(alloc, leaves, parts, places, &mut asked, number, steps)?;
     let all = leaves_of(alloc, leaves, parts, places, pattern, number)?;
     join(alloc, all.as_slice())
 }

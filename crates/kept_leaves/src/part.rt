@@ -7,10 +7,11 @@ ghost use Rattle.piece_form.specs.Identity.{IsSamePiece};
 ghost use Rattle.piece_match.specs.Pieces.{IsPieceMember, known_piece};
 ghost use Rattle.tree_match.specs.Leaf.{IsLeaf};
 
+use crate::asked::AskedPattern;
 use file_parts::Part;
 use node_tree::{Memory, Pattern, Steps};
 use piece_form::PieceKey;
-use piece_match::{ReadyPiece, match_ready_piece};
+use piece_match::ReadyPiece;
 use std::alloc::Global;
 use std::marker::Model;
 use std::rc::Rc;
@@ -65,20 +66,21 @@ impl<'p> ReadyPart<'p> {
     pub fn match_in<L: Ledger>(
         &mut self,
         alloc: Global,
-        pattern: &Pattern,
+        pattern: &mut AskedPattern<'_>,
         steps: &mut Steps<L>,
     ) -> Result<Leaf, Memory>
         ensures same { self.new ≡ self.old }
+        ensures pattern { pattern.new ≡ pattern.old }
         ensures alike { (p : a_piece) → IsSamePiece self.old.placed.piece p →
-            IfOk result (IsLeaf (IsPieceMember pattern.now (known_piece p))) }
+            IfOk result (IsLeaf (IsPieceMember pattern.old (known_piece p))) }
         ensures cost { OnOk result (steps.new ≡ steps.old + 1) }
     {
-        let ready = match self.ready.take() {
-            Some(ready) => ready,
-            None => ReadyPiece::of(alloc, &self.part.placed.piece)?,
+        if self.ready.is_none() {
+            self.ready = Some(ReadyPiece::of(alloc, &self.part.placed.piece)?);
+        }
+        let Some(ready) = &self.ready else {
+            return Err(Memory);
         };
-        let leaf = match_ready_piece(alloc, &ready, pattern, steps);
-        self.ready = Some(ready);
-        leaf
+        pattern.match_in(alloc, ready, steps)
     }
 }

@@ -1,4 +1,5 @@
 use Rattle.std.proofs.Common.{◌∙◌, ℕ, List, refl, sym, ap, subst}
+use Rattle.node_tree.specs.declared.view.Pattern.{Pattern}
 use Rattle.piece_form.specs.declared.key.PatternKey.{PatternKey}
 use Rattle.file_parts.specs.declared.joining.PartLeaf.{PartLeaf}
 use Rattle.file_parts.specs.Leaves.{AreLeavesOf}
@@ -26,11 +27,14 @@ meet_needed-requires-clause-leaves g c =
 
 pub meet_needed-requires-clause-number : goal.meet_needed-requires-clause-number
 meet_needed-requires-clause-number g c =
-    record {
+    let mid : OpenLeaves = record { store = c.number.new.self } in
+    let numbered : IsNumberOf mid c.in_ok-number.number c.args.pattern.now = record {
       key = c.in_ok-key.key;
       of_pattern = ap (λ (k : PatternKey). k.code.items) c.in_ok-key.ensures.ok ∙ c.in_ok-of.ensures;
       found = c.in_ok-number.ensures.number;
-    }
+    } in
+    let P : Pattern → Type 0 = λ q. IsNumberOf mid c.in_ok-number.number q in
+    subst P (sym c.of-asked.ensures) numbered
 
 pub leaves_of-requires-clause-number : goal.leaves_of-requires-clause-number
 leaves_of-requires-clause-number g c =
@@ -61,6 +65,8 @@ returns-clause-kept g c =
     let mid : OpenLeaves = record { store = c.number.new.self } in
     let old = c.args.leaves.now in
     let new = c.meet_needed.new.leaves in
-    let N : List ℕ → Type 0 = λ path. Meets (IsOneOf (pairs_of path c.args.pattern.now c.args.parts.now)) (open_map mid) c.args.steps.now (open_map new) c.meet_needed.new.steps in
+    let N : List ℕ → Pattern → Type 0 = λ path q. Meets (IsOneOf (pairs_of path q c.args.parts.now)) (open_map mid) c.args.steps.now (open_map new) c.meet_needed.new.steps in
+    let By : Pattern → Type 0 = λ q. N old.store.path q in
+    let Of : List ℕ → Type 0 = λ path. N path c.of-asked.result in
     on_ok_of _ c.join.result (meets_between (IsOneOf (pairs_of old.store.path c.args.pattern.now c.args.parts.now)) (open_map old) (open_map mid) (open_map new) (open_map new) c.args.steps.now c.meet_needed.new.steps
-    c.number.ensures.same (λ path a b. refl) (subst N c.number.ensures.path c.in_ok-meet_needed.ensures.kept))
+    c.number.ensures.same (λ path a b. refl) (subst By c.of-asked.ensures (subst Of c.number.ensures.path c.in_ok-meet_needed.ensures.kept)))

@@ -1,9 +1,10 @@
 use Rattle.std.proofs.Common.{◌∙◌, ◌+◌, ℕ, List, [], ◌∷◌, ◌⊎◌, take, set, get_or, refl, sym, ap, subst}
 use Rattle.std.specs.Prelude.{slice_index_or}
 use Rattle.std.proofs.lemmas.List.{set-get_or}
+use Rattle.node_tree.specs.declared.view.Pattern.{Pattern}
 use Rattle.file_parts.specs.Parts.{SeenPart}
 use Rattle.kept_leaves.specs.Growth.{Meets}
-use Rattle.kept_leaves.specs.Opened.{open_map, pieces_in, IsPlaceOf}
+use Rattle.kept_leaves.specs.Opened.{open_map, pieces_in, IsPlaceOf, IsNumberOf}
 use Rattle.kept_leaves.specs.Pairs.{Pair, IsOneOf}
 use Rattle.kept_leaves.specs.Ready.{pairs_of}
 use Rattle.kept_leaves.proofs.Growing.{meets_none, meets_as, meets_then}
@@ -18,12 +19,13 @@ loop-i-init g c =
       c.requires.leaves,
       record { path = refl; pieces = refl; numbers = refl },
       refl,
+      refl,
       meets_as (λ x. ⊥) (IsOneOf []) map steps map steps (λ x. (λ h. absurd h, λ (y, a, same). absurd a)) (meets_none map steps),
     )
 
 pub meet-requires-clause-place : goal.meet-requires-clause-place
 meet-requires-clause-place g c =
-    let (leaves, stays, same, met) = c.loop-i.invariant in
+    let (leaves, stays, same, asked, met) = c.loop-i.invariant in
     let d = c.index-parts-i.result in
     let here = place_at (pieces_in c.args.leaves.now) c.args.places.now c.args.parts.now c.requires.places c.loop-i.i d c.loop-i-test.true in
     let P : List SeenPart → Type 0 = λ ps. IsPlaceOf (pieces_in c.loop-i.leaves) (slice_index_or c.args.places.now c.loop-i.i 0) (slice_index_or ps c.loop-i.i d) in
@@ -31,12 +33,13 @@ meet-requires-clause-place g c =
 
 pub meet-requires-clause-number : goal.meet-requires-clause-number
 meet-requires-clause-number g c =
-    let (leaves, stays, same, met) = c.loop-i.invariant in
-    number_stays c.args.leaves.now c.loop-i.leaves stays c.args.number c.args.pattern.now c.requires.number
+    let (leaves, stays, same, asked, met) = c.loop-i.invariant in
+    let P : Pattern → Type 0 = λ q. IsNumberOf c.loop-i.leaves c.args.number q in
+    subst P (sym asked) (number_stays c.args.leaves.now c.loop-i.leaves stays c.args.number c.args.pattern.now c.requires.number)
 
 pub loop-i-preserved : goal.loop-i-preserved
 loop-i-preserved g c =
-    let (leaves, stays, same, met) = c.loop-i.invariant in
+    let (leaves, stays, same, asked, met) = c.loop-i.invariant in
     let parts = c.args.parts.now in
     let path = c.args.leaves.now.store.path in
     let pattern = c.args.pattern.now in
@@ -46,10 +49,13 @@ loop-i-preserved g c =
     let First : Pair → Type 0 = IsOneOf (pairs_of path pattern (take i parts)) in
     let Here : Pair → Type 0 = IsOneOf (pairs_of path pattern (p ∷ [])) in
     let is = read_again parts c.loop-i.parts i d same c.loop-i-test.true in
-    let At : List ℕ → Type 0 = λ at. Meets (IsOneOf (pairs_of at pattern (p ∷ []))) (open_map c.loop-i.leaves) c.loop-i.steps (open_map c.meet.new.leaves) c.meet.new.steps in (
+    let At : List ℕ → Pattern → Type 0 = λ at q. Meets (IsOneOf (pairs_of at q (p ∷ []))) (open_map c.loop-i.leaves) c.loop-i.steps (open_map c.meet.new.leaves) c.meet.new.steps in
+    let By : Pattern → Type 0 = λ q. At path q in
+    let Of : List ℕ → Type 0 = λ at. At at c.loop-i.pattern in (
       c.in_ok-meet.ensures.leaves,
       stays_both c.args.leaves.now c.loop-i.leaves c.meet.new.leaves stays c.in_ok-meet.ensures.stays,
       ap (set c.loop-i.parts i) c.in_ok-meet.ensures.same ∙ set-get_or c.loop-i.parts i d ∙ same,
+      c.in_ok-meet.ensures.pattern ∙ asked,
       meets_as (λ x. First x ⊎ Here x) (IsOneOf (pairs_of path pattern (take (i + 1) parts))) (open_map c.args.leaves.now) c.args.steps.now (open_map c.meet.new.leaves) c.meet.new.steps (pairs_next pattern parts i p c.loop-i-test.true is path)
-          (meets_then First Here (open_map c.args.leaves.now) c.args.steps.now (open_map c.loop-i.leaves) c.loop-i.steps (open_map c.meet.new.leaves) c.meet.new.steps met (subst At stays.path c.in_ok-meet.ensures.kept)),
+          (meets_then First Here (open_map c.args.leaves.now) c.args.steps.now (open_map c.loop-i.leaves) c.loop-i.steps (open_map c.meet.new.leaves) c.meet.new.steps met (subst By asked (subst Of stays.path c.in_ok-meet.ensures.kept))),
     )

@@ -10,4 +10,5 @@ invariant-loop-i g l =
     IsOpenLeaves l.leaves
     × StaysOpen l.initial.leaves l.leaves
     × (l.parts ≡ l.initial.parts)
-    × Meets (IsOneOf (pairs_of l.initial.leaves.store.path l.pattern (take l.i l.initial.parts))) (open_map l.initial.leaves) l.initial.steps (open_map l.leaves) l.steps
+    × (l.pattern ≡ l.initial.pattern)
+    × Meets (IsOneOf (pairs_of l.initial.leaves.store.path l.initial.pattern (take l.i l.initial.parts))) (open_map l.initial.leaves) l.initial.steps (open_map l.leaves) l.steps
