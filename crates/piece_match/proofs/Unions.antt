@@ -107,6 +107,11 @@ module _ (parts : List PlacedLeaf) (i : ℕ) (part : PlacedLeaf) (lt : i < lengt
         let P : List Member → Type 0 = λ ms. Among new m ↔ (Among old m ⊎ Among ms m) in
         gathered _ _ _ _ _ _ (subst P e (more.1, more.0)) (next_some (map moved_part parts) i (moved_part part) (moved_members part.start set) m there at_map whole) all
 
+-- a set without members adds none
+pub none_more : (by : ℕ) (set old : List Member) (m : Member) → length set ≡ 0 → (Among old m ⊎ Among (moved_members by set) m) ↔ Among old m
+none_more by [] old m e = (λ h. elim h [ inl a ↦ a | inr b ↦ absurd b ], λ a. inl a)
+none_more by (x ∷ xs) old m e = absurd (omega (arith, e))
+
 -- ---- moving
 
 pub names_moved : (by : ℕ) (bs : List Bound) → NamesAscend bs → NamesAscend (moved_binding by bs)

@@ -26,6 +26,9 @@ pub fn union_moved(alloc: Global, parts: &[PlacedLeaf<'_>]) -> Result<Leaf, Memo
         let Leaf::Full(set) = part.leaf else {
             return Ok(Leaf::Crowded);
         };
+        if set.members().is_empty() {
+            continue;
+        }
         let later = moved(set, part.start)?;
         members = merged(members, later.into_members())?;
         if members.len() > MOST {

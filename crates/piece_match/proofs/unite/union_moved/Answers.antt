@@ -1,5 +1,7 @@
-use Rattle.std.proofs.Common.{inl, inr, arith, ◌∙◌}
-use Rattle.piece_match.proofs.Unions.{crowded_part, moved_calm, moved_some}
+use Rattle.std.proofs.Common.{◌≡◌, inl, inr, List, length, refl, sym, ap, arith, ◌∙◌}
+use Rattle.std.proofs.lemmas.Bool.{eqb-true}
+use Rattle.tree_match.specs.Members.{Member}
+use Rattle.piece_match.proofs.Unions.{crowded_part, none_more, moved_calm, moved_some}
 use Rattle.piece_match.proofs.unite.union_moved.Goals as goal
 
 pub loop-part-preserved : goal.loop-part-preserved
@@ -24,3 +26,15 @@ returns-then-len-gt-MOST c =
       ordered = c.in_ok-members.ensures.ordered;
       more = omega (arith, c.len.ensures);
     })
+
+pub loop-part-preserved-then-is_empty : goal.loop-part-preserved-then-is_empty
+loop-part-preserved-then-is_empty c =
+    let l = c.loop-part in
+    let none : length c.in-Full.set ≡ 0 =
+    ap (λ (ms : List Member). length ms) (sym c.members-in-loop-part.ensures.members) ∙ eqb-true (length c.members-in-loop-part.result.now) 0 (sym c.if-is_empty.ensures) in
+    record {
+      few = l.invariant.few;
+      ordered = l.invariant.ordered;
+      calm = λ a. moved_calm c.args.parts.now l.part-index c.part-item.result c.loop-part-test.true c.part-item.is _ c.in-Full.is (l.invariant.calm a);
+      gathers = λ m. moved_some c.args.parts.now l.part-index c.part-item.result c.loop-part-test.true c.part-item.is _ c.in-Full.is _ l.members _ m refl (none_more c.part-item.result.start c.in-Full.set l.members m none) (l.invariant.gathers m);
+    }
