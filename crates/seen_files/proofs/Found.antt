@@ -14,6 +14,7 @@ use Rattle.file_open.specs.Opening.{IsOpened, HasOnlyTree}
 use Rattle.report_form.specs.declared.notice.Notice.{Notice}
 use Rattle.report_form.specs.declared.notice.NoticeKind.TheVariants as kinds
 use Rattle.report_form.specs.declared.report.Reported.{Reported}
+use Rattle.packed_view.specs.Opened.{HasText}
 use Rattle.running_rules.specs.Notes.{notice}
 use Rattle.file_results.specs.Sets.{IsExactly}
 use Rattle.file_results.specs.Reports.{reported_cmp}
@@ -55,6 +56,13 @@ alike_itself (Read v) = same_itself v
 -- what is opened is opened so
 pub opened_so : (spells : Spells) (file : File) (o : Opened) → IsOpened spells (lang_at file.0) file.1 o → HasOnlyTree spells (lang_at file.0) file.1 o → IsOpenedSo spells file o
 opened_so spells file o is only = record { bare = o; is = is; only = only; alike = alike_itself o }
+
+-- it has its text
+pub opened_text : (spells : Spells) (lang : Lang) (bytes : List ℕ) (o : Opened) → IsOpened spells lang bytes o → HasText bytes o
+opened_text spells lang bytes TooLarge is = tt
+opened_text spells lang bytes NotUtf8 is = tt
+opened_text spells lang bytes (NoTree v) is = is.2.bytes_are
+opened_text spells lang bytes (Read v) is = is.2.bytes_are
 
 -- ---- names
 

@@ -3,6 +3,7 @@
 ghost use Rattle.std.specs.Prelude.{◌≡◌, ◌↔◌, ◌+◌, [], ◌∷◌, IfOk};
 ghost use Rattle.node_match.specs.Sets.{Among};
 ghost use Rattle.report_form.specs.declared.notice.Notice.{Notice as a_notice};
+ghost use Rattle.packed_view.specs.Opened.{HasText};
 ghost use Rattle.kept_leaves.specs.Growth.{Meets};
 ghost use Rattle.kept_leaves.specs.Kept.{map_of};
 ghost use Rattle.running_rules.specs.Notes.{notice};
@@ -18,6 +19,7 @@ use comment_reader::CommentReader;
 use file_open::{Opened, open_file};
 use kept_leaves::KeptLeaves;
 use node_tree::{Bytes, Lang, List, Memory, Steps, Text, Twin};
+use packed_view::PackedOpened;
 use path_glob::lang_of;
 use report_form::{NoticeKind, Reported};
 use running_rules::{Noted, Runner, add_notice, in_order};
@@ -25,7 +27,7 @@ use std::alloc::Global;
 use std::rc::Rc;
 use std::sync::ledger::Ledger;
 
-// The file as it was seen, with its notices in order.
+// The file as it was seen, with its tree as bytes and its notices in order.
 fn seen_as(
     alloc: Global,
     path: &str,
@@ -34,11 +36,13 @@ fn seen_as(
     results: List<Reported>,
     notices: Vec<Noted>,
 ) -> Result<SeenFile, Memory>
+    requires { HasText bytes.value opened }
     ensures file { IfOk result (λ s. file_of s ≡ (path.now, bytes.value)) }
     ensures opened { IfOk result (λ s. s.opened ≡ opened) }
     ensures results { IfOk result (λ s. s.results ≡ results) }
     ensures notices { IfOk result (λ s. (n : a_notice) → Among s.notices n ↔ Among notices.items n) }
 {
+    let opened = PackedOpened::of(alloc, &bytes, opened)?;
     Ok(SeenFile {
         path: Text::from_str(alloc, path)?,
         bytes,
@@ -56,6 +60,7 @@ fn unseen(
     opened: Opened,
     why: NoticeKind,
 ) -> Result<SeenFile, Memory>
+    requires { HasText bytes.value opened }
     ensures file { IfOk result (λ s. file_of s ≡ (path.now, bytes.value)) }
     ensures opened { IfOk result (λ s. s.opened ≡ opened) }
     ensures results { IfOk result (λ s. s.results ≡ []) }
@@ -66,7 +71,7 @@ fn unseen(
     seen_as(alloc, path, bytes, opened, List::new(alloc), notices)
 }
 
-/// What the rules find in a file that was opened so. Names that it has are taken for those that are known in it.
+/// What the rules find in a file with these bytes that was opened so. Names that it has are taken for those that are known in it.
 pub fn find<R: TreeReader + CommentReader, L: Ledger>(
     alloc: Global,
     reader: &R,
@@ -78,6 +83,7 @@ pub fn find<R: TreeReader + CommentReader, L: Ledger>(
     kept: &mut KeptLeaves,
     steps: &mut Steps<L>,
 ) -> Result<SeenFile, Memory>
+    requires { HasText bytes.value opened }
     ensures file { IfOk result (λ s. file_of s ≡ (path.now, bytes.value)) }
     ensures seen { IsOpenedSo (R.spells reader.now) (path.now, bytes.value) opened → HasOwnNames (R.knows reader.now) opened → AreApart running.now → IfOk result (IsSeen (grammars_of (R.spells reader.now) (R.knows reader.now) (R.comments reader.now) traced) running.now) }
     ensures kept { IfOk result (λ s. Meets (IsNeededAt running.now s) (map_of kept.old) steps.old (map_of kept.new) steps.new) }

@@ -2,7 +2,7 @@
 //! leaves of the pairs of a piece and a pattern that the rules needed.
 //!
 //! When the files are seen again, a file that stays isn't opened again, and no pattern is matched again in a piece that stays
-//! (`specs/Spends.antt`).
+//! (`specs/Spends.antt`). Trees are kept as bytes, and become trees again only where other rules look at their files.
 #![tactic(auto)]
 
 mod finding;

@@ -1,22 +1,24 @@
 //! Files as they were seen.
 
 ghost use Rattle.std.specs.Prelude.{◌≡◌};
+ghost use Rattle.packed_view.specs.Opened.{HasText, HasText-prop};
 
-use file_open::Opened;
 use kept_leaves::KeptLeaves;
 use node_tree::{Bytes, List, Text};
+use packed_view::PackedOpened;
 use report_form::{Notice, Reported};
 use std::rc::Rc;
 
 /// A file as the last scan saw it: how it was opened, with the names that are known in it if the rules needed them, and what was
-/// found in it.
+/// found in it. Its tree is kept as bytes, since only other rules look at it again.
 #[derive(Drop)]
 pub struct SeenFile {
     pub(crate) path: Text,
     pub(crate) bytes: Rc<Bytes>,
-    pub(crate) opened: Opened,
+    pub(crate) opened: PackedOpened,
     pub(crate) results: List<Reported>,
     pub(crate) notices: List<Notice>,
+    ghost text: { HasText bytes.value opened } by { HasText-prop bytes.value opened },
 }
 
 impl SeenFile {

@@ -77,8 +77,9 @@ fn see_again<R: TreeReader + CommentReader, L: Ledger>(
         kept.keep_path(path);
         return Ok(was);
     }
+    let opened = was.opened.opened(alloc)?;
     find(
-        alloc, reader, path, was.bytes, was.opened, running, traced, kept, steps,
+        alloc, reader, path, was.bytes, opened, running, traced, kept, steps,
     )
 }
 

@@ -2,6 +2,7 @@ use Rattle.std.proofs.Common.{List, [], ◌∷◌, ◌++◌, sym, ap, ◌∙◌,
 use Rattle.file_open.specs.declared.opened.Opened.{Opened}
 use Rattle.file_open.specs.declared.opened.Opened.TheVariants.{TooLarge, NotUtf8, NoTree, Read}
 use Rattle.kept_leaves.specs.Kept.{map_of}
+use Rattle.packed_view.specs.Opened.{HasText}
 use Rattle.report_form.specs.declared.notice.Notice.{Notice}
 use Rattle.report_form.specs.declared.notice.NoticeKind.TheVariants as kinds
 use Rattle.running_rules.specs.Notes.{notice}
@@ -33,6 +34,9 @@ pub returns-in-NotUtf8-clause-kept : goal.returns-in-NotUtf8-clause-kept
 returns-in-NotUtf8-clause-kept g c =
     if_hidden c.args.running.now NotUtf8 c.unseen-in-NotUtf8.result c.unseen-in-NotUtf8.ensures.opened (λ view h. h) (map_of c.args.kept.now) c.args.steps.now
 
+pub seen_as-requires : goal.seen_as-requires
+seen_as-requires g c = let T : Opened → Type 0 = HasText c.args.bytes.value in c.in_ok-found-in-NoTree.ensures.same.bytes ∙ subst T c.in-NoTree.is c.requires
+
 pub returns-in_ok-found-in-NoTree-clause-seen : goal.returns-in_ok-found-in-NoTree-clause-seen
 returns-in_ok-found-in-NoTree-clause-seen g c so own apart =
     let spells = g.R.TreeReader.spells c.args.reader.now in
@@ -49,6 +53,9 @@ pub returns-in_ok-found-in-NoTree-clause-kept : goal.returns-in_ok-found-in-NoTr
 returns-in_ok-found-in-NoTree-clause-kept g c =
     if_viewed c.args.running.now (NoTree c.in_ok-found-in-NoTree.found.0) c.seen_as.result c.seen_as.ensures.opened c.in_ok-found-in-NoTree.found.0 c.args.path.now c.args.bytes.value c.seen_as.ensures.file refl (λ view h. h)
     (map_of c.args.kept.now) c.args.steps.now (map_of c.look_with_names.new.kept) c.look_with_names.new.steps c.in_ok-found-in-NoTree.ensures.kept
+
+pub seen_as-requires-in-Read : goal.seen_as-requires-in-Read
+seen_as-requires-in-Read g c = let T : Opened → Type 0 = HasText c.args.bytes.value in c.in_ok-found-in-Read.ensures.same.bytes ∙ subst T c.in-Read.is c.requires
 
 pub returns-in_ok-found-in-Read-clause-seen : goal.returns-in_ok-found-in-Read-clause-seen
 returns-in_ok-found-in-Read-clause-seen g c so own apart =

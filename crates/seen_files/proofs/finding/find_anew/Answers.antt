@@ -6,12 +6,19 @@ use Rattle.node_tree.specs.declared.view.Lang.TheVariants.{Regex}
 use Rattle.file_open.specs.Opening.{IsOpened, HasOnlyTree}
 use Rattle.kept_leaves.specs.Growth.{Meets}
 use Rattle.kept_leaves.specs.Kept.{map_of}
+use Rattle.packed_view.specs.Opened.{HasText}
 use Rattle.file_results.specs.Shown.{lang_at}
 use Rattle.file_results.proofs.OneFile.{opened_as, only_as}
 use Rattle.seen_files.specs.Needs.{IsNeededAt}
 use Rattle.seen_files.specs.Seen.{file_of}
-use Rattle.seen_files.proofs.Found.{opened_so, opened_bare}
+use Rattle.seen_files.proofs.Found.{opened_so, opened_bare, opened_text}
 use Rattle.seen_files.proofs.finding.find_anew.Goals as goal
+
+pub find-requires : goal.find-requires
+find-requires g c =
+    let same : c.in_ok-own.own ≡ c.in_ok-shared.shared.value = c.in_ok-own.ensures ∙ c.as_ref.ensures ∙ sym c.in_ok-shared.ensures.cases in
+    let T : List ℕ → Type 0 = λ b. HasText b c.in_ok-opened.opened in
+    subst T same (opened_text (g.R.TreeReader.spells c.args.reader.now) c.unwrap_or-lang.result c.in_ok-own.own c.in_ok-opened.opened c.in_ok-opened.ensures.opened)
 
 pub returns-clause-file : goal.returns-clause-file
 returns-clause-file g c = let P : List ℕ → Type 0 = λ b. IfOk c.find.result (λ s. file_of s ≡ (c.args.path.now, b)) in subst P c.in_ok-shared.ensures.cases c.find.ensures.file

@@ -2,10 +2,12 @@ use Rattle.std.proofs.Common.{◌≡◌, ℕ, List, sym, ap, ◌∙◌, subst}
 use Rattle.std.specs.Prelude.{IfOk}
 use Rattle.std.proofs.lemmas.Slice.Eq.{bytes_eq-Decides}
 use Rattle.rule_form.specs.declared.rule.Rule.{Rule}
+use Rattle.file_open.specs.declared.opened.Opened.{Opened}
 use Rattle.kept_leaves.specs.Kept.{map_of}
+use Rattle.packed_view.specs.Opened.{HasText}
 use Rattle.file_results.specs.Quieted.{grammars_of}
 use Rattle.file_results.specs.Shown.{File}
-use Rattle.seen_files.specs.Seen.{file_of, IsOpenedSo, IsSeen}
+use Rattle.seen_files.specs.Seen.{file_of, HasOwnNames, IsOpenedSo, IsSeen}
 use Rattle.seen_files.proofs.Found.{seen_own}
 use Rattle.seen_files.proofs.Walking.{opened_again, looked_again, stays_seen}
 use Rattle.seen_files.proofs.walk.see_again.Goals as goal
@@ -35,6 +37,9 @@ returns-then-same_rules-clause-kept g c before same needed =
     stays_seen c.args.running.now before c.args.was c.args.path.now c.args.bytes.now.value (map_of c.args.kept.now) c.args.steps.now (map_of c.keep_path.new.self) (sym c.has_bytes.ensures ∙ c.if-not-has_bytes.false)
     (same c.if-same_rules.true) needed c.keep_path.ensures
 
+pub find-requires : goal.find-requires
+find-requires g c = let T : Opened → Type 0 = HasText c.args.was.bytes.value in subst T (sym c.in_ok-opened.ensures) c.args.was.text
+
 pub returns-clause-file : goal.returns-clause-file
 returns-clause-file g c =
     let same : c.args.was.bytes.value ≡ c.args.bytes.now.value = (bytes_eq-Decides c.args.was.bytes.value c.args.bytes.now.value).0 (sym c.has_bytes.ensures ∙ c.if-not-has_bytes.false) in
@@ -43,9 +48,13 @@ returns-clause-file g c =
 
 pub returns-clause-seen : goal.returns-clause-seen
 returns-clause-seen g c before same apart seen =
-    let P : List ℕ → Type 0 = λ p. IsOpenedSo (g.R.TreeReader.spells c.args.reader.now) (p, c.args.was.bytes.value) c.args.was.opened in
-    let grammars = grammars_of (g.R.TreeReader.spells c.args.reader.now) (g.R.TreeReader.knows c.args.reader.now) (g.R.CommentReader.comments c.args.reader.now) c.args.traced in
-    c.find.ensures.seen (subst P c.requires seen.opened) (seen_own grammars before c.args.was seen) apart
+    let spells = g.R.TreeReader.spells c.args.reader.now in
+    let grammars = grammars_of spells (g.R.TreeReader.knows c.args.reader.now) (g.R.CommentReader.comments c.args.reader.now) c.args.traced in
+    let P : List ℕ → Type 0 = λ p. IsOpenedSo spells (p, c.args.was.bytes.value) c.args.was.opened in
+    let S : Opened → Type 0 = IsOpenedSo spells (c.args.path.now, c.args.was.bytes.value) in
+    let N : Opened → Type 0 = HasOwnNames (g.R.TreeReader.knows c.args.reader.now) in
+    let unpacked = sym c.in_ok-opened.ensures in
+    c.find.ensures.seen (subst S unpacked (subst P c.requires seen.opened)) (subst N unpacked (seen_own grammars before c.args.was seen)) apart
 
 pub returns-clause-kept : goal.returns-clause-kept
 returns-clause-kept g c before same needed =
