@@ -1,5 +1,7 @@
 use Rattle.std.proofs.Common.{◌≡◌, ◌∙◌, ℕ, List, sym, ap, subst, true}
 use Rattle.std.specs.BTreeMap.{BTreeMap, get}
+use Rattle.node_tree.specs.declared.view.Pattern.{Pattern}
+use Rattle.file_parts.specs.Parts.{is_needed}
 use Rattle.piece_store.specs.Kept.{put_pair}
 use Rattle.kept_leaves.specs.declared.leaf.OpenLeaves.{OpenLeaves}
 use Rattle.kept_leaves.specs.Kept.{PieceRef, PatternRef, piece_cmp, pattern_cmp, AreRight}
@@ -13,7 +15,7 @@ use Rattle.kept_leaves.proofs.matching.meet.Goals as goal
 
 pub returns-then-not-is_needed-clause-kept : goal.returns-then-not-is_needed-clause-kept
 returns-then-not-is_needed-clause-kept g c =
-    not_wanted c.args.leaves.now.store.path c.args.part.now c.args.pattern.now (sym c.is_needed.ensures ∙ c.if-not-is_needed.true) (open_map c.args.leaves.now) c.args.steps.now
+    not_wanted c.args.leaves.now.store.path c.args.part.now c.args.pattern.now (ap (λ (p : Pattern). is_needed p c.args.part.now) (sym c.pattern.ensures) ∙ sym c.is_needed.ensures ∙ c.if-not-is_needed.true) (open_map c.args.leaves.now) c.args.steps.now
 
 pub mark-requires-clause-at : goal.mark-requires-clause-at
 mark-requires-clause-at g c = place_within c.args.leaves.now c.args.place c.args.number c.args.part.now c.args.pattern.now c.requires.place c.requires.number
@@ -56,7 +58,7 @@ returns-then-mark-clause-kept g c =
     let mid : OpenLeaves = record { store = c.mark.new.self } in
     let met = c.mark.ensures.met r b standing numbered.found in
     let told = sym (c.mark.ensures.told r b standing numbered.found) ∙ c.if-mark.true in
-    let needs = sym c.is_needed.ensures ∙ c.if-not-is_needed.false in
+    let needs = ap (λ (p : Pattern). is_needed p c.args.part.now) (sym c.pattern.ensures) ∙ sym c.is_needed.ensures ∙ c.if-not-is_needed.false in
     meets_marked old.store.path part pattern needs (open_map old) (open_map mid) (open_alike old) a b its met told c.args.steps.now
 
 pub returns-in_err-leaf-clause-leaves : goal.returns-in_err-leaf-clause-leaves
@@ -141,7 +143,7 @@ returns-clause-leaves g c =
     let mid : OpenLeaves = record { store = c.mark.new.self } in
     let met = c.mark.ensures.met r b standing numbered.found in
     let told = sym (c.mark.ensures.told r b standing numbered.found) ∙ c.if-mark.false in
-    let needs = sym c.is_needed.ensures ∙ c.if-not-is_needed.false in
+    let needs = ap (λ (p : Pattern). is_needed p c.args.part.now) (sym c.pattern.ensures) ∙ sym c.is_needed.ensures ∙ c.if-not-is_needed.false in
     let kept_so : StaysOpen old mid = record { path = c.mark.ensures.path; pieces = c.mark.ensures.pieces; numbers = c.mark.ensures.numbers } in
     let at2 = place_stays old mid kept_so place part at in
     let numbered2 = number_stays old mid kept_so number pattern numbered in
@@ -179,7 +181,7 @@ returns-clause-kept g c =
     let mid : OpenLeaves = record { store = c.mark.new.self } in
     let met = c.mark.ensures.met r b standing numbered.found in
     let told = sym (c.mark.ensures.told r b standing numbered.found) ∙ c.if-mark.false in
-    let needs = sym c.is_needed.ensures ∙ c.if-not-is_needed.false in
+    let needs = ap (λ (p : Pattern). is_needed p c.args.part.now) (sym c.pattern.ensures) ∙ sym c.is_needed.ensures ∙ c.if-not-is_needed.false in
     let kept_so : StaysOpen old mid = record { path = c.mark.ensures.path; pieces = c.mark.ensures.pieces; numbers = c.mark.ensures.numbers } in
     let at2 = place_stays old mid kept_so place part at in
     let numbered2 = number_stays old mid kept_so number pattern numbered in
