@@ -11,7 +11,7 @@ pub returns : goal.returns
 returns c = λ p e.
     let shape : ℕ = tag_of the_shapes p.shape in
     let lang = c.in_ok-move_place.ensures (lang_place p.lang) (shape ∷ bool_place p.constants ∷ tree_code p.tree) (c.deref.ensures.value ∙ e) in
-    let second = c.in_ok-move_place-2.ensures shape (bool_place p.constants ∷ tree_code p.tree) lang.1 in
-    let third = c.in_ok-move_place-3.ensures (bool_place p.constants) (tree_code p.tree) second.1 in
-    let tree = c.in_ok-move_tree.ensures p.tree [] (third.1 ∙ sym (append-nil (tree_code p.tree))) in
-    four_added _ _ _ _ _ _ _ _ _ c.new-out.ensures lang.2 second.2 third.2 tree.1
+    let second = c.in_ok-move_place-2.ensures shape (bool_place p.constants ∷ tree_code p.tree) lang.0 in
+    let third = c.in_ok-move_place-3.ensures (bool_place p.constants) (tree_code p.tree) second.0 in
+    let tree = c.in_ok-move_tree.ensures p.tree [] (third.0 ∙ sym (append-nil (tree_code p.tree))) in
+    four_added _ _ _ _ _ _ _ _ _ c.new-out.ensures lang.1 second.1 third.1 tree.1

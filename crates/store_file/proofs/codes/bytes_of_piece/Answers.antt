@@ -12,8 +12,8 @@ returns c = λ p key.
     let names = known_contents p.known in
     let behind : List ℕ = number_code (length names) ++ known_code names in
     let lang = c.in_ok-move_place.ensures (lang_place p.lang) (tree_code p.tree ++ behind) (c.deref.ensures.value ∙ key.code) in
-    let tree = c.in_ok-move_tree.ensures p.tree behind lang.1 in
+    let tree = c.in_ok-move_tree.ensures p.tree behind lang.0 in
     let known = c.in_ok-move_known.ensures names [] (tree.0 ∙ ap (λ (v : List ℕ). number_code (length names) ++ v) (sym (append-nil (known_code names)))) in
     let same : c.as_slice.result.now ≡ p.bytes = c.as_slice.ensures.value ∙ key.bytes in
     let text = c.in_ok-add_text.ensures ∙ ap (λ (v : List ℕ). c.move_place.new.out ++ text_bytes v) same in
-    four_added _ _ _ _ _ _ _ _ _ c.new-out.ensures lang.2 text tree.1 known.1
+    four_added _ _ _ _ _ _ _ _ _ c.new-out.ensures lang.1 text tree.1 known.1
