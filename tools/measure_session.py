@@ -282,4 +282,5 @@ def main():
             getattr(table, name)()
 
 
-main()
+if __name__ == '__main__':
+    main()
