@@ -19,10 +19,7 @@ pub fn none(alloc: Global, words: usize) -> Result<Vec<u64>, Memory>
     ensures room { IfOk result (λ set. length set.items ≡ words) }
     ensures none { IfOk result (λ set. (k : ℕ) → bit_of set.items k ≡ 0) }
 {
-    let mut set = Vec::new(alloc);
-    for _ in 0..words {
-        set.push(0u64)?;
-    }
+    let set = Vec::from_elem(alloc, 0u64, words)?;
     Ok(set)
 }
 

@@ -242,16 +242,3 @@ enters_more start width i k v lt = (
 pub smaller : (w0 w1 w2 : Slots) (at : ℕ) → w0.waiting.items ≡ w1.waiting.items ++ at ∷ [] → w1.values ≡ w0.values → weight_of w2 ≤ weight_of w1 → weight_of w2 < weight_of w0
 unfolding weight_of
 smaller w0 w1 w2 at taken same le = omega (arith, le, ap length taken, length-append w1.waiting.items (at ∷ []), ap (λ v. ranks v.items) same)
-
--- pairs to which no value came
-
-pub push_unseen : (xs new : List ℕ) (n k : ℕ) → length xs ≡ n → new ≡ xs ++ unseen ∷ [] → ((k : ℕ) → k < n → get_or xs k 0 ≡ unseen) → k < n + 1 → get_or new k 0 ≡ unseen
-push_unseen xs new n k size is all lt =
-    let P : ℕ → Type 0 = λ m. (j : ℕ) → j < m → get_or xs j 0 ≡ unseen in
-    ap (λ ys. get_or ys k 0) is ∙ pushed xs k (subst P (sym size) all) (omega (arith, lt, size))
-  where
-    pushed : (xs : List ℕ) (k : ℕ) → ((j : ℕ) → j < length xs → get_or xs j 0 ≡ unseen) → k < length xs + 1 → get_or (xs ++ unseen ∷ []) k 0 ≡ unseen
-    pushed [] zero all lt = refl
-    pushed [] (suc k) all lt = absurd (omega arith)
-    pushed (x ∷ xs) zero all lt = all zero (omega arith)
-    pushed (x ∷ xs) (suc k) all lt = pushed xs k (λ j less. all (suc j) (omega arith)) (omega arith)

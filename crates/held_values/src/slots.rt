@@ -36,12 +36,8 @@ impl Slots {
     pub fn new(alloc: Global, pairs: usize) -> Result<Slots, Memory>
         ensures { IfOk result (IsNew pairs) }
     {
-        let mut values = Vec::new(alloc);
-        for _ in 0..pairs {
-            values.push(UNSEEN)?;
-        }
         Ok(Slots {
-            values,
+            values: Vec::from_elem(alloc, UNSEEN, pairs)?,
             waiting: Vec::new(alloc),
         })
     }
