@@ -109,18 +109,9 @@ pub fn judge_part<S: FileSearch, L: Ledger>(
     };
     let mut rx = rule.expressions()?;
     let rule = rule.rule();
-    let one = &rule.parts.as_slice()[part];
-    let leaves = leaves_of(alloc, one.patterns.as_slice(), search, steps)?;
-    view.prepare(alloc, &one.body, &leaves)?;
-    let found = judge(
-        alloc,
-        view.view(),
-        view.flow(),
-        rule,
-        number,
-        &leaves,
-        &mut rx,
-    )?;
+    let patterns = &rule.parts.as_slice()[part].patterns;
+    let leaves = leaves_of(alloc, patterns.as_slice(), search, steps)?;
+    let found = judge(alloc, view, rule, number, &leaves, &mut rx)?;
     Ok((leaves, found))
 }
 

@@ -14,6 +14,7 @@ pub use file_open::Opened;
 use file_open::with_names;
 use languages::Languages;
 use node_tree::{Bytes, FileView, Lang, List, Memory, Steps};
+use part_judge::SharedFile;
 pub use part_judge::{Found, FoundNotice};
 use rule_form::Rule;
 use rx_text::Rx;
@@ -58,5 +59,5 @@ pub fn judge(
     ensures only { IfOk result (λ found. (o : an_outcome) → PartFinds leaves.now rx.old view.now.bytes view.now.tree (slice_get rule.now.parts part) o → o ≡ found) }
     ensures same { rx.new ≡ rx.old }
 {
-    part_judge::judge(alloc, view, None, rule, part, leaves, rx)
+    part_judge::judge(alloc, &mut SharedFile::of(view), rule, part, leaves, rx)
 }

@@ -1,3 +1,2 @@
 mod Mapped
 mod Outcomes
-mod Members

@@ -3,20 +3,20 @@
 ghost use Rattle.std.specs.Prelude.{◌≡◌, ◌<◌, length, map, All, IfOk, slice_get};
 ghost use Rattle.tree_match.specs.Placed.{IsLeafPlaced};
 ghost use Rattle.part_judge.specs.declared.outcome.Outcome.{Outcome as an_outcome};
-ghost use Rattle.taint_judge.specs.Flows.{IsFlowIn};
 ghost use Rattle.taint_judge.specs.Placed.{IsFindingPlaced};
 ghost use Rattle.part_judge.specs.Findings.{finding_of as finding_at, SearchFinds, TaintFinds, BodyFinds, PartFinds, findings_of as findings_in};
 
 use crate::dotted::{dotted, named};
 use crate::found::Found;
 use crate::outcome::Outcome;
+use crate::shared_file::SharedFile;
 use meta_bind::{Binding, Finding};
 use node_tree::{FileView, List, Memory, Span, Twin};
 use range_algebra::{EvalFault, MatchSet, eval};
 use rule_form::{Body, Formula, Rule, TaintRule};
 use rx_text::Rx;
 use std::alloc::Global;
-use taint_judge::{FlowTree, FollowFault, follow};
+use taint_judge::{FollowFault, SharedFlow, follow};
 use tree_match::Leaf;
 
 // The finding of a member, which comes from no source.
@@ -70,15 +70,16 @@ fn search(
 fn follow_data(
     alloc: Global,
     view: &FileView,
-    flow: Option<&FlowTree<'_>>,
+    flow: &mut SharedFlow<'_>,
     rule: &TaintRule,
     leaves: &List<Leaf>,
     rx: &mut List<Rx>,
 ) -> Result<Found, Memory>
-    requires flow { IsFlowIn view.now flow }
+    requires flow { flow.old ≡ view.now.tree }
     requires placed { All (λ leaf. IsLeafPlaced view.now.bytes leaf) leaves.now }
     ensures finds { IfOk result (TaintFinds leaves.now rx.old view.now.bytes view.now.tree rule.now) }
     ensures placed { IfOk result (λ found. All (λ finding. IsFindingPlaced view.now.bytes finding) (findings_in found)) }
+    ensures kept { flow.new ≡ flow.old }
     ensures same { rx.new ≡ rx.old }
 {
     let outcome = match follow(alloc, view, flow, rule, leaves, rx) {
@@ -92,19 +93,20 @@ fn follow_data(
     Ok(Found::of(outcome))
 }
 
-// What a body finds.
-fn look(
+/// What a body finds.
+pub fn look(
     alloc: Global,
     view: &FileView,
-    flow: Option<&FlowTree<'_>>,
+    flow: &mut SharedFlow<'_>,
     body: &Body,
     leaves: &List<Leaf>,
     rx: &mut List<Rx>,
 ) -> Result<Found, Memory>
-    requires flow { IsFlowIn view.now flow }
+    requires flow { flow.old ≡ view.now.tree }
     requires placed { All (λ leaf. IsLeafPlaced view.now.bytes leaf) leaves.now }
     ensures finds { IfOk result (BodyFinds leaves.now rx.old view.now.bytes view.now.tree body.now) }
     ensures placed { IfOk result (λ found. All (λ finding. IsFindingPlaced view.now.bytes finding) (findings_in found)) }
+    ensures kept { flow.new ≡ flow.old }
     ensures same { rx.new ≡ rx.old }
 {
     match body {
@@ -120,30 +122,23 @@ fn look(
 /// that a function is too large. There is one such outcome. The ends of each finding's range, of its source and of what is
 /// bound cut no character of the file, since those of `leaves` don't.
 ///
-/// What it takes to follow data is made here, unless it is lent as `flow`.
+/// What it takes to follow data in the file is made once, for the first rule that needs it.
 pub fn judge(
     alloc: Global,
-    view: &FileView,
-    flow: Option<&FlowTree<'_>>,
+    file: &mut SharedFile<'_>,
     rule: &Rule,
     part: u32,
     leaves: &List<Leaf>,
     rx: &mut List<Rx>,
 ) -> Result<Found, Memory>
     requires part { part < length rule.now.parts }
-    requires flow { IsFlowIn view.now flow }
-    requires placed { All (λ leaf. IsLeafPlaced view.now.bytes leaf) leaves.now }
-    ensures finds { IfOk result (PartFinds leaves.now rx.old view.now.bytes view.now.tree (slice_get rule.now.parts part)) }
-    ensures placed { IfOk result (λ found. All (λ finding. IsFindingPlaced view.now.bytes finding) (findings_in found)) }
-    ensures only { IfOk result (λ found. (o : an_outcome) → PartFinds leaves.now rx.old view.now.bytes view.now.tree (slice_get rule.now.parts part) o → o ≡ found) }
+    requires placed { All (λ leaf. IsLeafPlaced file.old.bytes leaf) leaves.now }
+    ensures finds { IfOk result (PartFinds leaves.now rx.old file.old.bytes file.old.tree (slice_get rule.now.parts part)) }
+    ensures placed { IfOk result (λ found. All (λ finding. IsFindingPlaced file.old.bytes finding) (findings_in found)) }
+    ensures only { IfOk result (λ found. (o : an_outcome) → PartFinds leaves.now rx.old file.old.bytes file.old.tree (slice_get rule.now.parts part) o → o ≡ found) }
+    ensures kept { file.new ≡ file.old }
     ensures same { rx.new ≡ rx.old }
 {
-    look(
-        alloc,
-        view,
-        flow,
-        &rule.parts.as_slice()[part as usize].body,
-        leaves,
-        rx,
-    )
+    let body = &rule.parts.as_slice()[part as usize].body;
+    file.look(alloc, body, leaves, rx)
 }

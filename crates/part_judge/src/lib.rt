@@ -6,7 +6,6 @@ mod found;
 mod judging;
 mod outcome;
 mod shared_file;
-mod sources;
 
 pub use found::{Found, FoundNotice};
 pub use judging::judge;

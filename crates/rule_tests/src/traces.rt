@@ -15,7 +15,7 @@ use std::fmt::Write;
 use std::marker::Brand;
 use std::sync::ledger::{Blank, Ledger};
 use std::test::Fail;
-use taint_judge::follow;
+use taint_judge::{SharedFlow, follow};
 use taint_trace::trace_of;
 use tree_match::Leaf;
 
@@ -47,7 +47,8 @@ fn first_path(
 ) -> Result<List<Point>, Memory>
     requires placed { All (λ leaf. IsLeafPlaced view.now.bytes leaf) leaves.now }
 {
-    let Ok(findings) = follow(alloc, view, None, rule, leaves, rx) else {
+    let mut flow = SharedFlow::of(&view.tree);
+    let Ok(findings) = follow(alloc, view, &mut flow, rule, leaves, rx) else {
         return Ok(List::new(alloc));
     };
     let Some((finding, _)) = findings.as_slice().split_first() else {

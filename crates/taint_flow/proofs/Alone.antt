@@ -16,11 +16,11 @@ use Rattle.flow_reach.proofs.Sorted.{got_among, among_got}
 use Rattle.taint_form.specs.declared.table.Table.{Table}
 use Rattle.taint_form.specs.Tables.{AreNumbers}
 use Rattle.taint_tables.specs.declared.census.Census.{Census}
-use Rattle.taint_flow.specs.declared.plan.Plan.{Plan}
+use Rattle.taint_plan.specs.declared.plan.Plan.{Plan}
 use Rattle.taint_tables.specs.declared.sets.TaintSets.{TaintSets}
 use Rattle.taint_tables.specs.Censuses.{AreNumbered, IsCensus}
 use Rattle.taint_tables.specs.Numbers.{numbers_of}
-use Rattle.taint_flow.specs.Plans.{IsPlan}
+use Rattle.taint_plan.specs.Plans.{IsPlan}
 use Rattle.taint_flow.specs.Sizes.{names_of}
 use Rattle.taint_flow.specs.Traces.{AreGoals, TracesAreHits}
 use Rattle.taint_tables.proofs.CensusLists.{source_places}

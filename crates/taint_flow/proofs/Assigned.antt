@@ -19,7 +19,7 @@ use Rattle.assignments.specs.Assignments.{value_of, present_by, assigned, annota
 use Rattle.assignments.specs.Seen.{Named, Assigned}
 use Rattle.assignments.proofs.Postorder.{assigned_in_is}
 use Rattle.taint_flow.proofs.Entry.{among_take, among_drop}
-use Rattle.taint_flow.proofs.Below.{among_flat, by_kids, pre_here, pre_kid, siblings_in, IsBelow}
+use Rattle.taint_plan.proofs.Below.{among_flat, by_kids, pre_here, pre_kid, siblings_in, IsBelow}
 
 -- ---- the value of a node is one of its kids
 

@@ -1,18 +1,19 @@
 -- How many different items a list has, and how large a unit is.
-use Rattle.std.proofs.Common.{◌≡◌, ◌≢◌, ◌↔◌, inl, inr, ℕ, ◌+◌, ◌*◌, Bool, true, false, List, [], ◌∷◌, ◌++◌, length, get_or, Decides, refl, sym, ap, ◌∙◌, subst, arith, Some}
+use Rattle.std.proofs.Common.{◌≡◌, ◌≢◌, ◌↔◌, inl, inr, ℕ, ◌+◌, ◌*◌, ◌≤◌, Bool, true, false, List, [], ◌∷◌, ◌++◌, length, get_or, Decides, refl, sym, ap, ◌∙◌, subst, arith, Some}
 use Rattle.std.specs.Prelude.{slice_get, filter, cond, ◌==◌}
 use Rattle.std.specs.Borrow.{Bor}
 use Rattle.std.specs.Cmp.{IsEquivalence}
-use Rattle.std.specs.List.{flat_map, AllPairs}
+use Rattle.std.specs.List.{flat_map, AllPairs, AllByRecursion, IsDistinct}
 use Rattle.std.specs.Ordering.{is_eq, ordering_reverse}
 use Rattle.std.specs.declared.cmp.Ordering.{Ordering}
 use Rattle.std.specs.declared.cmp.Ordering.TheVariants.{Less, Equal, Greater}
-use Rattle.std.specs.Set.{distinct_count, is_member}
+use Rattle.std.specs.Set.{distinct_count, is_member, unique_keys}
 use Rattle.std.specs.Str.{bytes_eq}
 use Rattle.std.proofs.lemmas.Bool.Decides.{same_from_decides, Decides-and, Decides-eqb}
 use Rattle.std.proofs.lemmas.Bool.{cases_order}
 use Rattle.std.proofs.lemmas.List.{length-map}
-use Rattle.std.proofs.lemmas.Map.Made.{length-from_keys, is_member-Decides, IsDistinct-from_AllPairs}
+use Rattle.std.proofs.lemmas.Map.Made.{length-from_keys, length-le_from_is_member, is_member-Decides, IsDistinct-from_AllPairs}
+use Rattle.std.proofs.lemmas.Map.Keys.{IsDistinct-cons}
 use Rattle.std.proofs.lemmas.Option.{slice_get-get_or}
 use Rattle.std.proofs.lemmas.Slice.Eq.{bytes_eq-Decides}
 use Rattle.node_tree.specs.declared.node.Node.{Node}
@@ -34,7 +35,7 @@ use Rattle.taint_tables.specs.declared.sets.TaintSets.{TaintSets}
 use Rattle.taint_tables.specs.Censuses.{IsCensus, texts_of}
 use Rattle.taint_flow.specs.Sizes.{same_point, names_of, sources_of, size_of}
 use Rattle.taint_tables.specs.Names.{names_at, names_among, spans_at, spans_among, sources_among}
-use Rattle.taint_flow.proofs.Below.{among_flat}
+use Rattle.taint_plan.proofs.Below.{among_flat}
 
 module _ {K : Type 0} (eq : K → K → Bool) (same : (a b : K) → Decides (eq a b) (a ≡ b)) where
   laws : IsEquivalence eq
@@ -50,6 +51,39 @@ module _ {K : Type 0} (eq : K → K → Bool) (same : (a b : K) → Decides (eq 
         λ e. (let (i, lt, at) = d.0 e in subst (λ x. Among xs x) at (among_at xs i q lt)),
         λ among. d.1 (among_place q xs q among),
       )
+
+  apart : (x : K) (ks : List K) → ((y : K) → Among ks y → eq x y ≡ false) → AllByRecursion (λ y. eq x y ≡ false) ks
+  apart x [] each = tt
+  apart x (y ∷ ys) each = (each y (inl refl), apart x ys (λ z there. each z (inr there)))
+
+  unique_within : (xs : List K) (q : K) → Among (unique_keys eq xs) q → Among xs q
+  unique_within [] q = λ none. absurd none
+  unique_within (x ∷ xs) q = by (unique_within xs q) (is_member eq xs x)
+    where
+      by : (Among (unique_keys eq xs) q → Among xs q) → (b : Bool) → Among (cond b (unique_keys eq xs) (x ∷ unique_keys eq xs)) q → Among (x ∷ xs) q
+      by later true there = inr (later there)
+      by later false (inl e) = inl e
+      by later false (inr there) = inr (later there)
+
+  none_distinct : IsDistinct eq []
+  unfolding IsDistinct
+  none_distinct = tt
+
+  unique_once : (xs : List K) → IsDistinct eq (unique_keys eq xs)
+  unique_once [] = none_distinct
+  unique_once (x ∷ xs) = by (unique_once xs) (is_member eq xs x) refl
+    where
+      other : is_member eq xs x ≡ false → (y : K) → Among (unique_keys eq xs) y → (b : Bool) → eq x y ≡ b → b ≡ false
+      other out y there false is = refl
+      other out y there true is = sym ((member_is xs x).1 (subst (λ z. Among xs z) (sym ((same x y).0 is)) (unique_within xs y there))) ∙ out
+
+      by : IsDistinct eq (unique_keys eq xs) → (b : Bool) → is_member eq xs x ≡ b → IsDistinct eq (cond b (unique_keys eq xs) (x ∷ unique_keys eq xs))
+      by later true is = later
+      by later false out = IsDistinct-cons eq x (unique_keys eq xs) (apart x (unique_keys eq xs) (λ y there. other out y there (eq x y) refl)) later
+
+  -- a list has at most as many different items as a list that has them all is long
+  pub counted_within : (xs ys : List K) → ((x : K) → Among xs x → Among ys x) → distinct_count eq xs ≤ length ys
+  counted_within xs ys all = length-le_from_is_member laws (unique_keys eq xs) ys (unique_once xs) (λ q is. (member_is ys q).1 (all q (unique_within xs q ((member_is (unique_keys eq xs) q).0 is))))
 
   -- items that stand there once each are as many as the different items of a list with the same ones
   pub counted : (ns xs : List K) → ((i j : ℕ) (x : K) → slice_get ns i ≡ Some x → slice_get ns j ≡ Some x → i ≡ j) → ((x : K) → Among ns x ↔ Among xs x) → length ns ≡ distinct_count eq xs

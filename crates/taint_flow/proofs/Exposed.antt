@@ -10,7 +10,7 @@ use Rattle.graph_form.specs.Sets.{Among}
 use Rattle.graph_form.proofs.Amongs.{among_app}
 use Rattle.taint_form.specs.Expressions.{exposed, shown, opens, has_span}
 use Rattle.taint_form.proofs.Folds.{exposed_is}
-use Rattle.taint_flow.proofs.Below.{among_flat, by_kids, pre_here, pre_kid}
+use Rattle.taint_plan.proofs.Below.{among_flat, by_kids, pre_here, pre_kid}
 
 shown_is : (spans : List Span) (n e : Node) → Among (shown spans n) e → Among (pre_of n) e × IsTrue (is_expression (kind_of e))
 shown_is spans n e among = by (is_expression (kind_of n)) refl (has_span spans (span_of n)) among

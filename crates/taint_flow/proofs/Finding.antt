@@ -4,17 +4,12 @@ use Rattle.std.specs.Prelude.{Option, slice_get}
 use Rattle.std.specs.Global.{Vec}
 use Rattle.std.proofs.lemmas.Bool.{cases_eq}
 use Rattle.node_tree.specs.declared.span.Span.{Span}
-use Rattle.graph_form.specs.declared.graph.Graph.{Graph}
 use Rattle.graph_form.specs.Sets.{Among}
 use Rattle.graph_form.proofs.Amongs.{among_more, among_push}
-use Rattle.flow_reach.specs.declared.moves.Moves.{Moves}
-use Rattle.flow_reach.specs.declared.reached.Reached.{Reached}
-use Rattle.flow_reach.specs.Carried.{CarriedFrom, Pairs}
-use Rattle.flow_reach.specs.Reached.{IsReachedFrom, Tells}
+use Rattle.flow_reach.specs.Carried.{Pairs}
 use Rattle.flow_reach.proofs.Steps.{pair_is}
-use Rattle.taint_flow.specs.declared.moves.Goal.{Goal}
-use Rattle.taint_flow.specs.declared.plan.Plan.{Plan}
-use Rattle.taint_flow.specs.Found.{AreInside, ByGoals, ByPlan, BySource, FromEntry}
+use Rattle.taint_plan.specs.declared.goal.Goal.{Goal}
+use Rattle.taint_flow.specs.Found.{ByFirst, BySource, FromEntry}
 use Rattle.taint_flow.specs.Lowest.{Lowers}
 use Rattle.taint_flow.proofs.Lowest.{lowers_none, lowers_same, lowers_then}
 
@@ -61,35 +56,26 @@ module _ (source : Span) (These : ℕ → ℕ → Type 0) (goals : List Goal) (i
     ],
   )) low one
 
--- ---- one source
-
--- what is told of goals is what some route carries
-pub source_done : (source : Span) (Begins : ℕ → ℕ → Type 0) (graph : Graph) (moves : Moves) (reached : Reached) (goals : List Goal) (old new : List (Option Span)) → IsReachedFrom Begins graph moves reached
-    → AreInside (length graph.points) moves.facts goals → Lowers (BySource source (Tells reached) goals) old new → Lowers (BySource source (CarriedFrom Begins graph moves) goals) old new
-source_done source Begins graph moves reached goals old new is inside low = lowers_same (BySource source (Tells reached) goals) (BySource source (CarriedFrom Begins graph moves) goals) old new (λ k s. (
-  λ (e, (g, among, sink, tells)). (let r = inside g among in (e, (g, among, sink, (is.exact g.point g.fact r.0 r.1).0 tells))),
-  λ (e, (g, among, sink, carried)). (let r = inside g among in (e, (g, among, sink, (is.exact g.point g.fact r.0 r.1).1 carried))),
-)) low
-
 -- ---- one source more
 
-pub plan_none : (graph : Graph) (plan : Plan) (sources : List Span) (table : List (Option Span)) → Lowers (ByPlan graph plan sources 0) table table
-plan_none graph plan sources table = lowers_none (ByPlan graph plan sources 0) table (λ sink source (i, lt, at, rest). omega (arith, lt))
+module _ (Finds : List ℕ → ℕ → Type 0) (begins : List (Vec ℕ)) (sources : List Span) where
+  pub first_none : (table : List (Option Span)) → Lowers (ByFirst Finds begins sources 0) table table
+  first_none table = lowers_none (ByFirst Finds begins sources 0) table (λ sink source (i, lt, at, rest). omega (arith, lt))
 
-pub plan_more : (graph : Graph) (plan : Plan) (sources : List Span) (i : ℕ) (source : Span) (facts : Vec ℕ) (old mid new : List (Option Span)) → slice_get sources i ≡ Some source → slice_get plan.begins.items i ≡ Some facts
-    → Lowers (ByPlan graph plan sources i) old mid → Lowers (BySource source (CarriedFrom (FromEntry facts.items) graph plan.moves) plan.goals) mid new → Lowers (ByPlan graph plan sources (i + 1)) old new
-plan_more graph plan sources i source facts old mid new at facts_at low one = lowers_then (ByPlan graph plan sources i) (BySource source (CarriedFrom (FromEntry facts.items) graph plan.moves) plan.goals) (ByPlan graph plan sources (i + 1)) old mid new (λ k s. (
-  λ (j, lt, s_at, (fs, fs_at, goals)). elim (cases_eq j i) [
-    | inl e ↦ inr (
-      (let q : Some s ≡ Some source = sym s_at ∙ ap (slice_get sources) e ∙ at in cc),
-      let f : fs ≡ facts = (let q : Some fs ≡ Some facts = sym fs_at ∙ ap (slice_get plan.begins.items) e ∙ facts_at in cc) in
-          let P : Vec ℕ → Type 0 = λ x. ByGoals (CarriedFrom (FromEntry x.items) graph plan.moves) plan.goals k in
-          subst P f goals,
-    )
-    | inr ne ↦ inl (j, omega (arith, lt, ne), s_at, (fs, fs_at, goals))
-  ],
-  λ h. elim h [
-    | inl (j, lt, s_at, rest) ↦ (j, omega (arith, lt), s_at, rest)
-    | inr (e, goals) ↦ (i, omega arith, at ∙ ap Some (sym e), (facts, facts_at, goals))
-  ],
-)) low one
+  pub first_more : (i : ℕ) (source : Span) (facts : Vec ℕ) (old mid new : List (Option Span)) → slice_get sources i ≡ Some source → slice_get begins i ≡ Some facts → Lowers (ByFirst Finds begins sources i) old mid
+      → Lowers (λ (k : ℕ) (s : Span). (s ≡ source) × Finds facts.items k) mid new → Lowers (ByFirst Finds begins sources (i + 1)) old new
+  first_more i source facts old mid new at facts_at low one = lowers_then (ByFirst Finds begins sources i) (λ (k : ℕ) (s : Span). (s ≡ source) × Finds facts.items k) (ByFirst Finds begins sources (i + 1)) old mid new (λ k s. (
+    λ (j, lt, s_at, (fs, fs_at, found)). elim (cases_eq j i) [
+      | inl e ↦ inr (
+        (let q : Some s ≡ Some source = sym s_at ∙ ap (slice_get sources) e ∙ at in cc),
+        let f : fs ≡ facts = (let q : Some fs ≡ Some facts = sym fs_at ∙ ap (slice_get begins) e ∙ facts_at in cc) in
+            let P : Vec ℕ → Type 0 = λ x. Finds x.items k in
+            subst P f found,
+      )
+      | inr ne ↦ inl (j, omega (arith, lt, ne), s_at, (fs, fs_at, found))
+    ],
+    λ h. elim h [
+      | inl (j, lt, s_at, rest) ↦ (j, omega (arith, lt), s_at, rest)
+      | inr (e, found) ↦ (i, omega arith, at ∙ ap Some (sym e), (facts, facts_at, found))
+    ],
+  )) low one

@@ -30,8 +30,8 @@ use Rattle.taint_tables.specs.declared.census.Census.{Census}
 use Rattle.taint_tables.specs.Censuses.{IsCensus, texts_of}
 use Rattle.taint_tables.specs.Numbers.{numbers_of}
 use Rattle.taint_tables.specs.Names.{are_variables, name_of, variables_of, names_at, names_among}
-use Rattle.taint_flow.specs.Spreading.{IsExpressionAt}
-use Rattle.taint_flow.proofs.Below.{among_flat, by_kids, pre_here, pre_kid, siblings_in, below_top, below_more, stands_below}
+use Rattle.taint_plan.specs.Spreading.{IsExpressionAt}
+use Rattle.taint_plan.proofs.Below.{among_flat, by_kids, pre_here, pre_kid, siblings_in, below_top, below_more, stands_below}
 use Rattle.taint_flow.proofs.Spread.{IsKnown, AreKnown}
 
 -- ---- what has a value is given to variables
@@ -124,7 +124,7 @@ plain_of nodes p a among =
 
 -- ---- the name of a target stands below it
 
-take_within : {X : Type 0} (k : ℕ) (xs : List X) (x : X) → Among (take k xs) x → Among xs x
+pub take_within : {X : Type 0} (k : ℕ) (xs : List X) (x : X) → Among (take k xs) x → Among xs x
 take_within zero xs x none = absurd none
 take_within (suc k) [] x none = absurd none
 take_within (suc k) (y ∷ ys) x (inl e) = inl e
@@ -135,7 +135,7 @@ drop_within zero xs x there = there
 drop_within (suc k) [] x none = absurd none
 drop_within (suc k) (y ∷ ys) x there = inr (drop_within k ys x there)
 
-part_within : {X : Type 0} (k : ℕ) (xs : List X) (x : X) → Among (part k xs) x → Among xs x
+pub part_within : {X : Type 0} (k : ℕ) (xs : List X) (x : X) → Among (part k xs) x → Among xs x
 part_within k xs x there = drop_within k xs x (take_within 1 (drop k xs) x there)
 
 unless_within : (reach : Reach) (ss : List Numbered) (s : Numbered) → Among (unless_base reach ss) s → Among ss s
@@ -157,13 +157,13 @@ leading_within reach kinds.Cast text ss s there = part_within 1 ss s there
 leading_within reach _ text ss s none = absurd none
 
 -- a node in the tree is a name with that text
-record IsWritten (n : Node) (name : List ℕ) : Type 0 where
+pub record IsWritten (n : Node) (name : List ℕ) : Type 0 where
   pub word : Node
   pub within : Among (pre_of n) word
   pub is : IsTrue (is_name (kind_of word))
   pub text : text_of word ≡ name
 
-abbrev AllWritten : Node → Type 0
+abbrev pub AllWritten : Node → Type 0
 AllWritten n = (at : ℕ) (reach : Reach) (t : Named) → Among (targets reach (record { at = at; node = n })) t → IsWritten n t.name
 
 written_by : (n : Node) → ((k : Node) → Among (kids_of n) k → AllWritten k) → (at : ℕ) (reach : Reach) (t : Named) → (b : Bool) → is_name (kind_of n) ≡ b → Among (targets reach (record { at = at; node = n })) t → IsWritten n t.name
@@ -182,7 +182,7 @@ written_by n ih at reach t false other among =
     let w = ih k.node kid k.at (below (kind_of n)) t is in
     record { word = w.word; within = pre_kid n k.node w.word kid w.within; is = w.is; text = w.text }
 
-written : (n : Node) → AllWritten n
+pub written : (n : Node) → AllWritten n
 written = by_kids AllWritten (λ n ih at reach t among. written_by n ih at reach t (is_name (kind_of n)) refl among)
 
 -- ---- all these names have facts

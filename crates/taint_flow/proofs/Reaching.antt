@@ -18,16 +18,16 @@ use Rattle.flow_reach.proofs.Sorted.{got_among}
 use Rattle.assignments.specs.Assignments.{assigned_of}
 use Rattle.assignments.specs.Seen.{Assigned}
 use Rattle.taint_tables.specs.declared.census.Census.{Census}
-use Rattle.taint_flow.specs.declared.moves.Goal.{Goal}
-use Rattle.taint_flow.specs.declared.plan.Plan.{Plan}
+use Rattle.taint_plan.specs.declared.goal.Goal.{Goal}
+use Rattle.taint_plan.specs.declared.plan.Plan.{Plan}
 use Rattle.taint_tables.specs.declared.sets.TaintSets.{TaintSets}
-use Rattle.taint_flow.specs.Facts.{AfterFact, AfterFacts, PointFact, Same}
+use Rattle.taint_plan.specs.Facts.{AfterFact, AfterFacts, PointFact, Same}
 use Rattle.taint_tables.specs.Taints.{IsFactOf}
 use Rattle.taint_tables.specs.Numbers.{Numbering}
 use Rattle.taint_flow.specs.Found.{AreInside, ByPlan, FromEntry}
 use Rattle.taint_tables.specs.Numbers.{numbers_of}
 use Rattle.taint_flow.specs.Lowest.{Lowers}
-use Rattle.taint_flow.specs.Plans.{IsPlan}
+use Rattle.taint_plan.specs.Plans.{IsPlan}
 use Rattle.taint_flow.specs.Still.{AreReachable, AreStill, BySources, EdgesFit, IsStill, KeepsFacts, LeadTo, Reachable}
 use Rattle.taint_flow.proofs.Lowest.{lowers_same, lowers_then}
 use Rattle.taint_flow.proofs.Routes.{some_at}

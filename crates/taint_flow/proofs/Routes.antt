@@ -16,8 +16,8 @@ use Rattle.flow_reach.specs.Carried.{Stop, LeadsFrom, TurnsBy}
 use Rattle.trace_path.specs.Trace.{points_of as places_of}
 use Rattle.taint_tables.specs.declared.sets.TaintSets.{TaintSets}
 use Rattle.taint_tables.specs.Numbers.{Numbering}
-use Rattle.taint_flow.specs.Facts.{BeginsBy, Brought, PointFact}
-use Rattle.taint_flow.specs.SinkGoals.{outermost_among, TaintsAny}
+use Rattle.taint_plan.specs.Facts.{BeginsBy, Brought, PointFact}
+use Rattle.taint_plan.specs.SinkGoals.{outermost_among, TaintsAny}
 use Rattle.taint_flow.specs.Taint.{AtEntry, IsPath, HitsAt}
 use Rattle.flow_reach.proofs.Sorted.{got_among, among_got}
 use Rattle.taint_flow.proofs.Entry.{entry_first, only_first}

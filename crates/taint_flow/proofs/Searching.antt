@@ -13,13 +13,13 @@ use Rattle.flow_graph.specs.Units.{points_of, Goes, IsGraphOf}
 use Rattle.flow_reach.specs.Carried.{CarriedFrom}
 use Rattle.taint_form.specs.Expressions.{has_span, same_span}
 use Rattle.taint_tables.specs.declared.census.Census.{Census}
-use Rattle.taint_flow.specs.declared.moves.Goal.{Goal}
-use Rattle.taint_flow.specs.declared.plan.Plan.{Plan}
+use Rattle.taint_plan.specs.declared.goal.Goal.{Goal}
+use Rattle.taint_plan.specs.declared.plan.Plan.{Plan}
 use Rattle.taint_tables.specs.declared.sets.TaintSets.{TaintSets}
 use Rattle.taint_tables.specs.Censuses.{AreNumbered, IsCensus}
 use Rattle.taint_tables.specs.Numbers.{numbers_of}
 use Rattle.taint_flow.specs.Lowest.{HitsIn, Lowers}
-use Rattle.taint_flow.specs.Plans.{IsPlan}
+use Rattle.taint_plan.specs.Plans.{IsPlan}
 use Rattle.taint_flow.specs.Found.{ByGoals, ByPlan, FromEntry}
 use Rattle.taint_tables.specs.Names.{spans_among}
 use Rattle.taint_flow.specs.Taint.{AtEntry}
@@ -53,7 +53,7 @@ apart_by census numbered k source at = record {
   names = λ n m i has got. (let q : Some n ≡ Some m = sym ((numbered.names n i).0 has) ∙ (numbered.names m i).0 got in cc);
 }
 
-spans_has : (ss : List Span) (s : Span) → has_span ss s ≡ true → Among ss s
+pub spans_has : (ss : List Span) (s : Span) → has_span ss s ≡ true → Among ss s
 spans_has [] s e = absurd cc
 spans_has (x ∷ xs) s e = by (spans_has xs s) (same_span x s) refl e
   where

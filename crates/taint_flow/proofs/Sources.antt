@@ -17,12 +17,12 @@ use Rattle.assignments.specs.Declarators.{parameters_of}
 use Rattle.assignments.specs.Seen.{Assigned}
 use Rattle.taint_tables.specs.declared.sets.TaintSets.{TaintSets}
 use Rattle.taint_tables.specs.Names.{span_here, spans_at, spans_among}
-use Rattle.taint_flow.specs.Spreading.{Tainted, Gives, AfterNode, AfterNodes, After}
+use Rattle.taint_plan.specs.Spreading.{Tainted, Gives, AfterNode, AfterNodes, After}
 use Rattle.taint_flow.specs.Taint.{AtEntry, Left, IsPath, HitsAt}
 use Rattle.taint_flow.proofs.Assigned.{value_below}
-use Rattle.taint_flow.proofs.Below.{among_flat, IsBelow, below_top, below_more, stands_below}
+use Rattle.taint_plan.proofs.Below.{among_flat, IsBelow, below_top, below_more, stands_below}
 use Rattle.taint_flow.proofs.Exposed.{exposed_below}
-use Rattle.taint_flow.proofs.Outermost.{outermost_below}
+use Rattle.taint_plan.proofs.Outermost.{outermost_below}
 use Rattle.taint_flow.proofs.Spread.{path_there}
 
 pub among_map : {X Y : Type 0} (f : X → Y) (xs : List X) (x : X) → Among xs x → Among (map f xs) (f x)

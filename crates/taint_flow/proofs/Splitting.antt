@@ -11,17 +11,17 @@ use Rattle.flow_reach.specs.declared.moves.Move.{Move}
 use Rattle.flow_reach.specs.declared.moves.Moves.{Moves}
 use Rattle.flow_reach.specs.declared.reached.Reached.{Reached}
 use Rattle.flow_reach.specs.Carried.{CarriedFrom, LeadsFrom, Stop, TurnsBy}
-use Rattle.flow_reach.specs.Reached.{IsReachedFrom}
+use Rattle.flow_reach.specs.Reached.{IsReachedFrom, Tells}
 use Rattle.flow_reach.proofs.Sorted.{got_among}
 use Rattle.flow_reach.proofs.Steps.{both_ways}
-use Rattle.taint_flow.specs.declared.moves.Goal.{Goal}
-use Rattle.taint_flow.specs.declared.plan.Plan.{Plan}
+use Rattle.taint_plan.specs.declared.goal.Goal.{Goal}
+use Rattle.taint_plan.specs.declared.plan.Plan.{Plan}
 use Rattle.taint_flow.specs.declared.split.Split.{Split}
-use Rattle.taint_flow.specs.Found.{AreFew, AreInside, BySource, FromEntry}
+use Rattle.taint_flow.specs.Found.{AreFew, AreInside, BySource, CarriesName, FromEntry}
 use Rattle.taint_flow.specs.Lowest.{Lowers}
-use Rattle.taint_flow.specs.Splits.{AddsName, AreNames, EitherTells, IsSplit, ListHas, StartsBy}
+use Rattle.taint_flow.specs.Splits.{AddsName, AreNames, IsSplit, ListHas, StartsBy}
 use Rattle.taint_flow.specs.Still.{EdgesFit, KeepsFacts, Reachable}
-use Rattle.taint_flow.proofs.Lowest.{lowers_same}
+use Rattle.taint_flow.proofs.Lowest.{lowers_none, lowers_same}
 use Rattle.taint_flow.proofs.Reaching.{own_to, own_from}
 use Rattle.taint_flow.proofs.Routes.{some_at}
 
@@ -122,36 +122,41 @@ module _ (graph : Graph) (plan : Plan) (sources : ℕ) (keeps : KeepsFacts graph
         let (row, row_at) = some_at plan.moves.rows last.point (let less = slice_get_within names.rows last.point named named_at in omega (arith, less, are.rows)) in
         (record { point = last.point; fact = sources + last.fact } ∷ stops, (carried, edge, (row, row_at, (are.each last.point row named row_at named_at last.fact name).0 turns)))
 
-    -- the source's own fact goes everywhere, and its names go from where it adds them
-    pub split_is : (i fact : ℕ) → CarriedFrom (FromEntry own.items) graph plan.moves i fact ↔ Parts i fact
-    split_is i fact = (
-      λ (stops, leads). to stops i fact leads,
-      λ h. elim h [
-        | inl (e, (path, led)) ↦ (let P : ℕ → Type 0 = λ f. CarriedFrom (FromEntry own.items) graph plan.moves i f in subst P (sym e) (own_from graph plan sources keeps edges k own own_at lt path i led))
-        | inr (name, e, (stops, leads)) ↦ (let P : ℕ → Type 0 = λ f. CarriedFrom (FromEntry own.items) graph plan.moves i f in subst P (sym e) (from stops i name leads))
+    -- names go from where the source adds them
+    pub names_are : (i name : ℕ) → CarriesName own.items graph plan.moves sources i name ↔ CarriedFrom Starts graph names i name
+    names_are i name = (
+      λ (stops, leads). elim (to stops i (sources + name) leads) [
+        | inl (e, reach) ↦ absurd (omega (arith, e, lt))
+        | inr (other, e, carried) ↦ (let q : other ≡ name = omega (arith, e) in let P : ℕ → Type 0 = λ n. CarriedFrom Starts graph names i n in subst P q carried)
       ],
+      λ (stops, leads). from stops i name leads,
     )
+
+-- nothing is carried where nothing begins
+none_lead : (Begins : ℕ → ℕ → Type 0) (graph : Graph) (moves : Moves) → ((point fact : ℕ) → Begins point fact → ⊥) → (stops : List Stop) (i fact : ℕ) → LeadsFrom Begins graph moves stops i fact → ⊥
+none_lead Begins graph moves none [] i fact begins = none i fact begins
+none_lead Begins graph moves none (last ∷ earlier) i fact (leads, edge, turns) = none_lead Begins graph moves none earlier last.point last.fact leads
 
 -- ---- one source
 
--- what is told of goals is what some route carries
-pub either_done : (graph : Graph) (plan : Plan) (split : Split) → KeepsFacts graph plan split.sources → IsSplit graph plan split.sources split → (k : ℕ) → k < split.sources → (own : Vec ℕ) → slice_get plan.begins.items k ≡ Some own → (added : List (ℕ × ℕ))
-    → ((at : ℕ × ℕ) → Among added at ↔ AddsName graph plan.moves split.sources k at) → (names : Reached) → IsReachedFrom (StartsBy graph split.sources own.items added) graph split.names names → AreInside (length graph.points) plan.moves.facts plan.goals → (source : Span) (old new : List (Option Span))
-    → Lowers (BySource source (EitherTells split.reached names split.sources k) plan.goals) old new → Lowers (BySource source (CarriedFrom (FromEntry own.items) graph plan.moves) plan.goals) old new
-either_done graph plan split keeps is k lt own own_at added exact names named inside source old new low = lowers_same (BySource source (EitherTells split.reached names split.sources k) plan.goals) (BySource source (CarriedFrom (FromEntry own.items) graph plan.moves) plan.goals) old new (λ sink s. (
-  λ (e, (g, among, same, tells)). (e, (g, among, same, (told g among).0 tells)),
-  λ (e, (g, among, same, carried)). (e, (g, among, same, (told g among).1 carried)),
-)) low
-  where
-    told : (g : Goal) → Among plan.goals g → EitherTells split.reached names split.sources k g.point g.fact ↔ CarriedFrom (FromEntry own.items) graph plan.moves g.point g.fact
-    told g among =
-        let r = inside g among in
-        let own_is = is.reached.exact g.point r.0 in
-        let split_as = split_is graph plan split.sources keeps is.reached.edges split.names is.names k lt own own_at added exact g.point g.fact in
-        let small : (name : ℕ) → g.fact ≡ split.sources + name → name < split.names.facts = λ name e. omega (arith, e, r.1, is.names.facts) in (
-          λ h. split_as.1 (elim h [ inl (e, tells) ↦ inl (e, own_is.0 tells) | inr (name, e, tells) ↦ inr (name, e, (named.exact g.point name r.0 (small name e)).0 tells) ]),
-          λ h. elim (split_as.0 h) [ inl (e, reach) ↦ inl (e, own_is.1 reach) | inr (name, e, carried) ↦ inr (name, e, (named.exact g.point name r.0 (small name e)).1 carried) ],
-        )
+module _ (graph : Graph) (plan : Plan) (split : Split) (keeps : KeepsFacts graph plan split.sources) (is : IsSplit graph plan split.sources split) (k : ℕ) (lt : k < split.sources) (own : Vec ℕ) (own_at : slice_get plan.begins.items k ≡ Some own) (added : List (ℕ × ℕ))
+    (exact : (at : ℕ × ℕ) → Among added at ↔ AddsName graph plan.moves split.sources k at) (named : List Goal) (source : Span) where
+  abbrev carries : (point name : ℕ) → CarriesName own.items graph plan.moves split.sources point name ↔ CarriedFrom (StartsBy graph split.sources own.items added) graph split.names point name
+  carries = names_are graph plan split.sources keeps is.reached.edges split.names is.names k lt own own_at added exact
+
+  -- what is told of goals is what some route carries
+  pub names_done : (names : Reached) → IsReachedFrom (StartsBy graph split.sources own.items added) graph split.names names → AreInside (length graph.points) split.names.facts named → (old new : List (Option Span))
+      → Lowers (BySource source (Tells names) named) old new → Lowers (BySource source (CarriesName own.items graph plan.moves split.sources) named) old new
+  names_done names told inside old new low = lowers_same (BySource source (Tells names) named) (BySource source (CarriesName own.items graph plan.moves split.sources) named) old new (λ sink s. (
+    λ (e, (g, among, same, tells)). (e, (g, among, same, (let r = inside g among in (carries g.point g.fact).1 ((told.exact g.point g.fact r.0 r.1).0 tells)))),
+    λ (e, (g, among, same, carried)). (e, (g, among, same, (let r = inside g among in (told.exact g.point g.fact r.0 r.1).1 ((carries g.point g.fact).0 carried)))),
+  )) low
+
+  -- a source that adds no name carries none
+  pub names_none : ((point name : ℕ) → StartsBy graph split.sources own.items added point name → ⊥) → (table : List (Option Span)) → Lowers (BySource source (CarriesName own.items graph plan.moves split.sources) named) table table
+  names_none none table = lowers_none (BySource source (CarriesName own.items graph plan.moves split.sources) named) table (λ sink s (e, (g, among, same, carried)).
+      let (stops, leads) = (carries g.point g.fact).0 carried in
+      none_lead (StartsBy graph split.sources own.items added) graph split.names none stops g.point g.fact leads)
 
 -- what stands in the list of a source
 module _ (graph : Graph) (plan : Plan) (split : Split) (keeps : KeepsFacts graph plan split.sources) (is : IsSplit graph plan split.sources split) (k : ℕ) (lt : k < split.sources) (list : Vec (ℕ × ℕ)) (list_is : slice_get split.added.items k ≡ Some list) where

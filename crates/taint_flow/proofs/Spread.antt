@@ -16,8 +16,8 @@ use Rattle.taint_tables.specs.declared.sets.TaintSets.{TaintSets}
 use Rattle.taint_tables.specs.declared.sets.Carry.{Carry}
 use Rattle.taint_tables.specs.Numbers.{Numbering}
 use Rattle.taint_tables.specs.Taints.{IsFactOf, Taints}
-use Rattle.taint_flow.specs.Facts.{TaintsValue, AfterFact, AfterFacts, Same, PointFact, Brought}
-use Rattle.taint_flow.specs.Spreading.{Tainted, Gives, AfterNode, AfterNodes, After, IsExpressionAt}
+use Rattle.taint_plan.specs.Facts.{TaintsValue, AfterFact, AfterFacts, Same, PointFact, Brought}
+use Rattle.taint_plan.specs.Spreading.{Tainted, Gives, AfterNode, AfterNodes, After, IsExpressionAt}
 use Rattle.flow_graph.specs.Units.{points_of}
 use Rattle.taint_flow.specs.Taint.{AtEntry, Left, IsPath}
 

@@ -13,11 +13,11 @@ use Rattle.graph_form.specs.Sets.{Among}
 use Rattle.flow_graph.specs.Units.{points_of}
 use Rattle.flow_reach.specs.Carried.{AtEntry as FromStart}
 use Rattle.trace_path.specs.Trace.{IsTrace, points_of as places_of}
-use Rattle.taint_flow.specs.declared.moves.Goal.{Goal}
+use Rattle.taint_plan.specs.declared.goal.Goal.{Goal}
 use Rattle.taint_flow.specs.declared.moves.UnitMoves.{UnitMoves}
 use Rattle.taint_tables.specs.declared.sets.TaintSets.{TaintSets}
 use Rattle.taint_tables.specs.Numbers.{Numbering}
-use Rattle.taint_flow.specs.SinkGoals.{IsGoal, outermost_among, TaintsAny}
+use Rattle.taint_plan.specs.SinkGoals.{IsGoal, outermost_among, TaintsAny}
 use Rattle.taint_flow.specs.Taint.{AtEntry}
 use Rattle.taint_flow.specs.Traces.{goals_of, IsHitPath, TracesAreHits}
 use Rattle.taint_flow.proofs.Routes.{AreMoves, path_hit, hit_path}

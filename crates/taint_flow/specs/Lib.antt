@@ -1,14 +1,9 @@
-pub mod Begins
-pub mod Facts
+pub mod Bounds
 pub mod Found
 pub mod Lowest
-pub mod Plans
-pub mod RowFacts
 pub mod Scoped
-pub mod SinkGoals
 pub mod Sizes
 pub mod Splits
-pub mod Spreading
 pub mod Still
 pub mod Taint
 pub mod Traces

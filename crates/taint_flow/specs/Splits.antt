@@ -1,4 +1,4 @@
--- A search for one source, split: its own fact goes everywhere, and then only the names are followed that it adds.
+-- A search for one source, split: its own fact goes everywhere, so only the names are followed that it adds.
 use Rattle.std.specs.Prelude.{◌≡◌, ◌⊎◌, ◌↔◌, ◌+◌, ◌<◌, ◌≤◌, ℕ, zero, suc, List, [], ◌∷◌, length, slice_get, Some}
 use Rattle.std.specs.Global.{Vec}
 use Rattle.graph_form.specs.declared.graph.Graph.{Graph}
@@ -8,9 +8,8 @@ use Rattle.flow_reach.specs.declared.moves.Move.{Move}
 use Rattle.flow_reach.specs.declared.moves.Moves.{Moves}
 use Rattle.flow_reach.specs.declared.reached.Reached.{Reached}
 use Rattle.flow_reach.specs.Carried.{Fits, TurnsBy}
-use Rattle.flow_reach.specs.Reached.{Tells}
 use Rattle.flow_reach.specs.Spread.{IsReady}
-use Rattle.taint_flow.specs.declared.plan.Plan.{Plan}
+use Rattle.taint_plan.specs.declared.plan.Plan.{Plan}
 use Rattle.taint_flow.specs.declared.split.Split.{Split}
 use Rattle.taint_flow.specs.Still.{AreReachable, Reachable}
 
@@ -54,8 +53,3 @@ pub record IsSplit (graph : Graph) (plan : Plan) (sources : ℕ) (split : Split)
   pub ready : IsReady graph split.names split.ready
   pub reached : AreReachable graph split.reached
   pub added : AreAdded graph plan.moves sources split.added.items
-
--- the fact is the source's own, at a point that is reached, or that of a name which the other answer has there
-abbrev pub EitherTells : Reached → Reached → ℕ → ℕ → ℕ → ℕ → Type 0
-EitherTells reached names sources source point fact =
-    ((fact ≡ source) × Tells reached point 0) ⊎ ((name : ℕ) × (fact ≡ sources + name) × Tells names point name)

@@ -10,8 +10,8 @@ use Rattle.flow_reach.specs.declared.moves.Moves.{Moves}
 use Rattle.flow_reach.specs.declared.reached.Reached.{Reached}
 use Rattle.flow_reach.specs.Carried.{TurnsBy}
 use Rattle.flow_reach.specs.Reached.{Tells}
-use Rattle.taint_flow.specs.declared.moves.Goal.{Goal}
-use Rattle.taint_flow.specs.declared.plan.Plan.{Plan}
+use Rattle.taint_plan.specs.declared.goal.Goal.{Goal}
+use Rattle.taint_plan.specs.declared.plan.Plan.{Plan}
 
 -- the row changes nothing
 abbrev pub IsStill : Move → Type 0

@@ -13,7 +13,7 @@ use Rattle.assignments.specs.Declarators.{parameters_of}
 use Rattle.taint_flow.specs.declared.hit.TaintHit.{TaintHit}
 use Rattle.taint_tables.specs.declared.sets.TaintSets.{TaintSets}
 use Rattle.taint_form.specs.Expressions.{outermost}
-use Rattle.taint_flow.specs.Spreading.{After, Tainted}
+use Rattle.taint_plan.specs.Spreading.{After, Tainted}
 
 -- these points of the unit, the last one first, lead from its entry to the point
 abbrev pub IsPath : Node → ℕ → List Point → Point → Type 0

@@ -7,7 +7,7 @@ use Rattle.graph_form.specs.declared.graph.Point.{Point}
 use Rattle.graph_form.specs.Sets.{Among}
 use Rattle.trace_path.specs.Trace.{IsTrace}
 use Rattle.taint_form.specs.Tables.{Holds}
-use Rattle.taint_flow.specs.declared.moves.Goal.{Goal}
+use Rattle.taint_plan.specs.declared.goal.Goal.{Goal}
 use Rattle.taint_flow.specs.declared.moves.UnitMoves.{UnitMoves}
 use Rattle.taint_flow.specs.declared.tables.SetTables.{SetTables}
 use Rattle.taint_tables.specs.declared.sets.TaintSets.{TaintSets}

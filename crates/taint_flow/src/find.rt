@@ -1,9 +1,8 @@
 //! The hits of a file.
 
-ghost use Rattle.std.specs.Prelude.{◌≡◌, ◌≤◌, ◌<◌, ◌+◌, ◌*◌, ◌↔◌, ℕ, IsTrue, List as list, [], IfOk, OnOk, Err, MatchOption, length};
+ghost use Rattle.std.specs.Prelude.{◌≡◌, ◌≤◌, ◌<◌, ◌+◌, ◌*◌, ℕ, List as list, IfOk, OnOk, Err, MatchOption, length};
 ghost use Rattle.node_tree.specs.declared.node.Node.{Node as a_node};
 ghost use Rattle.node_tree.specs.declared.span.Span.{Span as a_span};
-ghost use Rattle.node_tree.specs.Numbers.{count_of};
 ghost use Rattle.node_tree.specs.Tree.{pre_of};
 ghost use Rattle.unit_names.specs.Scopes.{AreScopes};
 ghost use Rattle.taint_form.specs.Tables.{Holds};
@@ -21,6 +20,7 @@ use crate::hit::TaintHit;
 use crate::least::Least;
 use crate::rule::Rule;
 use crate::search::search;
+use crate::sizes::{Bounds, is_idle, is_large};
 use node_tree::{List, Memory, Node};
 use point_nodes::IndexedTree;
 use std::alloc::Global;
@@ -28,34 +28,15 @@ use taint_form::SpanSet;
 use taint_tables::{Census, Places, TaintSets, census_of};
 use unit_names::{Scope, scopes_of};
 
-// The most points times facts of a unit.
-const MOST: usize = 50_000_000;
-
-// No unit of a tree with so many nodes has more points than that.
-const FEW_NODES: u32 = 16_666_666;
-
-// Whether no source is looked for, in a tree so small that no unit can be too large.
-fn is_idle(root: &Node, sets: &TaintSets) -> bool
-    ensures sources { IsTrue result → sets.now.sources ≡ [] }
-    ensures few { IsTrue result → count_of root.now ≤ 16666666 }
-{
-    if sets.sources.len() > 0 {
-        return false;
-    }
-    match root.count() {
-        Some(count) => count <= FEW_NODES,
-        None => false,
-    }
-}
-
-/// The sinks that are hit, each with the least source that hits it. In a small tree nothing is made ready where there are no sources.
+/// The sinks that are hit, each with the least source that hits it. In a small tree nothing is made ready where there are no sources
+/// or no sinks.
 pub fn taint(alloc: Global, root: &Node, sets: &TaintSets) -> Result<List<TaintHit>, TaintFault>
     ensures hits { IfOk result (AreHits root.now sets.now) }
     ensures only { (l : list hit) → AreHits root.now sets.now l → IfOk result (λ found. found ≡ l) }
     ensures fits { IfOk result (λ _. NoneLarge root.now sets.now) }
     ensures large { (at : ℕ) → result ≡ Err (TooLarge at) → FirstLarge root.now sets.now at }
 {
-    if is_idle(root, sets) {
+    if is_idle(Bounds::of(root), sets) {
         return Ok(List::new(alloc));
     }
     let tree = IndexedTree::of(alloc, root)?;
@@ -107,22 +88,6 @@ fn start_of(tree: &IndexedTree<'_>, unit: u32) -> u32
         Some(spot) => spot.node.span.from,
         None => 0,
     }
-}
-
-// Whether a unit with so many points, names and sources is too large.
-fn is_large(points: usize, names: usize, sources: usize) -> bool
-    ensures { IsTrue result ↔ (50000000 < points * (names * sources + 1)) }
-{
-    let Some(pairs) = names.checked_mul(sources) else {
-        return points > 0;
-    };
-    if pairs >= MOST {
-        return points > 0;
-    }
-    if points > MOST {
-        return true;
-    }
-    points * (pairs + 1) > MOST
 }
 
 // Fails where a unit with so many points, names and sources is too large.

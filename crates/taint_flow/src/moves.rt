@@ -2,14 +2,7 @@
 
 use flow_reach::Moves;
 use node_tree::List;
-
-/// The sink with that place is hit where a path carries the fact to the point.
-#[derive(Clone, Copy)]
-pub struct Goal {
-    pub sink: u64,
-    pub point: u32,
-    pub fact: u32,
-}
+use taint_plan::Goal;
 
 /// What the points of a unit do to the facts, and the goals of the sinks. Fact 0 is carried on every path, and the others are the
 /// names of the unit.

@@ -5,26 +5,27 @@ ghost use Rattle.std.specs.Global.{Vec as vec};
 ghost use Rattle.node_tree.specs.declared.node.Node.{Node as a_node};
 ghost use Rattle.graph_form.specs.declared.graph.Graph.{Graph as a_graph};
 ghost use Rattle.graph_form.specs.Sets.{Among};
-ghost use Rattle.flow_reach.specs.Carried.{CarriedFrom, Pairs};
+ghost use Rattle.flow_reach.specs.Carried.{Pairs};
+ghost use Rattle.flow_reach.specs.Reached.{Tells};
 ghost use Rattle.flow_reach.specs.Spread.{IsTable, RowHas};
 ghost use Rattle.taint_tables.specs.Censuses.{IsCensus};
 ghost use Rattle.taint_flow.specs.Lowest.{HitsIn, Lowers};
-ghost use Rattle.taint_flow.specs.Found.{AreFew, AreInside, AreOfSinks, ByPlan, BySource, FromEntry, IsRule};
+ghost use Rattle.taint_flow.specs.Found.{AreFew, AreInside, AreOfSinks, ByNames, ByPlan, BySource, CarriesName, IsRule};
 ghost use Rattle.taint_flow.specs.Scoped.{IsScope};
-ghost use Rattle.taint_flow.specs.Splits.{EitherTells, IsSplit, StartsBy};
+ghost use Rattle.taint_flow.specs.Splits.{IsSplit, StartsBy};
 ghost use Rattle.taint_flow.specs.Still.{KeepsFacts};
 
+use crate::apart::{named_goals, own_goals};
 use crate::least::Least;
-use crate::moves::Goal;
-use crate::plan::{Plan, plan_of};
 use crate::rule::Rule;
 use crate::split::Split;
-use crate::still::search_still;
+use crate::still::{note_reached, search_still};
 use flow_reach::{Reached, reach_from};
 use graph_form::Graph;
 use node_tree::{Memory, Span};
 use point_nodes::IndexedTree;
 use std::alloc::Global;
+use taint_plan::{Goal, Plan, plan_of};
 use taint_tables::{Census, Look};
 use unit_names::Scope;
 
@@ -98,53 +99,28 @@ fn starts_of(
     Ok(starts)
 }
 
-// Whether the goal is reached by the source with that number, where these names are reached from where it adds them.
-fn is_reached(split: &Split, names: &Reached, source: usize, goal: &Goal) -> bool
-    requires one { 0 < split.now.reached.facts }
-    requires source { source < split.now.sources }
-    requires point { goal.now.point < split.now.reached.points }
-    requires point_named { goal.now.point < names.now.points }
-    requires fact { goal.now.fact < split.now.sources + names.now.facts }
-    ensures { IsTrue result ↔
-        EitherTells split.now.reached names.now split.now.sources source goal.now.point goal.now.fact }
-{
-    if goal.fact < split.sources {
-        return goal.fact as usize == source && split.reached.has(goal.point, 0);
-    }
-    names.has(goal.point, goal.fact - split.sources)
-}
-
-// Notes the goals that are reached by the source with that number.
-fn note(
-    split: &Split,
-    names: &Reached,
-    number: usize,
-    goals: &[Goal],
-    source: Span,
-    least: &mut Least,
-)
-    requires one { 0 < split.now.reached.facts }
-    requires number { number < split.now.sources }
-    requires goals { AreInside split.now.reached.points (split.now.sources + names.now.facts) goals.now }
-    requires points { names.now.points ≡ split.now.reached.points }
+// Notes the goals of names that are reached, for this source.
+fn note(names: &Reached, goals: &[Goal], source: Span, least: &mut Least)
+    requires goals { AreInside names.now.points names.now.facts goals.now }
     requires sinks { AreOfSinks (length least.old.sources.items) goals.now }
-    ensures { Lowers (BySource source
-        (EitherTells split.now.reached names.now split.now.sources number) goals.now)
+    ensures { Lowers (BySource source (Tells names.now) goals.now)
         least.old.sources.items least.new.sources.items }
 {
     for goal in goals {
-        if is_reached(split, names, number, goal) {
+        if names.has(goal.point, goal.fact) {
             least.note(goal.sink, source);
         }
     }
 }
 
-// Notes the goals to which some route carries facts that begin with the source of that number.
+// Notes the goals of names to which some route carries facts that begin with the source of that number. Where the source adds no
+// name there are none.
 fn search_source(
     alloc: Global,
     graph: &Graph,
     plan: &Plan,
     split: &Split,
+    named: &[Goal],
     number: usize,
     source: Span,
     least: &mut Least,
@@ -153,21 +129,50 @@ fn search_source(
     requires split { IsSplit graph.now plan.now split.now.sources split.now }
     requires number { number < split.now.sources }
     requires begins { AreFew plan.now.moves.facts plan.now.begins.items }
-    requires goals { AreInside (length graph.now.points) plan.now.moves.facts plan.now.goals }
-    requires sinks { AreOfSinks (length least.old.sources.items) plan.now.goals }
+    requires goals { AreInside (length graph.now.points) split.now.names.facts named.now }
+    requires sinks { AreOfSinks (length least.old.sources.items) named.now }
     ensures { (begins : vec ℕ) → slice_get plan.now.begins.items number ≡ Some begins → OnOk result
-        (Lowers (BySource source (CarriedFrom (FromEntry begins.items) graph.now plan.now.moves)
-        plan.now.goals) least.old.sources.items least.new.sources.items) }
+        (Lowers (BySource source (CarriesName begins.items graph.now plan.now.moves
+        split.now.sources) named.now) least.old.sources.items least.new.sources.items) }
 {
     let begins = &plan.begins[number];
     let added = &split.added[number];
     let starts = starts_of(alloc, split.sources, begins, &split.ready.after, added)?;
+    if starts.is_empty() {
+        return Ok(());
+    }
     let names = reach_from(alloc, graph, &split.names, &split.ready, &starts)?;
-    note(split, &names, number, plan.goals.as_slice(), source, least);
+    note(&names, named, source, least);
     Ok(())
 }
 
-// Notes the goals to which some route carries facts that begin with one of these sources.
+// Notes the goals of names to which some route carries facts that begin with one of these sources.
+fn search_names(
+    alloc: Global,
+    graph: &Graph,
+    plan: &Plan,
+    split: &Split,
+    named: &[Goal],
+    sources: &[Span],
+    least: &mut Least,
+) -> Result<(), Memory>
+    requires keeps { KeepsFacts graph.now plan.now split.now.sources }
+    requires split { IsSplit graph.now plan.now split.now.sources split.now }
+    requires sources { length sources.now ≡ split.now.sources }
+    requires begins { AreFew plan.now.moves.facts plan.now.begins.items }
+    requires goals { AreInside (length graph.now.points) split.now.names.facts named.now }
+    requires sinks { AreOfSinks (length least.old.sources.items) named.now }
+    ensures { OnOk result (Lowers (ByNames graph.now plan.now split.now.sources named.now
+        sources.now (length sources.now)) least.old.sources.items least.new.sources.items) }
+{
+    for (number, source) in sources.iter().enumerate() {
+        search_source(alloc, graph, plan, split, named, number, *source, least)?;
+    }
+    Ok(())
+}
+
+// Notes the goals to which some route carries facts that begin with one of these sources. The facts of the sources themselves are
+// carried on every path.
 fn search_plan(
     alloc: Global,
     graph: &Graph,
@@ -184,9 +189,10 @@ fn search_plan(
         least.old.sources.items least.new.sources.items) }
 {
     let split = Split::of(alloc, graph, plan, sources.len())?;
-    for (number, source) in sources.iter().enumerate() {
-        search_source(alloc, graph, plan, &split, number, *source, least)?;
-    }
+    let own = own_goals(alloc, split.sources, plan.goals.as_slice())?;
+    let named = named_goals(alloc, split.sources, plan.goals.as_slice())?;
+    note_reached(&split.reached, &own, sources, least);
+    search_names(alloc, graph, plan, &split, &named, sources, least)?;
     Ok(())
 }
 

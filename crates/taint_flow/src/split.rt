@@ -6,12 +6,12 @@ ghost use Rattle.graph_form.specs.Sets.{Among};
 ghost use Rattle.taint_flow.specs.Splits.{AreAdded, AreNames, IsSplit, ListHas, TurnsNames};
 ghost use Rattle.taint_flow.specs.Still.{AreReachable, KeepsFacts, Reachable};
 
-use crate::plan::{Plan, counted};
 use crate::still::reachable;
 use flow_reach::{Move, Moves, Reached, Ready, fits, prepare};
 use graph_form::Graph;
 use node_tree::{List, Memory};
 use std::alloc::Global;
+use taint_plan::{Plan, counted};
 
 /// What points do to names, the points that are reached, and for each source the points among them that add names with it, each
 /// with the name.

@@ -8,12 +8,11 @@ ghost use Rattle.taint_flow.specs.Lowest.{Lowers};
 ghost use Rattle.taint_flow.specs.Still.{AreReachable, AreStill, BySources, KeepsFacts};
 
 use crate::least::Least;
-use crate::moves::Goal;
-use crate::plan::Plan;
 use flow_reach::{Move, Moves, Reached, fits, reach};
 use graph_form::Graph;
 use node_tree::{List, Memory, Span};
 use std::alloc::Global;
+use taint_plan::{Goal, Plan};
 
 // Moves of so many points that change nothing, of one fact, which begins at the entry.
 fn still(alloc: Global, points: usize) -> Result<Moves, Memory>
@@ -48,8 +47,8 @@ pub fn reachable(alloc: Global, graph: &Graph) -> Result<Reached, Memory>
     Ok(reached)
 }
 
-// Notes the goals at points that are reached, each with the source that its fact is.
-fn note_reached(reached: &Reached, goals: &[Goal], sources: &[Span], least: &mut Least)
+/// Notes the goals at points that are reached, each with the source that its fact is.
+pub fn note_reached(reached: &Reached, goals: &[Goal], sources: &[Span], least: &mut Least)
     requires fact { 0 < reached.now.facts }
     requires goals { AreInside reached.now.points (length sources.now) goals.now }
     requires sinks { AreOfSinks (length least.old.sources.items) goals.now }

@@ -13,13 +13,13 @@ ghost use Rattle.taint_flow.specs.Sizes.{names_of};
 ghost use Rattle.taint_flow.specs.Traces.{TracesAreHits, AreGoals, AreTablesOf};
 
 use crate::moves::UnitMoves;
-use crate::plan::plan_of;
 use crate::tables::SetTables;
 use flow_reach::fits;
 use node_tree::{Memory, Span};
 use point_nodes::IndexedTree;
 use std::alloc::Global;
 use taint_form::{SpanSet, Table};
+use taint_plan::plan_of;
 use taint_tables::{Census, Look, census_of};
 use unit_names::Scope;
 

@@ -6,13 +6,12 @@ ghost use Rattle.unit_names.specs.Scopes.{AreScopes};
 ghost use Rattle.taint_flow.specs.declared.fault.TaintFault.TheVariants.{TooLarge};
 ghost use Rattle.taint_flow.specs.Taint.{AreHits};
 ghost use Rattle.taint_flow.specs.Sizes.{NoneLarge, FirstLarge};
-ghost use Rattle.taint_judge.specs.Flows.{IsFlowIn};
 
-use node_tree::{FileView, List, Memory, Node};
+use node_tree::{List, Memory, Node};
 use point_nodes::IndexedTree;
 use std::alloc::Global;
 use std::marker::Model;
-use taint_flow::{TaintFault, TaintHit, TaintSets, taint, taint_in};
+use taint_flow::{TaintFault, TaintHit, TaintSets, taint_in};
 use unit_names::{Scope, scopes_of};
 
 /// A tree in which many rules follow data: its nodes are found by number, and its units have their graphs. Contracts see the tree.
@@ -64,31 +63,12 @@ impl<'t> FlowTree<'t> {
         self.units.as_slice()
     }
 
-    // The sinks that are hit, each with the least source that hits it.
-    fn hits(&self, alloc: Global, sets: &TaintSets) -> Result<List<TaintHit>, TaintFault>
+    /// The sinks that are hit, each with the least source that hits it.
+    pub fn hits(&self, alloc: Global, sets: &TaintSets) -> Result<List<TaintHit>, TaintFault>
         ensures hits { IfOk result (AreHits self.now sets.now) }
         ensures fits { IfOk result (λ _. NoneLarge self.now sets.now) }
         ensures large { (at : ℕ) → result ≡ Err (TooLarge at) → FirstLarge self.now sets.now at }
     {
         taint_in(alloc, self.root, &self.nodes, self.units.as_slice(), sets)
-    }
-}
-
-/// The sinks of a file that are hit, each with the least source that hits it. What it takes to follow data is made here, unless
-/// it is lent.
-pub fn hits_in(
-    alloc: Global,
-    view: &FileView,
-    flow: Option<&FlowTree<'_>>,
-    sets: &TaintSets,
-) -> Result<List<TaintHit>, TaintFault>
-    requires flow { IsFlowIn view.now flow }
-    ensures hits { IfOk result (AreHits view.now.tree sets.now) }
-    ensures fits { IfOk result (λ _. NoneLarge view.now.tree sets.now) }
-    ensures large { (at : ℕ) → result ≡ Err (TooLarge at) → FirstLarge view.now.tree sets.now at }
-{
-    match flow {
-        Some(tree) => tree.hits(alloc, sets),
-        None => taint(alloc, &view.tree, sets),
     }
 }

@@ -5,12 +5,11 @@ ghost use Rattle.std.specs.List.{flat_map};
 ghost use Rattle.tree_match.specs.Placed.{IsPlaced, IsLeafPlaced};
 ghost use Rattle.taint_judge.specs.Follows.{finding_of, AreFollowed};
 ghost use Rattle.taint_judge.specs.Faults.{IsFollowFault};
-ghost use Rattle.taint_judge.specs.Flows.{IsFlowIn};
 ghost use Rattle.taint_judge.specs.Placed.{IsFindingPlaced};
 
 use crate::fault::FollowFault;
-use crate::flow_tree::{FlowTree, hits_in};
 use crate::sets::sets_of;
+use crate::shared_flow::SharedFlow;
 use meta_bind::{Binding, Finding};
 use node_tree::{FileView, List, Memory, Span, Twin};
 use rule_form::TaintRule;
@@ -56,7 +55,7 @@ fn findings_of(
 /// one finding for each member of its sinks that data of a source gets to, with the least such source, in order. The ends of
 /// each finding's range, of its source and of what is bound cut no character of the file, since those of `leaves` don't.
 ///
-/// What it takes to follow data is made here, unless it is lent as `flow`.
+/// What it takes to follow data in the file is made once, for the first rule that needs it.
 ///
 /// Crowded names the first set that has more than 10,000 members, of the sources, the sinks, the sanitizers and the
 /// propagators, in this order. TooLarge comes where there is none, with the first function in which there is too much to
@@ -64,20 +63,21 @@ fn findings_of(
 pub fn follow(
     alloc: Global,
     view: &FileView,
-    flow: Option<&FlowTree<'_>>,
+    flow: &mut SharedFlow<'_>,
     rule: &TaintRule,
     leaves: &List<Leaf>,
     rx: &mut List<Rx>,
 ) -> Result<List<Finding>, FollowFault>
-    requires flow { IsFlowIn view.now flow }
+    requires flow { flow.old ≡ view.now.tree }
     requires placed { All (λ leaf. IsLeafPlaced view.now.bytes leaf) leaves.now }
     ensures exact { IfOk result (AreFollowed leaves.now rx.old view.now.bytes view.now.tree rule.now) }
     ensures refused { IfErr result (IsFollowFault leaves.now rx.old view.now.bytes view.now.tree rule.now) }
     ensures placed { IfOk result (All (IsFindingPlaced view.now.bytes)) }
+    ensures kept { flow.new ≡ flow.old }
     ensures same { rx.new ≡ rx.old }
 {
     let sets = sets_of(alloc, view, rule, leaves, rx)?;
-    match hits_in(alloc, view, flow, &sets.ranges) {
+    match flow.hits(alloc, &sets.ranges) {
         Ok(hits) => Ok(findings_of(alloc, &sets.sinks, hits.as_slice())?),
         Err(TaintFault::TooLarge(at)) => Err(FollowFault::TooLarge(at)),
         Err(TaintFault::Memory) => Err(FollowFault::Memory),

@@ -9,9 +9,11 @@ mod gather;
 mod list;
 mod members;
 mod sets;
+mod shared_flow;
 
 pub use fault::FollowFault;
 pub use flow_tree::FlowTree;
 pub use following::follow;
 pub use list::RuleList;
 pub use sets::{RuleSets, sets_of};
+pub use shared_flow::SharedFlow;

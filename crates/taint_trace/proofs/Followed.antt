@@ -17,7 +17,7 @@ use Rattle.taint_flow.specs.declared.hit.TaintHit.{TaintHit}
 use Rattle.taint_tables.specs.declared.sets.TaintSets.{TaintSets}
 use Rattle.taint_flow.specs.Taint.{Hit}
 use Rattle.taint_flow.specs.Sizes.{NoneLarge}
-use Rattle.taint_flow.proofs.Below.{among_flat}
+use Rattle.taint_plan.proofs.Below.{among_flat}
 use Rattle.taint_judge.specs.Follows.{finding_at, finding_of, IsRead}
 use Rattle.taint_judge.proofs.Once.{sets_one}
 use Rattle.taint_trace.specs.Findings.{IsFollowed, IsFoundBy}

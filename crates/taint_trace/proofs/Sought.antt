@@ -12,7 +12,7 @@ use Rattle.flow_reach.specs.Carried.{Inside, Pairs}
 use Rattle.flow_reach.proofs.Sorted.{got_among}
 use Rattle.unit_names.specs.declared.scope.Scope.{Scope}
 use Rattle.unit_names.specs.Scopes.{AreScopes}
-use Rattle.taint_flow.specs.declared.moves.Goal.{Goal}
+use Rattle.taint_plan.specs.declared.goal.Goal.{Goal}
 use Rattle.taint_flow.specs.declared.moves.UnitMoves.{UnitMoves}
 use Rattle.taint_flow.specs.Traces.{goals_of, AreGoals}
 

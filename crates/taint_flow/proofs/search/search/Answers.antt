@@ -2,7 +2,7 @@ use Rattle.std.proofs.Common.{◌∙◌, List, length, ap, arith, subst, sym}
 use Rattle.node_tree.specs.declared.span.Span.{Span}
 use Rattle.graph_form.specs.declared.graph.Point.{Point}
 use Rattle.taint_flow.specs.Found.{AreInside}
-use Rattle.taint_flow.specs.Plans.{IsPlan}
+use Rattle.taint_plan.specs.Plans.{IsPlan}
 use Rattle.taint_flow.specs.Still.{KeepsFacts}
 use Rattle.taint_flow.proofs.Reaching.{plan_keeps, goals_inside}
 use Rattle.taint_flow.proofs.Searching.{found_hits}

@@ -1,13 +1,28 @@
-use Rattle.std.proofs.Common.{arith, get_or}
-use Rattle.std.proofs.lemmas.Option.{slice_get-get_or}
-use Rattle.taint_flow.proofs.Finding.{plan_more}
-use Rattle.taint_flow.proofs.Routes.{some_at}
+use Rattle.std.proofs.Common.{ℕ, List, length, sym, subst}
+use Rattle.flow_reach.specs.Reached.{Tells}
+use Rattle.taint_plan.specs.declared.goal.Goal.{Goal}
+use Rattle.taint_flow.specs.Found.{AreNamed, AreOwn, ByNames}
+use Rattle.taint_flow.specs.Lowest.{Lowers}
+use Rattle.taint_flow.specs.Still.{BySources, KeepsFacts}
+use Rattle.taint_flow.proofs.GoalsApart.{apart_done}
 use Rattle.taint_flow.proofs.search.search_plan.Goals as goal
 
-pub loop-number-preserved : goal.loop-number-preserved
-loop-number-preserved c =
-    let source = get_or c.args.sources.now c.loop-number.number (record { from = 0; to = 0 }) in
+pub returns : goal.returns
+returns c =
+    let graph = c.args.graph.now in
+    let plan = c.args.plan.now in
+    let sources = c.args.sources.now in
+    let split = c.in_ok-split.split in
+    let own = c.in_ok-own.own.items in
+    let named = c.in_ok-named.named.items in
     let old = c.args.least.now.sources.items in
-    let new = c.search_source.new.least.sources.items in
-    let (facts, at) = some_at c.args.plan.now.begins.items c.loop-number.number (omega (arith, c.loop-number-test.true, c.requires.keeps.lists)) in
-    plan_more c.args.graph.now c.args.plan.now c.args.sources.now c.loop-number.number source facts old c.loop-number.least.sources.items new (slice_get-get_or c.args.sources.now c.loop-number.number (record { from = 0; to = 0 }) c.loop-number-test.true) at c.loop-number.invariant (c.in_ok-search_source.ensures facts at)
+    let mid = c.note_reached.new.least.sources.items in
+    let new = c.search_names.new.least.sources.items in
+    let e = c.in_ok-split.ensures.sources_are in
+    let K : ℕ → Type 0 = λ k. KeepsFacts graph plan k in
+    let O : List Goal → Type 0 = λ gs. AreOwn split.sources gs own in
+    let N : List Goal → Type 0 = λ gs. AreNamed split.sources gs named in
+    let F : List Goal → Type 0 = λ gs. Lowers (BySources (λ point. Tells split.reached point 0) sources gs) old mid in
+    let S : List Goal → Type 0 = λ gs. Lowers (ByNames graph plan split.sources gs sources (length sources)) mid new in
+    apart_done graph plan split.sources (subst K (sym e) c.requires.keeps) split.reached c.in_ok-split.ensures.reached sources (sym e) own named (subst O c.as_slice.ensures c.in_ok-own.ensures) (subst N c.as_slice-2.ensures c.in_ok-named.ensures) c.requires.goals old mid new
+    (subst F c.deref.ensures.value c.note_reached.ensures) (subst S c.deref-2.ensures.value c.in_ok-search_names.ensures)

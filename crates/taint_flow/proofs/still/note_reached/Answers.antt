@@ -4,7 +4,7 @@ use Rattle.graph_form.proofs.Amongs.{among_at}
 use Rattle.flow_reach.specs.Reached.{Tells}
 use Rattle.node_tree.specs.declared.span.Span.{Span}
 use Rattle.taint_flow.specs.declared.least.Least.{Least}
-use Rattle.taint_flow.specs.declared.moves.Goal.{Goal}
+use Rattle.taint_plan.specs.declared.goal.Goal.{Goal}
 use Rattle.taint_flow.specs.Lowest.{Lowers}
 use Rattle.taint_flow.specs.Still.{BySources}
 use Rattle.taint_flow.proofs.Reaching.{goal_none, goal_some}

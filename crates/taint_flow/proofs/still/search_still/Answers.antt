@@ -1,6 +1,6 @@
 use Rattle.std.proofs.Common.{List, length, refl, subst}
 use Rattle.flow_reach.specs.Reached.{Tells}
-use Rattle.taint_flow.specs.declared.moves.Goal.{Goal}
+use Rattle.taint_plan.specs.declared.goal.Goal.{Goal}
 use Rattle.taint_flow.specs.Lowest.{Lowers}
 use Rattle.taint_flow.specs.Still.{BySources}
 use Rattle.taint_flow.proofs.Reaching.{still_done}

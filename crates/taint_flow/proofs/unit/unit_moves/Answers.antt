@@ -2,7 +2,7 @@ use Rattle.std.proofs.Common.{List, [], subst}
 use Rattle.node_tree.specs.declared.node.Node.{Node}
 use Rattle.graph_form.specs.declared.graph.Point.{Point}
 use Rattle.taint_tables.specs.Censuses.{IsCensus}
-use Rattle.taint_flow.specs.Plans.{IsPlan}
+use Rattle.taint_plan.specs.Plans.{IsPlan}
 use Rattle.taint_flow.proofs.Alone.{numbered_alone, facts_alone, goals_alone, hits_alone, with_sources}
 use Rattle.taint_flow.proofs.unit.unit_moves.Goals as goal
 

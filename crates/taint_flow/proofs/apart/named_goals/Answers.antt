@@ -1,0 +1,20 @@
+use Rattle.std.proofs.Common.{◌↔◌, ℕ, List, subst}
+use Rattle.std.proofs.lemmas.List.{take_all}
+use Rattle.graph_form.specs.Sets.{Among}
+use Rattle.graph_form.proofs.Amongs.{among_more}
+use Rattle.flow_reach.proofs.Steps.{either_way}
+use Rattle.taint_plan.specs.declared.goal.Goal.{Goal}
+use Rattle.taint_flow.specs.Found.{of_name}
+use Rattle.taint_flow.proofs.apart.named_goals.Goals as goal
+
+pub loop-goal-init : goal.loop-goal-init
+loop-goal-init c g = (λ h. (let P : List Goal → Type 0 = λ xs. Among xs g in absurd (subst P c.new-named.ensures.items h)), λ h. absurd h)
+
+pub loop-goal-preserved : goal.loop-goal-preserved
+loop-goal-preserved c g =
+    either_way _ _ _ _ _ _ (c.in_ok-add_named.ensures g) (c.loop-goal.invariant g) (λ h. h, λ h. h) (among_more c.args.goals.now c.loop-goal.goal-index (record { sink = 0; point = 0; fact = 0 }) c.loop-goal-test.true (of_name c.args.sources g))
+
+pub returns : goal.returns
+returns c g =
+    let P : List Goal → Type 0 = λ xs. Among c.loop-goal.named.items g ↔ Among xs (of_name c.args.sources g) in
+    subst P (take_all c.loop-goal.goal-index c.args.goals.now c.loop-goal-test.false) (c.loop-goal.invariant g)
