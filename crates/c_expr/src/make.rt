@@ -10,11 +10,8 @@ ghost use Rattle.c_expr.specs.Words as words;
 
 use crate::part::Part;
 use crate::word::{Token, Word};
-use node_tree::{Kind, List, Memory, Node, Span, Text};
+use node_tree::{Kind, List, MOST_DEEP, Memory, Node, Span, Text};
 use std::alloc::Global;
-
-/// How deep a part may be.
-const MAX_DEPTH: u32 = 500;
 
 /// The kind of the node that a token makes, where it makes one.
 fn kind_of(word: Word) -> Kind
@@ -158,8 +155,8 @@ fn settle(node: Node, at: u32) -> Node
 fn finish(alloc: Global, kind: Kind, text: Text, span: Span, kids: Vec<Node>, depth: u32) -> Part
     ensures { result ≡ cut (record { node = build.node kind text kids.items span; depth = suc depth }) }
 {
-    if depth >= MAX_DEPTH {
-        return bare(alloc, 0, MAX_DEPTH + 1);
+    if depth >= MOST_DEEP {
+        return bare(alloc, 0, MOST_DEEP + 1);
     }
     let node = Node {
         kind,
@@ -291,8 +288,8 @@ pub fn widen(alloc: Global, part: Part, width: Part) -> Part
     ensures { result ≡ cut (record { node = part.node; depth = max part.depth (tallest (width ∷ [])) }) }
 {
     let depth = part.depth.max(width.depth);
-    if depth > MAX_DEPTH {
-        return bare(alloc, 0, MAX_DEPTH + 1);
+    if depth > MOST_DEEP {
+        return bare(alloc, 0, MOST_DEEP + 1);
     }
     Part {
         node: part.node,

@@ -19,7 +19,7 @@ use crate::primaries::{postfix, primary};
 use crate::types::{spec, type_name};
 use crate::word::Token;
 use c_lex::CToken;
-use node_tree::{List, Mode, Node, ReadFault};
+use node_tree::{List, MOST_DEEP, Mode, Node, ReadFault};
 use std::alloc::Global;
 
 /// A level of the grammar of C.
@@ -50,9 +50,6 @@ pub enum CLevel {
     /// A declarator and its value (6.7).
     Var,
 }
-
-/// How deep a tree may be.
-const MAX_DEPTH: u32 = 500;
 
 /// How many steps deeper the reader may go: so that depth, brackets and what stands in them never reach it.
 const ROOM: u32 = 1002;
@@ -100,7 +97,7 @@ fn read_run(
 {
     let shallow = &tokens[..shallow_end(tokens, from)];
     let (part, end) = read_level(alloc, shallow, level, ROOM, from)?;
-    if part.depth > MAX_DEPTH {
+    if part.depth > MOST_DEEP {
         return Err(ReadFault::NoTree);
     }
     Ok((part.node, end))

@@ -12,7 +12,7 @@ ghost use Rattle.c_lex.specs.Places.{SpansLie};
 use crate::lex::automaton;
 use crate::progress::{Progress, note};
 use lexing::without_mark;
-use node_tree::{LexFault, List, Mode, Span};
+use node_tree::{LexFault, List, MOST_BYTES, Mode, Span};
 use std::alloc::Global;
 
 /// The comments of a text, in order: each `//` up to before the line's end, and each `/*` up to `*/`.
@@ -20,7 +20,7 @@ use std::alloc::Global;
 /// What looks like a comment in a string or in a directive is part of that token. NoTokens comes exactly where the text has no
 /// list of tokens.
 pub fn comments(alloc: Global, text: &str) -> Result<List<Span>, LexFault>
-    requires { length text.now ≤ 1000000 }
+    requires { length text.now ≤ MOST_BYTES }
     // What is found are the comments between the tokens.
     ensures given { IfOk result (AreCommentsOf text.now) }
     // They lie in the text, one behind the other, and cut no character of it.

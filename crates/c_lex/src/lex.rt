@@ -11,7 +11,7 @@ use crate::progress::{Progress, keep, step};
 use crate::table::{COLUMNS, ROWS, STARTS, WIDTH};
 use crate::token::{CToken, CWord};
 use lexing::{Automaton, without_mark};
-use node_tree::{LexFault, List, Mode};
+use node_tree::{LexFault, List, MOST_BYTES, Mode};
 use std::alloc::Global;
 
 /// The automaton of the rules in a mode, where the line has had no token yet or has had one.
@@ -31,7 +31,7 @@ pub fn automaton(mode: Mode, fresh: bool) -> Automaton<'static>
 /// In a pattern, metavariables and the marks `<...` and `...>` are tokens too. The tokens lie in the text one behind the
 /// other, the last of them is the text's end, and no span cuts a character.
 pub fn c_tokens(alloc: Global, text: &str, mode: Mode) -> Result<List<CToken>, LexFault>
-    requires { length text.now ≤ 1000000 }
+    requires { length text.now ≤ MOST_BYTES }
     ensures given { IfOk result (λ l. spec.IsTokensOf mode text.now l) }
     ensures placed { IfOk result (AreTokensIn text.now) }
     ensures only { (ts : List CToken) → spec.IsTokensOf mode text.now ts → spec.Gives ts result }

@@ -7,7 +7,7 @@ ghost use Rattle.c_lex.specs.Comments as remarks;
 
 use crate::keyword::is_keyword;
 use crate::token::{CToken, CWord};
-use node_tree::{LexFault, List, Span, Text};
+use node_tree::{LexFault, List, MOST_BYTES, Span, Text};
 use std::alloc::Global;
 
 /// The classes of lexemes: of tokens, and of the parts between them.
@@ -100,7 +100,7 @@ pub fn keep(
     text: &str,
     at: usize,
 ) -> Result<(), LexFault>
-    requires { at + length text.now ≤ 1000000 }
+    requires { at + length text.now ≤ MOST_BYTES }
     ensures { spec.Keeps (spec.token word at text.now) tokens.old tokens.new result }
 {
     let token = CToken {
@@ -123,7 +123,7 @@ pub fn step(
     number: u16,
     text: &str,
 ) -> Result<(), LexFault>
-    requires { progress.old.at + length text.now ≤ 1000000 }
+    requires { progress.old.at + length text.now ≤ MOST_BYTES }
     ensures turns { spec.Turns (spec.step progress.old number text.now) tokens.old tokens.new progress.new result }
     ensures at { OnOk result (progress.new.at ≡ progress.old.at + length text.now) }
 {
@@ -159,7 +159,7 @@ pub fn note(
     number: u16,
     text: &str,
 ) -> Result<(), LexFault>
-    requires { progress.old.at + length text.now ≤ 1000000 }
+    requires { progress.old.at + length text.now ≤ MOST_BYTES }
     ensures turns { spec.Turns (remarks.note progress.old number text.now) comments.old comments.new progress.new result }
     ensures at { OnOk result (progress.new.at ≡ progress.old.at + length text.now) }
 {

@@ -12,18 +12,15 @@ use crate::unit::{ITEM_DEPTH, lexed};
 use crate::whole::{Whole, read_whole};
 use c_expr::{Token, classified, span_at};
 use c_items::nodes_of;
-use node_tree::{Kind, Mode, Node, ReadFault, Shape, Span, Text};
+use node_tree::{Kind, MOST_BYTES, MOST_DEEP, Mode, Node, ReadFault, Shape, Span, Text};
 use std::alloc::Global;
-
-/// How deep a tree may be.
-const MAX_DEPTH: u32 = 500;
 
 /// The expression that the tokens are.
 fn read_expression(alloc: Global, tokens: &[Token<'_>]) -> Result<Node, ReadFault>
     ensures found { IfOk result (IsExpression tokens.now) }
     ensures only { (n : a_node) → IsExpression tokens.now n → Gives (λ m. m) result (Some n) }
 {
-    let (mut parts, end) = read_whole(alloc, tokens, Whole::Expression, MAX_DEPTH)?;
+    let (mut parts, end) = read_whole(alloc, tokens, Whole::Expression, MOST_DEEP)?;
     let Some(part) = parts.pop() else {
         return Err(ReadFault::NoTree);
     };
@@ -59,7 +56,7 @@ fn read_run(alloc: Global, tokens: &[Token<'_>], whole: Whole) -> Result<Node, R
 ///
 /// The tree of a run is a `Block`. NoTree comes exactly where the text is none of these within the limits of depth and brackets.
 pub fn read_c_pattern(alloc: Global, text: &str) -> Result<(Shape, Node), ReadFault>
-    requires { length text.now ≤ 1000000 }
+    requires { length text.now ≤ MOST_BYTES }
     // What is read is the pattern that the text is.
     ensures found { IfOk result (λ x. IsPattern text.now x.0 x.1) }
     // The spans of its tree lie in the text, and cut no character of it.

@@ -13,15 +13,15 @@ use crate::whole::{Whole, read_whole};
 use c_expr::classified;
 use c_items::nodes_of;
 use c_lex::{CToken, c_tokens};
-use node_tree::{Kind, LexFault, List, Mode, Node, ReadFault, Span, Text};
+use node_tree::{Kind, LexFault, List, MOST_BYTES, MOST_DEEP, Mode, Node, ReadFault, Span, Text};
 use std::alloc::Global;
 
 /// How deep an item of a file, or of a run, may be.
-pub const ITEM_DEPTH: u32 = 499;
+pub const ITEM_DEPTH: u32 = MOST_DEEP - 1;
 
 /// The tokens of a text.
 pub fn lexed(alloc: Global, text: &str, mode: Mode) -> Result<List<CToken>, ReadFault>
-    requires { length text.now ≤ 1000000 }
+    requires { length text.now ≤ MOST_BYTES }
     ensures given { IfOk result (λ l. IsTokensOf mode text.now l) }
     ensures placed { IfOk result (AreTokensIn text.now) }
     ensures only { (ts : list c_token) → IsTokensOf mode text.now ts → Gives (λ l. l) result (Some ts) }
@@ -38,7 +38,7 @@ pub fn lexed(alloc: Global, text: &str, mode: Mode) -> Result<List<CToken>, Read
 /// NoTree comes exactly where the text has no tokens, or no tree at most 500 deep spells them, or a token stands inside more
 /// than 500 open brackets.
 pub fn read_unit(alloc: Global, text: &str) -> Result<Node, ReadFault>
-    requires { length text.now ≤ 1000000 }
+    requires { length text.now ≤ MOST_BYTES }
     // What is read is the tree of the file.
     ensures found { IfOk result (IsUnit text.now) }
     // Its spans lie in the text, and cut no character of it.

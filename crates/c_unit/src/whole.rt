@@ -12,7 +12,7 @@ ghost use Rattle.c_unit.specs.Units.{level_of, IsAll};
 
 use c_expr::{CLevel, Part, Token, Word, is, shallow_end};
 use c_items::{expression, file_items, items};
-use node_tree::ReadFault;
+use node_tree::{MOST_DEEP, ReadFault};
 use std::alloc::Global;
 
 /// How many steps deeper the reader may go: so that depth, brackets and what stands in them never reach it.
@@ -73,7 +73,7 @@ pub fn read_whole(
     whole: Whole,
     most: u32,
 ) -> Result<(Vec<Part>, usize), ReadFault>
-    requires { most ≤ 500 }
+    requires { most ≤ MOST_DEEP }
     ensures found { IfOk result (λ x. IsAll (level_of whole) tokens.now x.0.items x.1) }
     ensures shallow { IfOk result (λ x. tallest x.0.items ≤ most) }
     // All that the tokens are is what is read, unless memory runs out.

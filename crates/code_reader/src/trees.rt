@@ -8,7 +8,7 @@ ghost use Rattle.node_tree.specs.declared.known.Known.{Known as a_known};
 ghost use Rattle.node_tree.specs.declared.node.Node.{Node as a_node};
 ghost use Rattle.node_tree.specs.declared.view.Lang.{Lang as language};
 
-use node_tree::{Known, Lang, List, Memory, Node, ReadFault};
+use node_tree::{Known, Lang, List, MOST_BYTES, Memory, Node, ReadFault};
 use std::alloc::Global;
 
 /// What reads the files of languages into trees, and finds the names in a tree that are known to hold a literal. That costs
@@ -22,7 +22,7 @@ pub trait TreeReader {
 
     /// The tree of a text in a language. NoTree comes exactly where it has none, and it has at most one.
     fn read_tree(&self, alloc: Global, lang: Lang, text: &str) -> Result<Node, ReadFault>
-        requires { length text.now ≤ 1000000 }
+        requires { length text.now ≤ MOST_BYTES }
         ensures tree { IfOk result (spells self.now lang text.now) }
         // Its spans lie in the text, and cut no character of it.
         ensures placed { IfOk result (SpansLieIn text.now) }

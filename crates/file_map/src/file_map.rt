@@ -6,21 +6,16 @@ ghost use Rattle.file_map.specs.FileMap.{bytes_at, with_file, without_file, all_
 
 use crate::fault::PutFault;
 use crate::limit::LimitKind;
-use node_tree::{Bytes, Memory};
+use node_tree::{Bytes, MOST_BYTES, Memory};
+use scan_world::{MOST_FILE_BYTES, MOST_FILES};
 use std::alloc::Global;
 use std::collections::BTreeMap;
 use std::marker::Model;
 use std::rc::Rc;
 use std::string::String;
 
-// The most files.
-pub(crate) const MOST_FILES: usize = 10_000;
-
-// The most bytes of all files.
-pub(crate) const MOST_BYTES: usize = 33_554_432;
-
 // The most bytes that are kept of a file: one more than a file may have that is scanned.
-const MOST_KEPT: usize = 1_000_001;
+const MOST_KEPT: usize = MOST_BYTES + 1;
 
 /// Files by path, at most 10,000 of at most 33,554,432 bytes together. Their bytes can be shared with other owners. Contracts see
 /// the files in order of path.
@@ -84,7 +79,7 @@ impl FileMap {
     fn others(&self, path: &str) -> (usize, usize)
         ensures files { (bytes : list ℕ) → length (with_file self.now (path.now, bytes)) ≡ result.0 + 1 }
         ensures bytes { (bytes : list ℕ) → all_bytes (with_file self.now (path.now, bytes)) ≡ result.1 + length bytes }
-        ensures few { (result.0 ≤ 10000) × (result.1 ≤ 33554432) }
+        ensures few { (result.0 ≤ MOST_FILES) × (result.1 ≤ MOST_FILE_BYTES) }
     {
         match self.by_path.get(path) {
             Some(old) => (self.by_path.len() - 1, self.bytes - old.as_ref().len()),
@@ -103,7 +98,7 @@ impl FileMap {
             return Err(PutFault::OverLimit(LimitKind::Files, files as u64 + 1));
         }
         let all = others + bytes.len();
-        if all > MOST_BYTES {
+        if all > MOST_FILE_BYTES {
             return Err(PutFault::OverLimit(LimitKind::FileBytes, all as u64));
         }
         Ok(all)

@@ -11,9 +11,10 @@ ghost use Rattle.file_map.specs.Sync.{with_files};
 ghost use Rattle.file_map.specs.Seen.{lent, files_of};
 
 use crate::fault::PutFault;
-use crate::file_map::{FileMap, MOST_BYTES, MOST_FILES, front_of};
+use crate::file_map::{FileMap, front_of};
 use crate::limit::LimitKind;
 use node_tree::{Bytes, List, Memory, Text};
+use scan_world::{MOST_FILE_BYTES, MOST_FILES};
 use std::alloc::Global;
 use std::collections::BTreeMap;
 use std::rc::Rc;
@@ -54,7 +55,7 @@ fn measured(by_path: &BTreeMap<String, Rc<Bytes>>) -> Result<usize, PutFault>
         };
         all = more;
     }
-    if all > MOST_BYTES {
+    if all > MOST_FILE_BYTES {
         return Err(PutFault::OverLimit(LimitKind::FileBytes, all as u64));
     }
     Ok(all)

@@ -10,12 +10,9 @@ ghost use Rattle.file_map.specs.Seen.{lent};
 use crate::fault::{PutFault, SyncFault};
 use crate::file_map::FileMap;
 use folder_files::taken_under;
-use node_tree::{Bytes, List, Memory, Text};
+use node_tree::{Bytes, List, MOST_BYTES, Memory, Text};
 use scan_world::{Tree, TreeFault, is_under};
 use std::rc::Rc;
-
-// The most bytes of a file that is scanned.
-const MOST: u64 = 1_000_000;
 
 impl FileMap {
     // Those of the files that don't lie under the prefix.
@@ -65,7 +62,7 @@ impl FileMap {
     {
         for path in paths.as_slice() {
             let name = path.as_str();
-            let bytes = match tree.read(name, MOST) {
+            let bytes = match tree.read(name, MOST_BYTES as u64) {
                 Ok(bytes) => bytes,
                 Err(TreeFault::Absent) => continue,
                 Err(TreeFault::Memory) => return Err(SyncFault::Memory),

@@ -52,7 +52,7 @@ impl<'p> ReadyPattern<'p> {
     }
 
     /// The places of the words that it needs, where names hold nothing if `fixed`.
-    pub fn wanted(&self, fixed: bool) -> &Wanted
+    pub(crate) fn wanted(&self, fixed: bool) -> &Wanted
         ensures { ArePlaces fixed self.now.shape self.now.tree result.now.places }
     {
         if fixed { &self.fixed } else { &self.held }

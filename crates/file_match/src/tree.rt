@@ -17,7 +17,7 @@ use node_pool::{NodePool, Spot};
 use node_tree::{List, Memory, Node, Shape};
 use std::alloc::Global;
 use std::marker::Model;
-use tree_match::{Leaf, LeafSet, MOST, add_block, keep_all, kinds_of};
+use tree_match::{Leaf, LeafSet, MOST_MEMBERS, add_block, keep_all, kinds_of};
 
 // The words of a tree of fewer nodes have few places, whose marks are soon made.
 const FEW_NODES: u32 = 1000;
@@ -137,8 +137,8 @@ fn runs_of<'t>(
     ensures { IfOk result (λ leaf. IsLeaf (MemberRun known.entry.names.now pattern.now (seen block.entry)) leaf) }
 {
     let mut members = List::new(alloc);
-    add_block(alloc, known, pattern, block, &mut members, MOST)?;
-    if members.len() > MOST {
+    add_block(alloc, known, pattern, block, &mut members, MOST_MEMBERS)?;
+    if members.len() > MOST_MEMBERS {
         return Ok(Leaf::Crowded);
     }
     Ok(Leaf::Full(keep_all(alloc, members.as_slice())?))

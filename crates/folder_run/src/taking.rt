@@ -11,12 +11,9 @@ ghost use Rattle.folder_run.specs.Causes.{HasTakingCause};
 use file_map::{PutFault, SyncFault};
 use node_tree::Bytes;
 use run_status::Status;
-use scan_world::{Tree, TreeFault};
+use scan_world::{MOST_RULE_BYTES, Tree, TreeFault};
 use stream_run::Workspace;
 use wire_words::Job;
-
-// The most bytes of the rules.
-const MOST: u64 = 262_144;
 
 // The bytes of the rules.
 fn read_config<T: Tree>(tree: &mut T, path: &str) -> Result<Bytes, Status>
@@ -26,7 +23,7 @@ fn read_config<T: Tree>(tree: &mut T, path: &str) -> Result<Bytes, Status>
     ensures unfailed { OnOk result (T.faults tree.new ≡ T.faults tree.old) }
     ensures cause { IfErr result (HasTakingCause (T.faults tree.old) (T.faults tree.new) (T.absences tree.old) (T.absences tree.new)) }
 {
-    match tree.read(path, MOST) {
+    match tree.read(path, MOST_RULE_BYTES as u64) {
         Ok(bytes) => Ok(bytes),
         Err(TreeFault::Absent) => Err(Status::NoSuchPath),
         Err(TreeFault::Memory) => Err(Status::Memory),

@@ -6,11 +6,11 @@ ghost use Rattle.json_check.specs.declared.nest.Move.TheVariants.{Open};
 ghost use Rattle.json_check.specs.fronts.Moves as moves;
 
 use json_tree::Word;
-use node_tree::{List, Memory};
+use node_tree::{List, MOST_DEEP, Memory};
 use std::alloc::Global;
 
 /// How deep a value may stand below the root.
-const MAX_DEPTH: u32 = 499;
+const MAX_DEPTH: u32 = MOST_DEEP - 1;
 
 /// What holds values or members between two brackets.
 #[derive(Clone, Copy, Debug, PartialEq, Eq)]

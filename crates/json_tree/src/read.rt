@@ -10,11 +10,11 @@ use crate::lex::lex;
 use crate::limits::{few_brackets, is_shallow};
 use crate::reader::{node_over, value};
 use crate::token::Token;
-use node_tree::{Kind, List, Mode, Node, ReadFault};
+use node_tree::{Kind, List, MOST_BYTES, MOST_DEEP, Mode, Node, ReadFault};
 use std::alloc::Global;
 
-/// How deep a value may be, below the root of a tree that is 500 deep.
-const MAX_DEPTH: u32 = 499;
+/// How deep a value may be, below the root of a tree.
+const MAX_DEPTH: u32 = MOST_DEEP - 1;
 
 /// How many steps deeper the reader may go: so that depth, brackets and what stands in them never reach it.
 const ROOM: u32 = 1001;
@@ -51,7 +51,7 @@ fn whole_value(alloc: Global, tokens: &[Token<'_>]) -> Result<Node, ReadFault>
 /// NoTree comes exactly where the text is no JSON text, or its tree would be more than 500 deep, or a token would stand
 /// inside more than 500 open brackets.
 pub fn read_json(alloc: Global, text: &str, mode: Mode) -> Result<Node, ReadFault>
-    requires { length text.now ≤ 1000000 }
+    requires { length text.now ≤ MOST_BYTES }
     // What is read is the tree of the text.
     ensures found { IfOk result (IsTreeOf mode text.now) }
     // Each tree of the text is the one that is read, unless memory runs out. So there is at most one.

@@ -7,7 +7,9 @@ ghost use Rattle.node_tree.specs.KnownNames.{AreNames, AreInOrder};
 
 use file_match::match_leaf;
 use node_pool::NodePool;
-use node_tree::{Bytes, FileView, Kind, Known, Lang, List, Memory, Node, Pattern, Steps};
+use node_tree::{
+    Bytes, FileView, Kind, Known, Lang, List, MOST_BYTES, Memory, Node, Pattern, Steps,
+};
 use pattern_read::read_pattern;
 use py_stmt::read_module;
 use std::alloc::Global;
@@ -38,7 +40,7 @@ fn known_at(alloc: Global, tree: &Node, at: u32, literal: Node) -> Result<List<K
 // The file of these bytes, with this tree and these names.
 fn file_of(bytes: Bytes, tree: Node, known: List<Known>) -> FileView
     requires utf8 { ∥ IsUtf8 bytes ∥₁ }
-    requires small { length bytes ≤ 1000000 }
+    requires small { length bytes ≤ MOST_BYTES }
     requires placed { SpansLieIn bytes tree }
     requires names { AreNames tree known }
     requires in_order { AreInOrder known }

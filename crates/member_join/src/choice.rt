@@ -13,12 +13,13 @@ ghost use Rattle.member_join.specs.declared.state.State.{State as state_value};
 
 use crate::fault::EvalFault;
 use crate::join::{begin, count, join};
-use crate::limit::{MOST, crowded};
+use crate::limit::crowded;
 use crate::operand::{Operand, Role};
 use crate::state::State;
 use node_tree::Memory;
 use sorted_sets::{Member, settled};
 use std::alloc::Global;
+use tree_match::MOST_MEMBERS;
 
 // The states, unless more than 10,000 of them have a byte in their range.
 fn few<'t>(
@@ -26,11 +27,11 @@ fn few<'t>(
     states: Vec<State<'t>>,
     number: usize,
 ) -> Result<Vec<State<'t>>, EvalFault>
-    ensures few { IfOk result (λ v. (v.items ≡ states.entry.items) × (count_by (λ (s : state_value). has s.range) states.entry.items ≤ 10000)) }
+    ensures few { IfOk result (λ v. (v.items ≡ states.entry.items) × (count_by (λ (s : state_value). has s.range) states.entry.items ≤ MOST_MEMBERS)) }
     ensures named { IfErr result (NamesSet (number ∷ [])) }
-    ensures many { IfErr result (λ _. 10000 < count_by (λ (s : state_value). has s.range) states.entry.items) }
+    ensures many { IfErr result (λ _. MOST_MEMBERS < count_by (λ (s : state_value). has s.range) states.entry.items) }
 {
-    if count(states.as_slice()) > MOST {
+    if count(states.as_slice()) > MOST_MEMBERS {
         return crowded(alloc, Some(number));
     }
     Ok(states)

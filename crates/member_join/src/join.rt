@@ -10,7 +10,7 @@ ghost use Rattle.member_join.specs.Blocks.{IsBlock, IsJoinedIn, IsJoinedToBlocks
 ghost use Rattle.member_join.specs.declared.state.State.{State as state_value};
 
 use crate::block::{Block, blocks_of, may_meet, shared_names, sorted};
-use crate::limit::{MOST, ROOM};
+use crate::limit::ROOM;
 use crate::operand::{Operand, Role};
 use crate::range::{is_equal, meet, touches};
 use crate::state::State;
@@ -18,6 +18,7 @@ use meta_bind::Trail;
 use node_tree::{Memory, Span};
 use sorted_sets::{Member, settled};
 use std::alloc::Global;
+use tree_match::MOST_MEMBERS;
 
 // Whether one of the members has that range.
 fn is_range_of(members: &[Member<'_>], range: Span) -> bool
@@ -197,14 +198,14 @@ fn join_blocks<'t>(
     requires blocks { Each IsBlock blocks.now }
     ensures ordered { IfOk result (λ v. IsAscending state_cmp v.items) }
     ensures sound { IfOk result (λ v. (s : state_value) → Among v.items s → IsJoinedToBlocks role before.now blocks.now s × IsNeeded later.now s) }
-    ensures whole { IfOk result (λ v. count_by (λ (s : state_value). has s.range) v.items ≤ 10000 → (s : state_value) → IsJoinedToBlocks role before.now blocks.now s → IsNeeded later.now s → Among v.items s) }
+    ensures whole { IfOk result (λ v. count_by (λ (s : state_value). has s.range) v.items ≤ MOST_MEMBERS → (s : state_value) → IsJoinedToBlocks role before.now blocks.now s → IsNeeded later.now s → Among v.items s) }
 {
     let mut states = Vec::new(alloc);
     for state in before {
         add_joined(role, state, blocks, later, &mut states)?;
         if states.len() > ROOM {
             states = settled(alloc, states)?;
-            if count(states.as_slice()) > MOST {
+            if count(states.as_slice()) > MOST_MEMBERS {
                 return Ok(states);
             }
         }
@@ -222,7 +223,7 @@ pub fn join<'t>(
 ) -> Result<Vec<State<'t>>, Memory>
     ensures ordered { IfOk result (λ v. IsAscending state_cmp v.items) }
     ensures sound { IfOk result (λ v. (s : state_value) → Among v.items s → IsJoined role before.now members.now s × IsNeeded later.now s) }
-    ensures whole { IfOk result (λ v. count_by (λ (s : state_value). has s.range) v.items ≤ 10000 → (s : state_value) → IsJoined role before.now members.now s → IsNeeded later.now s → Among v.items s) }
+    ensures whole { IfOk result (λ v. count_by (λ (s : state_value). has s.range) v.items ≤ MOST_MEMBERS → (s : state_value) → IsJoined role before.now members.now s → IsNeeded later.now s → Among v.items s) }
 {
     let names = shared_names(alloc, before, members)?;
     let sorted = sorted(alloc, names.as_slice(), members)?;

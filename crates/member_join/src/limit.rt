@@ -11,12 +11,10 @@ use crate::fault::EvalFault;
 use node_tree::List;
 use sorted_sets::{Member, settled};
 use std::alloc::Global;
+use tree_match::MOST_MEMBERS;
 
 /// So many items are gathered before they are put in order.
 pub const ROOM: usize = 40000;
-
-/// The most members of a set.
-pub const MOST: usize = 10000;
 
 /// That a set has too many members: the formula's own, or that of the child with this number.
 pub fn crowded<T>(alloc: Global, number: Option<usize>) -> Result<T, EvalFault>
@@ -32,11 +30,11 @@ pub fn crowded<T>(alloc: Global, number: Option<usize>) -> Result<T, EvalFault>
 
 /// The members, unless there are more than 10,000.
 pub fn limited<'t>(alloc: Global, members: Vec<Member<'t>>) -> Result<Vec<Member<'t>>, EvalFault>
-    ensures few { IfOk result (λ v. (v.items ≡ members.entry.items) × (length members.entry.items ≤ 10000)) }
+    ensures few { IfOk result (λ v. (v.items ≡ members.entry.items) × (length members.entry.items ≤ MOST_MEMBERS)) }
     ensures named { IfErr result (NamesSet []) }
-    ensures many { IfErr result (λ _. 10000 < length members.entry.items) }
+    ensures many { IfErr result (λ _. MOST_MEMBERS < length members.entry.items) }
 {
-    if members.len() > MOST {
+    if members.len() > MOST_MEMBERS {
         return crowded(alloc, None);
     }
     Ok(members)
@@ -46,7 +44,7 @@ pub fn limited<'t>(alloc: Global, members: Vec<Member<'t>>) -> Result<Vec<Member
 pub fn gathered<'t>(alloc: Global, members: Vec<Member<'t>>) -> Result<Vec<Member<'t>>, EvalFault>
     ensures ordered { IfOk result (λ v. IsAscending member_cmp v.items) }
     ensures same { IfOk result (λ v. (m : member_value) → Among v.items m ↔ Among members.entry.items m) }
-    ensures few { IfOk result (λ v. length v.items ≤ 10000) }
+    ensures few { IfOk result (λ v. length v.items ≤ MOST_MEMBERS) }
     ensures crowded { IfErr result (IsFaultFrom (OneSet [] (Among members.entry.items))) }
 {
     limited(alloc, settled(alloc, members)?)

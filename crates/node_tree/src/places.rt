@@ -4,6 +4,7 @@ ghost use Rattle.std.specs.Prelude.{◌≡◌, ◌+◌, ◌≤◌, ◌++◌, ℕ
 ghost use Rattle.node_tree.specs.Places.{place_of};
 ghost use Rattle.node_tree.specs.Marks.{mark_of};
 
+use crate::limits::MOST_BYTES;
 use crate::mark::Mark;
 use crate::memory::Memory;
 use crate::place::Place;
@@ -21,19 +22,20 @@ pub struct Places<'t> {
 
 impl<'t> Model for Places<'t> {
     ghost use Rattle.std.specs.Prelude.{◌≤◌, ◌<◌, ◌*◌, ℕ, List, length};
+    ghost use Rattle.node_tree.specs.declared.limits.TheConstants.{MOST_BYTES};
     ghost use Rattle.node_tree.specs.Marks.{AreMarks};
 
     ghost Value = { List ℕ };
 
     ghost view = { λ p. p.text.now };
 
-    ghost invariant = { λ p. (length p.text.now ≤ 1000000) × (length p.text.now < 1024 * length p.marks.items) × AreMarks p.text.now 0 p.marks.items };
+    ghost invariant = { λ p. (length p.text.now ≤ MOST_BYTES) × (length p.text.now < 1024 * length p.marks.items) × AreMarks p.text.now 0 p.marks.items };
 }
 
 // The mark after one more piece of the text.
 fn after(mark: Mark, piece: &[u8]) -> Mark
-    requires lines { mark.lines + length piece.now ≤ 1000000 }
-    requires bytes { mark.bytes + length piece.now ≤ 1000000 }
+    requires lines { mark.lines + length piece.now ≤ MOST_BYTES }
+    requires bytes { mark.bytes + length piece.now ≤ MOST_BYTES }
     ensures { (front : list ℕ) → mark ≡ mark_of front → result ≡ mark_of (front ++ piece.now) }
 {
     let lines = mark.lines + memchr_iter(b'\n', piece).count() as u32;
@@ -47,7 +49,7 @@ fn after(mark: Mark, piece: &[u8]) -> Mark
 impl<'t> Places<'t> {
     /// The places of a text of at most 1,000,000 bytes.
     pub fn of(alloc: Global, text: &'t [u8]) -> Result<Places<'t>, Memory>
-        requires { length text.now ≤ 1000000 }
+        requires { length text.now ≤ MOST_BYTES }
         ensures { IfOk result (λ p. p ≡ text.now) }
     {
         let mut marks = Vec::new(alloc);

@@ -2,6 +2,7 @@
 
 ghost use Rattle.std.specs.Prelude.{◌≡◌, ◌≤◌, length, IfOk};
 ghost use Rattle.std.specs.Str.{IsUtf8};
+ghost use Rattle.node_tree.specs.declared.limits.TheConstants.{MOST_BYTES};
 ghost use Rattle.node_tree.specs.Spans.{SpansLieIn};
 ghost use Rattle.node_tree.specs.KnownNames.{AreNames, AreInOrder};
 
@@ -19,7 +20,7 @@ pub struct PackedView {
     tree: PackedTree,
     known: List<Known>,
     ghost utf8: { ∥ IsUtf8 text.value ∥₁ },
-    ghost small: { length text.value ≤ 1000000 },
+    ghost small: { length text.value ≤ MOST_BYTES },
     ghost placed: { SpansLieIn text.value tree },
     ghost names: { AreNames tree known },
     ghost in_order: { AreInOrder known },

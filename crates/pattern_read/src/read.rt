@@ -18,7 +18,7 @@ use std::alloc::Global;
 
 // The one value of a JSON pattern.
 fn json_pattern(alloc: Global, text: &str) -> Result<(Shape, Node), ReadFault>
-    requires { length text.now ≤ 1000000 }
+    requires { length text.now ≤ MOST_BYTES }
     ensures value { IfOk result (λ x. IsJsonPattern text.now x.0 x.1) }
     ensures only { (shape : a_shape) (value : node) → IsJsonPattern text.now shape value → Gives (λ x. x) result (Some (shape, value)) }
 {

@@ -7,7 +7,7 @@ use crate::merge::merged;
 use crate::moving::moved;
 use node_tree::{List, Memory};
 use std::alloc::Global;
-use tree_match::{Leaf, LeafSet, MOST};
+use tree_match::{Leaf, LeafSet, MOST_MEMBERS};
 
 /// What a pattern has in a piece, and where the piece starts in its file.
 #[derive(Clone, Copy)]
@@ -31,7 +31,7 @@ pub fn union_moved(alloc: Global, parts: &[PlacedLeaf<'_>]) -> Result<Leaf, Memo
         }
         let later = moved(set, part.start)?;
         members = merged(members, later.into_members())?;
-        if members.len() > MOST {
+        if members.len() > MOST_MEMBERS {
             return Ok(Leaf::Crowded);
         }
     }

@@ -11,7 +11,7 @@ use meta_bind::{Binding, Trail};
 use node_tree::{List, Memory, Span};
 use sorted_sets::{Member, settled};
 use std::alloc::Global;
-use tree_match::{Leaf, LeafSet, MOST};
+use tree_match::{Leaf, LeafSet, MOST_MEMBERS};
 
 // Adds a member, whose binding is lent.
 fn add<'l>(one: &'l (Span, Binding), into: &mut Vec<Member<'l>>) -> Result<(), Memory>
@@ -109,7 +109,7 @@ pub fn join_by_place(plain: &Leaf, further: &Leaf) -> Result<Leaf, Memory>
     };
     let alloc = plain.alloc();
     let members = joined(alloc, plain.members(), further.members())?;
-    if members.len() > MOST {
+    if members.len() > MOST_MEMBERS {
         return Ok(Leaf::Crowded);
     }
     Ok(Leaf::Full(LeafSet::of(kept(alloc, members.as_slice())?)))

@@ -19,7 +19,7 @@ pub use build::{absent, empty_list, ident, leaf, node_of, one, over, text_at, th
 pub use inside::items;
 pub use item::Item;
 pub use level::PyLevel;
-pub use limits::{LIMIT, is_shallow, shallow_end};
+pub use limits::{is_shallow, shallow_end};
 pub use look::{
     end_before, is, is_comma, is_dots, is_name, start_at, starts_arg, starts_param, starts_star,
     starts_test, word_at,

@@ -9,10 +9,7 @@ ghost use Rattle.py_expr.specs.reader.Reading.{round_at};
 
 use crate::item::Item;
 use crate::word::Word;
-use node_tree::Node;
-
-/// The depth of a tree, and the number of brackets round a token, that are read at most.
-pub const LIMIT: u32 = 500;
+use node_tree::{MOST_DEEP, Node};
 
 /// How many brackets are open behind a token, before which so many were.
 #[tactic(auto, unfolding(crate::specs::Words::class))]
@@ -27,21 +24,21 @@ fn open_behind(word: Word, count: u32) -> u32
     }
 }
 
-/// The first place from this one on whose token stands inside more than 500 brackets, or the end: no run within the limits
+/// The first place from this one on whose token stands inside too many brackets, or the end: no run within the limits
 /// comes as far.
 #[tactic(auto, using(crate::proofs::Counting::open_next, crate::proofs::Counting::open_start, crate::proofs::Counting::round_is))]
 pub fn shallow_end(items: &[Item<'_>], from: usize) -> usize
     requires { from ≤ length items.now }
     ensures ordered { from ≤ result }
     ensures within { result ≤ length items.now }
-    ensures few { (n : ℕ) → from ≤ n → n < result → round_at items.now from n ≤ 500 }
-    ensures many { result < length items.now → 500 < round_at items.now from result }
+    ensures few { (n : ℕ) → from ≤ n → n < result → round_at items.now from n ≤ MOST_DEEP }
+    ensures many { result < length items.now → MOST_DEEP < round_at items.now from result }
 {
     let mut count = 0;
     for at in from..items.len() {
         let next = open_behind(items[at].word, count);
-        if count > LIMIT {
-            if next > LIMIT {
+        if count > MOST_DEEP {
+            if next > MOST_DEEP {
                 return at;
             }
         }

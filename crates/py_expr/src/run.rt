@@ -13,9 +13,9 @@ ghost use Rattle.py_expr.specs.Runs.{IsTree, IsRunTree, AreOf, level_at};
 use crate::inside::items;
 use crate::item::Item;
 use crate::level::{Binary, PyLevel};
-use crate::limits::{LIMIT, is_shallow, shallow_end};
+use crate::limits::{is_shallow, shallow_end};
 use crate::read;
-use node_tree::{List, Memory, Mode, Node, ReadFault};
+use node_tree::{List, MOST_DEEP, Memory, Mode, Node, ReadFault};
 use py_lex::PyToken;
 use std::alloc::Global;
 
@@ -72,7 +72,7 @@ fn read_items(
 {
     let shallow = &items[..shallow_end(items, from)];
     let (node, end) = read_level(alloc, shallow, level, ROOM, from)?;
-    if !is_shallow(&node, LIMIT) {
+    if !is_shallow(&node, MOST_DEEP) {
         return Err(ReadFault::NoTree);
     }
     Ok((node, end))
@@ -90,7 +90,7 @@ pub fn whole(alloc: Global, items: &[Item<'_>]) -> Result<Option<Node>, Memory>
             if end < items.len() {
                 return Ok(None);
             }
-            if !is_shallow(&node, LIMIT) {
+            if !is_shallow(&node, MOST_DEEP) {
                 return Ok(None);
             }
             Ok(Some(node))
@@ -126,7 +126,7 @@ pub fn read_py(
     // Each closed run is what is read, unless memory runs out. So there is at most one.
     ensures only { (n : node) (to : ℕ) → IsTree mode tokens.now level from n to → Gives (λ x. x) result (Some (n, to)) }
 {
-    let items = items(alloc, mode, tokens.as_slice(), LIMIT)?;
+    let items = items(alloc, mode, tokens.as_slice(), MOST_DEEP)?;
     let (node, end) = read_items(alloc, items.as_slice(), from as usize, level)?;
     let Ok(end) = u32::try_from(end) else {
         return Err(ReadFault::Memory);

@@ -12,7 +12,7 @@ use crate::layout::{Layout, finish, step};
 use crate::parts::{Lexemes, look};
 use crate::token::FPart;
 use lexing::without_mark;
-use node_tree::{LexFault, List, Mode, Span};
+use node_tree::{LexFault, List, MOST_BYTES, Mode, Span};
 use std::alloc::Global;
 
 /// Reads one lexeme of the class that has the number, and keeps its span if it is a comment.
@@ -24,7 +24,7 @@ fn note(
     text: &str,
     parts: List<FPart>,
 ) -> Result<(), LexFault>
-    requires room { layout.old.at + length text.now ≤ 1000000 }
+    requires room { layout.old.at + length text.now ≤ MOST_BYTES }
     requires bounded { lines.IsBounded layout.old }
     requires some { 0 < length text.now }
     ensures turns { lines.Turns (option_map (spec.noting (class_of number) layout.old.at (length text.now)) (lines.step layout.old number text.now parts)) all.old all.new layout.new result }
@@ -48,7 +48,7 @@ fn note(
 /// A `#` in a string begins none, and in a field of an f-string none may stand. `NoTokens` comes just where the text has no
 /// list of tokens. The comments lie in the text, and no span cuts a character.
 pub fn comments(alloc: Global, text: &str) -> Result<List<Span>, LexFault>
-    requires { length text.now ≤ 1000000 }
+    requires { length text.now ≤ MOST_BYTES }
     ensures given { IfOk result (λ l. spec.AreCommentsOf text.now l) }
     ensures placed { IfOk result (λ l. spec.SpansLie text.now 0 l (length text.now)) }
     ensures only { (l : List span) → spec.AreCommentsOf text.now l → Gives l result }

@@ -8,7 +8,7 @@ ghost use Rattle.py_lex.specs.declared.token.FPart.{FPart as part};
 use crate::class::{Class, class_at};
 use crate::layout::{depth_after, push_written, word_of};
 use crate::token::{FPart, PyToken, push_closely};
-use node_tree::{LexFault, List, Span, Text};
+use node_tree::{LexFault, List, MOST_BYTES, Span, Text};
 use std::alloc::Global;
 use std::mem;
 
@@ -77,7 +77,7 @@ fn has_backslash(text: &str) -> bool
 }
 
 fn span(from: usize, to: usize) -> Span
-    requires { (from ≤ 1000000) × (to ≤ 1000000) }
+    requires { (from ≤ MOST_BYTES) × (to ≤ MOST_BYTES) }
     ensures { result ≡ record { from = from; to = to } }
 {
     Span {
@@ -114,7 +114,7 @@ fn keep(
     at: usize,
     parts: List<FPart>,
 ) -> Result<(), LexFault>
-    requires { at + length text.now ≤ 1000000 }
+    requires { at + length text.now ≤ MOST_BYTES }
     ensures { spec.Keeps (spec.kept field.old class text.now at parts) field.new result }
 {
     let Some(word) = word_of(class, text) else {
@@ -136,7 +136,7 @@ fn end_field(
     inside: &mut Inside,
     text: &str,
 ) -> Result<(), LexFault>
-    requires room { inside.old.at + length text.now ≤ 1000000 }
+    requires room { inside.old.at + length text.now ≤ MOST_BYTES }
     requires bounded { spec.IsBounded inside.old }
     ensures { Turns (spec.field_end inside.old text.now) all.old all.new inside.new result }
 {
@@ -156,7 +156,7 @@ fn end_field(
 
 /// Ends a field in a format.
 fn end_inner(alloc: Global, inside: &mut Inside, text: &str) -> Result<(), LexFault>
-    requires room { inside.old.at + length text.now ≤ 1000000 }
+    requires room { inside.old.at + length text.now ≤ MOST_BYTES }
     requires bounded { spec.IsBounded inside.old }
     ensures { Turns (spec.inner_end inside.old text.now) [] [] inside.new result }
 {
@@ -181,7 +181,7 @@ fn plain_step(
     class: Class,
     text: &str,
 ) -> Result<(), LexFault>
-    requires room { inside.old.at + length text.now ≤ 1000000 }
+    requires room { inside.old.at + length text.now ≤ MOST_BYTES }
     ensures { Turns (spec.plain_step inside.old class text.now) all.old all.new inside.new result }
 {
     let from = inside.at;
@@ -211,7 +211,7 @@ fn field_step(
     text: &str,
     parts: List<FPart>,
 ) -> Result<(), LexFault>
-    requires room { inside.old.at + length text.now ≤ 1000000 }
+    requires room { inside.old.at + length text.now ≤ MOST_BYTES }
     requires bounded { spec.IsBounded inside.old }
     ensures { Turns (spec.field_step inside.old class text.now parts) all.old all.new inside.new result }
 {
@@ -239,7 +239,7 @@ fn converted_step(
     class: Class,
     text: &str,
 ) -> Result<(), LexFault>
-    requires room { inside.old.at + length text.now ≤ 1000000 }
+    requires room { inside.old.at + length text.now ≤ MOST_BYTES }
     requires bounded { spec.IsBounded inside.old }
     ensures { Turns (spec.converted_step inside.old class text.now) all.old all.new inside.new result }
 {
@@ -262,7 +262,7 @@ fn format_step(
     class: Class,
     text: &str,
 ) -> Result<(), LexFault>
-    requires room { inside.old.at + length text.now ≤ 1000000 }
+    requires room { inside.old.at + length text.now ≤ MOST_BYTES }
     requires bounded { spec.IsBounded inside.old }
     ensures { Turns (spec.format_step inside.old class text.now) all.old all.new inside.new result }
 {
@@ -292,7 +292,7 @@ fn inner_step(
     text: &str,
     parts: List<FPart>,
 ) -> Result<(), LexFault>
-    requires room { inside.old.at + length text.now ≤ 1000000 }
+    requires room { inside.old.at + length text.now ≤ MOST_BYTES }
     requires bounded { spec.IsBounded inside.old }
     ensures { Turns (spec.inner_step inside.old class text.now parts) [] [] inside.new result }
 {
@@ -321,7 +321,7 @@ pub fn step(
     text: &str,
     parts: List<FPart>,
 ) -> Result<(), LexFault>
-    requires room { inside.old.at + length text.now ≤ 1000000 }
+    requires room { inside.old.at + length text.now ≤ MOST_BYTES }
     requires bounded { spec.IsBounded inside.old }
     requires some { 0 < length text.now }
     ensures turns { Turns (spec.step inside.old number text.now parts) all.old all.new inside.new result }

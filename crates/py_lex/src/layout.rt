@@ -9,7 +9,7 @@ use crate::class::{Class, class_at};
 use crate::columns::Columns;
 use crate::keyword::is_keyword;
 use crate::token::{FPart, PyToken, PyWord, push_closely};
-use node_tree::{LexFault, List, Span, Text};
+use node_tree::{LexFault, List, MOST_BYTES, Span, Text};
 use std::alloc::Global;
 
 /// What of a line was read.
@@ -58,7 +58,7 @@ fn push_sign(
     from: usize,
     len: usize,
 ) -> Result<(), LexFault>
-    requires { from + len ≤ 1000000 }
+    requires { from + len ≤ MOST_BYTES }
     ensures ok { OnOk result (all.new ≡ all.old ++ spec.sign word from len ∷ []) }
     ensures memory { result ≢ Err NoTokens }
 {
@@ -83,7 +83,7 @@ pub fn push_written(
     from: usize,
     parts: List<FPart>,
 ) -> Result<(), LexFault>
-    requires { from + length text.now ≤ 1000000 }
+    requires { from + length text.now ≤ MOST_BYTES }
     ensures ok { OnOk result (all.new ≡ all.old ++ spec.written word text.now from parts ∷ []) }
     ensures memory { result ≢ Err NoTokens }
 {
@@ -108,7 +108,7 @@ fn close(
     at: usize,
     column: usize,
 ) -> Result<(), LexFault>
-    requires { at ≤ 1000000 }
+    requires { at ≤ MOST_BYTES }
     ensures { spec.Turns (spec.close at columns.old column) all.old all.new columns.new result }
 {
     'deeper: while column < columns.top() {
@@ -130,7 +130,7 @@ fn open_line(
     at: usize,
     column: usize,
 ) -> Result<(), LexFault>
-    requires { at ≤ 1000000 }
+    requires { at ≤ MOST_BYTES }
     ensures { spec.Turns (spec.open_line at columns.old column) all.old all.new columns.new result }
 {
     if columns.top() < column {
@@ -160,7 +160,7 @@ fn column_after(column: usize, blanks: &[u8]) -> usize
 
 /// Opens or closes blocks at the first token of a line.
 fn begin(alloc: Global, all: &mut List<PyToken>, layout: &mut Layout) -> Result<(), LexFault>
-    requires { layout.old.at ≤ 1000000 }
+    requires { layout.old.at ≤ MOST_BYTES }
     ensures turns { spec.Turns (spec.begin layout.old) all.old all.new layout.new result }
     ensures same { OnOk result (layout.new.at ≡ layout.old.at) }
     ensures depth { OnOk result (layout.new.depth ≡ layout.old.depth) }
@@ -198,7 +198,7 @@ pub fn word_of(class: Class, text: &str) -> Option<PyWord>
 
 /// The brackets that are open after a token.
 pub fn depth_after(class: Class, depth: usize) -> usize
-    requires { depth ≤ 1000000 }
+    requires { depth ≤ MOST_BYTES }
     ensures value { result ≡ spec.depth_after class depth }
     ensures bound { result ≤ depth + 1 }
 {
@@ -220,7 +220,7 @@ fn token_step(
     text: &str,
     parts: List<FPart>,
 ) -> Result<(), LexFault>
-    requires room { layout.old.at + length text.now ≤ 1000000 }
+    requires room { layout.old.at + length text.now ≤ MOST_BYTES }
     requires bounded { spec.IsBounded layout.old }
     requires some { 0 < length text.now }
     ensures turns { spec.Turns (spec.token_step layout.old class word text.now parts) all.old all.new layout.new result }
@@ -242,7 +242,7 @@ fn gap_step(
     class: Class,
     text: &str,
 ) -> Result<(), LexFault>
-    requires room { layout.old.at + length text.now ≤ 1000000 }
+    requires room { layout.old.at + length text.now ≤ MOST_BYTES }
     requires bounded { spec.IsBounded layout.old }
     ensures turns { spec.Turns (Some (spec.gap_step layout.old class text.now)) all.old all.new layout.new result }
     ensures bounded { OnOk result (spec.IsBounded layout.new) }
@@ -277,7 +277,7 @@ pub fn step(
     text: &str,
     parts: List<FPart>,
 ) -> Result<(), LexFault>
-    requires room { layout.old.at + length text.now ≤ 1000000 }
+    requires room { layout.old.at + length text.now ≤ MOST_BYTES }
     requires bounded { spec.IsBounded layout.old }
     requires some { 0 < length text.now }
     ensures turns { spec.Turns (spec.step layout.old number text.now parts) all.old all.new layout.new result }
@@ -293,7 +293,7 @@ pub fn step(
 
 /// The last tokens.
 pub fn finish(alloc: Global, all: &mut List<PyToken>, layout: &mut Layout) -> Result<(), LexFault>
-    requires { layout.old.at ≤ 1000000 }
+    requires { layout.old.at ≤ MOST_BYTES }
     ensures { spec.Ends (spec.finish layout.old) all.old all.new result }
 {
     if layout.line == Line::Inside && layout.depth == 0 {

@@ -10,7 +10,7 @@ use crate::layout::{Layout, finish, step};
 use crate::parts::{Lexemes, look};
 use crate::token::PyToken;
 use lexing::without_mark;
-use node_tree::{LexFault, List, Mode};
+use node_tree::{LexFault, List, MOST_BYTES, Mode};
 use std::alloc::Global;
 
 /// The tokens of a text, of which there is one list at most.
@@ -20,7 +20,7 @@ use std::alloc::Global;
 /// just where the text has no list of tokens. The tokens lie in the text one behind the other, and so do the parts of
 /// its f-strings; no span cuts a character.
 pub fn tokens(alloc: Global, text: &str, mode: Mode) -> Result<List<PyToken>, LexFault>
-    requires { length text.now ≤ 1000000 }
+    requires { length text.now ≤ MOST_BYTES }
     ensures given { IfOk result (λ l. spec.IsTokensOf mode text.now l) }
     ensures placed { IfOk result (AreTokensIn text.now) }
     ensures only { (ts : List token) → spec.IsTokensOf mode text.now ts → spec.Gives ts result }

@@ -13,7 +13,7 @@ use crate::inside::{Inside, Place, step};
 use crate::table::{COLUMNS, ROWS, STARTS, WIDTH};
 use crate::token::FPart;
 use lexing::Automaton;
-use node_tree::{LexFault, List, Mode};
+use node_tree::{LexFault, List, MOST_BYTES, Mode};
 use std::alloc::Global;
 
 /// Where lexemes are looked for.
@@ -135,7 +135,7 @@ fn inside_start(class: Class, text: &str) -> usize
 
 /// What stands between the quotes of an f-string.
 fn inside_of(class: Class, text: &str) -> Option<&str>
-    requires { length text.now ≤ 1000000 }
+    requires { length text.now ≤ MOST_BYTES }
     ensures cases { MatchOption result (spec.IsQuoted class text.now → ⊥) (λ inner. spec.IsQuoted class text.now × (inner.now ≡ spec.inside class text.now)) }
     ensures room { IfSome result (λ inner. spec.inside_start class text.now + length inner.now ≤ length text.now) }
 {
@@ -179,7 +179,7 @@ pub fn look<'t>(
     at: usize,
     levels: usize,
 ) -> Result<Found<'t>, LexFault>
-    requires { at + length text.now ≤ 1000000 }
+    requires { at + length text.now ≤ MOST_BYTES }
     ensures { spec.Looks (spec.HasParts levels mode) (starts.rules_of lexemes mode forms) at text.now result }
 {
     let Some(piece) = automaton(lexemes, mode, forms).next_piece(text) else {
@@ -220,7 +220,7 @@ fn parts_of(
     at: usize,
     levels: usize,
 ) -> Result<List<FPart>, LexFault>
-    requires { at + length text.now ≤ 1000000 }
+    requires { at + length text.now ≤ MOST_BYTES }
     ensures given { IfOk result (λ l. spec.HasParts levels mode at class (chars text.now) l) }
     ensures only { (xs : List part) → spec.HasParts levels mode at class (chars text.now) xs → Gives xs result }
 {
@@ -248,7 +248,7 @@ fn parts_within(
     at: usize,
     levels: usize,
 ) -> Result<List<FPart>, LexFault>
-    requires { at + length text.now ≤ 1000000 }
+    requires { at + length text.now ≤ MOST_BYTES }
     ensures given { IfOk result (λ l. spec.HasInside (spec.HasParts levels mode) mode at (chars text.now) l) }
     ensures only { (xs : List part) → spec.HasInside (spec.HasParts levels mode) mode at (chars text.now) xs → Gives xs result }
 {

@@ -9,8 +9,8 @@ ghost use Rattle.py_stmt.specs.Modules.{IsExpression, IsShape, IsPattern};
 ghost use Rattle.py_stmt.specs.Modules as spec;
 
 use crate::whole::{lexed, read_items};
-use node_tree::{Kind, List, Memory, Mode, Node, ReadFault, Shape};
-use py_expr::{Item, LIMIT, is_shallow, items, over};
+use node_tree::{Kind, List, MOST_BYTES, MOST_DEEP, Memory, Mode, Node, ReadFault, Shape};
+use py_expr::{Item, is_shallow, items, over};
 use py_suite::plain;
 use std::alloc::Global;
 
@@ -72,7 +72,7 @@ fn shaped(
 /// The tree of a run is a `Block`, from where the first statement begins to where the last ends. NoTree comes exactly where the
 /// text has no tokens, or no tree at most 500 deep spells them, or a token stands inside more than 500 open brackets.
 pub fn read_py_pattern(alloc: Global, text: &str) -> Result<(Shape, Node), ReadFault>
-    requires { length text.now ≤ 1000000 }
+    requires { length text.now ≤ MOST_BYTES }
     // What is read is the pattern that the text is.
     ensures found { IfOk result (λ x. IsPattern text.now x.0 x.1) }
     // Its spans lie in the text, and cut no character of it.
@@ -81,11 +81,11 @@ pub fn read_py_pattern(alloc: Global, text: &str) -> Result<(Shape, Node), ReadF
     ensures only { (s : a_shape) (n : a_node) → IsPattern text.now s n → Gives (λ x. x) result (Some (s, n)) }
 {
     let all = lexed(alloc, text, Mode::Pattern)?;
-    let seen = items(alloc, Mode::Pattern, all.as_slice(), LIMIT)?;
+    let seen = items(alloc, Mode::Pattern, all.as_slice(), MOST_DEEP)?;
     let items = seen.as_slice();
     let statements = read_items(alloc, items)?;
     let (shape, tree) = shaped(alloc, items, statements)?;
-    if !is_shallow(&tree, LIMIT) {
+    if !is_shallow(&tree, MOST_DEEP) {
         return Err(ReadFault::NoTree);
     }
     Ok((shape, tree))

@@ -9,7 +9,7 @@ ghost use Rattle.py_lex.specs.declared.token.PyToken.{PyToken as token};
 ghost use Rattle.py_lex.specs.Lexing.{IsTokensOf};
 ghost use Rattle.py_lex.specs.Places.{AreTokensIn};
 
-use node_tree::{LexFault, List, Mode, Node, ReadFault};
+use node_tree::{LexFault, List, MOST_BYTES, Mode, Node, ReadFault};
 use py_expr::{Item, shallow_end};
 use py_lex::{PyToken, tokens};
 use py_suite::file_input;
@@ -35,7 +35,7 @@ pub fn read_items(alloc: Global, items: &[Item<'_>]) -> Result<List<Node>, ReadF
 
 /// The tokens of a text.
 pub fn lexed(alloc: Global, text: &str, mode: Mode) -> Result<List<PyToken>, ReadFault>
-    requires { length text.now ≤ 1000000 }
+    requires { length text.now ≤ MOST_BYTES }
     ensures given { IfOk result (IsTokensOf mode text.now) }
     ensures placed { IfOk result (AreTokensIn text.now) }
     ensures only { (ts : list token) → IsTokensOf mode text.now ts → Gives (λ l. l) result (Some ts) }

@@ -22,6 +22,7 @@ use node_tree::{List, Memory};
 use rule_form::{Child, Formula};
 use sorted_sets::Member;
 use std::alloc::Global;
+use tree_match::MOST_MEMBERS;
 
 // Adds the members of the set.
 fn add_all<'t>(set: &[Member<'t>], members: &mut Vec<Member<'t>>) -> Result<(), Memory>
@@ -53,7 +54,7 @@ fn union<'t>(alloc: Global, sets: &[Vec<Member<'t>>]) -> Result<Vec<Member<'t>>,
     ensures ordered { IfOk result (λ v. IsAscending member_cmp v.items) }
     ensures exact { IfOk result (λ v. (m : member_value) → Among v.items m ↔ IsInSome sets.now m) }
     ensures crowded { IfErr result (IsFaultFrom (OneSet [] (IsInSome sets.now))) }
-    ensures few { IfOk result (λ v. length v.items ≤ 10000) }
+    ensures few { IfOk result (λ v. length v.items ≤ MOST_MEMBERS) }
 {
     let mut members = Vec::new(alloc);
     for set in sets {

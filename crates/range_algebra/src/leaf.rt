@@ -14,13 +14,13 @@ use member_join::{EvalFault, crowded, gathered};
 use meta_bind::Trail;
 use sorted_sets::Member;
 use std::alloc::Global;
-use tree_match::{Leaf, LeafSet};
+use tree_match::{Leaf, LeafSet, MOST_MEMBERS};
 
 // The members of the set, borrowed, in order and each once.
 fn borrowed<'t>(alloc: Global, set: &'t LeafSet) -> Result<Vec<Member<'t>>, EvalFault>
     ensures ordered { IfOk result (λ v. IsAscending member_cmp v.items) }
     ensures exact { IfOk result (λ v. (m : member_value) → Among v.items m ↔ Among set.now m) }
-    ensures few { IfOk result (λ v. length v.items ≤ 10000) }
+    ensures few { IfOk result (λ v. length v.items ≤ MOST_MEMBERS) }
     ensures crowded { IfErr result (IsFaultFrom (OneSet [] (Among set.now))) }
 {
     let mut members = Vec::new(alloc);

@@ -6,7 +6,7 @@ ghost use Rattle.rule_files.specs.declared.rule_file.RuleFile.{RuleFile as a_fil
 ghost use Rattle.rule_files.specs.RuleFiles.{IsContent, IsContentOf, IsRuleFile, outcomes_of};
 
 use code_reader::PatternReader;
-use node_tree::{List, Memory, Text};
+use node_tree::{List, MOST_BYTES, Memory, Text};
 use rule_entries::{RuleOutcome, RulesFault, read_entries};
 use std::alloc::Global;
 use yaml_cells::YValue;
@@ -57,7 +57,7 @@ fn content_of<R: PatternReader>(
     reader: &R,
     bytes: &[u8],
 ) -> Result<RuleContent, Memory>
-    requires { length bytes.now ≤ 1000000 }
+    requires { length bytes.now ≤ MOST_BYTES }
     ensures content { IfOk result (IsContent (R.writes reader.now) bytes.now) }
     ensures only { (c : a_content) → IsContent (R.writes reader.now) bytes.now c → IfOk result (λ found. found ≡ c) }
 {
@@ -80,7 +80,7 @@ pub fn read_rule_file<R: PatternReader>(
     name: &str,
     bytes: &[u8],
 ) -> Result<RuleFile, Memory>
-    requires { length bytes.now ≤ 1000000 }
+    requires { length bytes.now ≤ MOST_BYTES }
     ensures file { IfOk result (IsRuleFile (R.writes reader.now) name.now bytes.now) }
     ensures only { (f : a_file) → IsRuleFile (R.writes reader.now) name.now bytes.now f → IfOk result (λ found. found ≡ f) }
 {

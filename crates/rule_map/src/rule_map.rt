@@ -15,17 +15,12 @@ use code_reader::PatternReader;
 use file_map::{LimitKind, PutFault};
 use node_tree::{Bytes, Text};
 use rule_files::{RuleFile, read_rule_file};
+use scan_world::{MOST_RULE_BYTES, MOST_RULES};
 use std::alloc::Global;
 use std::marker::Model;
 
 // The most rule files.
 const MOST_FILES: usize = 100;
-
-// The most bytes of a rule file.
-const MOST_BYTES: usize = 262_144;
-
-// The most entries of all rule files.
-const MOST_ENTRIES: usize = 1_000;
 
 /// Rule files by name, at most 100 of at most 262,144 bytes each and 1,000 entries together, with what a reader of patterns reads
 /// in them. Contracts see the reader and the files in order of name, each with its bytes.
@@ -101,8 +96,8 @@ impl<'r, R: PatternReader> RuleMap<'r, R> {
         if files > MOST_FILES {
             return Err(PutFault::OverLimit(LimitKind::RuleFiles, files as u64));
         }
-        if bytes.len() > MOST_BYTES {
-            return Err(PutFault::OverLimit(LimitKind::RuleBytes, MOST_BYTES as u64 + 1));
+        if bytes.len() > MOST_RULE_BYTES {
+            return Err(PutFault::OverLimit(LimitKind::RuleBytes, MOST_RULE_BYTES as u64 + 1));
         }
         let rules = read_rule_file(self.alloc, self.reader, name, bytes)?;
         let others = entries_besides(self.contents.as_slice(), self.entries, place);
@@ -110,7 +105,7 @@ impl<'r, R: PatternReader> RuleMap<'r, R> {
         let Some(entries) = others.checked_add(rules.entries()) else {
             return Err(PutFault::Memory);
         };
-        if entries > MOST_ENTRIES {
+        if entries > MOST_RULES {
             return Err(PutFault::OverLimit(LimitKind::Rules, entries as u64));
         }
         Ok((rules, entries))

@@ -9,14 +9,8 @@ ghost use Rattle.scan_run.specs.Config.{IsRules, ConfigEnds, IsOneFile, HasRules
 use languages::Languages;
 use rule_files::{RuleFile, read_rule_file};
 use run_status::{LimitKind, Status};
-use scan_world::{Tree, TreeFault};
+use scan_world::{MOST_RULE_BYTES, MOST_RULES, Tree, TreeFault};
 use std::alloc::Global;
-
-// The most bytes of the rules.
-const MOST_BYTES: usize = 262_144;
-
-// The most entries of the rules.
-const MOST_RULES: usize = 1_000;
 
 // The rules that these bytes are, within the limits.
 fn rules_of(alloc: Global, path: &str, bytes: &[u8]) -> Result<RuleFile, Status>
@@ -27,8 +21,8 @@ fn rules_of(alloc: Global, path: &str, bytes: &[u8]) -> Result<RuleFile, Status>
     ensures one_file_ended { IfErr result (λ status. IsAnswer status → IsOneFile path.now (Some bytes.now)) }
     ensures cause { IfErr result IsOfLimit }
 {
-    if bytes.len() > MOST_BYTES {
-        return Err(Status::OverLimit(LimitKind::RuleBytes, MOST_BYTES as u64 + 1));
+    if bytes.len() > MOST_RULE_BYTES {
+        return Err(Status::OverLimit(LimitKind::RuleBytes, MOST_RULE_BYTES as u64 + 1));
     }
     let rules = read_rule_file(alloc, &Languages, path, bytes)?;
     let entries = rules.entries();
@@ -47,7 +41,7 @@ pub fn read_config<T: Tree>(alloc: Global, tree: &mut T, path: &str) -> Result<R
     ensures unfailed { OnOk result (T.faults tree.new ≡ T.faults tree.old) }
     ensures cause { IfErr result (HasConfigCause (T.faults tree.old) (T.faults tree.new) (T.absences tree.old) (T.absences tree.new)) }
 {
-    match tree.read(path, MOST_BYTES as u64) {
+    match tree.read(path, MOST_RULE_BYTES as u64) {
         Ok(bytes) => rules_of(alloc, path, bytes.as_slice()),
         Err(TreeFault::Absent) => Err(Status::NoSuchPath),
         Err(TreeFault::Memory) => Err(Status::Memory),

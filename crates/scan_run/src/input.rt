@@ -9,12 +9,13 @@ ghost use Rattle.scan_run.specs.Streams.{TakesPiece, IsTarget, IsTooLong};
 ghost use Rattle.run_status.specs.declared.status.Status.TheVariants.{OverLimit as over_limit};
 ghost use Rattle.file_map.specs.declared.limit.LimitKind.TheVariants.{Target as target};
 
+use node_tree::MOST_BYTES;
 use run_status::{LimitKind, Status};
 use scan_world::Source;
 use std::alloc::Global;
 
 // The most bytes that are read: one more than an input may have.
-const MOST: usize = 1_000_001;
+const MOST: usize = MOST_BYTES + 1;
 
 const PIECE: usize = 16384;
 

@@ -21,7 +21,7 @@ use run_status::Status;
 use scan_world::{Sink, Source};
 use std::alloc::Global;
 use std::sync::ledger::Ledger;
-use tree_match::Leaf;
+use tree_match::{Leaf, MOST_MEMBERS};
 
 // The file with the names that are known in it, where the pattern may take them; else as it is.
 fn named_for(alloc: Global, pattern: &Pattern, file: FileView) -> Result<FileView, Memory>
@@ -52,7 +52,7 @@ fn print_members<K: Sink, L: Ledger>(
 {
     let members = match match_leaf(alloc, file, pattern, steps) {
         Ok(Leaf::Full(members)) => members,
-        Ok(Leaf::Crowded) => return Status::TooMany(10_000),
+        Ok(Leaf::Crowded) => return Status::TooMany(MOST_MEMBERS as u64),
         Err(_) => return Status::Memory,
     };
     match print_all(alloc, out, &members) {

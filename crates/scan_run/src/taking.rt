@@ -9,28 +9,19 @@ ghost use Rattle.scan_run.specs.Scanned.{ScansRead, ScansFiles};
 
 use folder_files::taken_under;
 use languages::Languages;
-use node_tree::{List, Steps, Text};
+use node_tree::{List, MOST_BYTES, Steps, Text};
 use run_status::{LimitKind, Status};
 use scan_session::Scanner;
-use scan_world::{Tree, TreeFault};
+use scan_world::{MOST_FILE_BYTES, MOST_FILES, Tree, TreeFault};
 use std::alloc::Global;
 use std::sync::ledger::Ledger;
-
-// The most files of a scan.
-const MOST_FILES: usize = 10_000;
-
-// The most bytes of all files of a scan.
-const MOST_BYTES: usize = 33_554_432;
-
-// The most bytes of a file that is scanned.
-const MOST: u64 = 1_000_000;
 
 // Counts a file more, after so many files and bytes: how many bytes all have then.
 fn count_file(files: usize, total: usize, bytes: usize) -> Result<usize, Status>
     requires files { files ≤ MOST_FILES }
-    requires total { total ≤ MOST_BYTES }
+    requires total { total ≤ MOST_FILE_BYTES }
     requires bytes { bytes ≤ 1000001 }
-    ensures within { IfOk result (λ all. (files + 1 ≤ MOST_FILES) × (all ≤ MOST_BYTES) × (all ≡ total + bytes)) }
+    ensures within { IfOk result (λ all. (files + 1 ≤ MOST_FILES) × (all ≤ MOST_FILE_BYTES) × (all ≡ total + bytes)) }
     ensures over { IfErr result (IsOver files total bytes) }
     ensures cause { IfErr result IsOfLimit }
 {
@@ -38,7 +29,7 @@ fn count_file(files: usize, total: usize, bytes: usize) -> Result<usize, Status>
         return Err(Status::OverLimit(LimitKind::Files, files as u64 + 1));
     }
     let all = total + bytes;
-    if all > MOST_BYTES {
+    if all > MOST_FILE_BYTES {
         return Err(Status::OverLimit(LimitKind::FileBytes, all as u64));
     }
     Ok(all)
@@ -61,7 +52,7 @@ fn scan_all<T: Tree, L: Ledger>(
     let (mut files, mut total) = (0, 0);
     for path in paths.as_slice() {
         let name = path.as_str();
-        let bytes = match tree.read(name, MOST) {
+        let bytes = match tree.read(name, MOST_BYTES as u64) {
             Ok(bytes) => bytes,
             Err(TreeFault::Absent) => continue,
             Err(TreeFault::Memory) => return Err(Status::Memory),

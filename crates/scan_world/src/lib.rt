@@ -5,6 +5,7 @@
 #![tactic(auto)]
 
 mod calls;
+mod limits;
 mod memory_sink;
 mod memory_source;
 mod memory_tree;
@@ -12,6 +13,7 @@ mod paths;
 mod streams;
 mod tree;
 
+pub use limits::{MOST_FILE_BYTES, MOST_FILES, MOST_RULE_BYTES, MOST_RULES};
 pub use memory_sink::MemorySink;
 pub use memory_source::MemorySource;
 pub use memory_tree::MemoryTree;

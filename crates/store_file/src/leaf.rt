@@ -13,7 +13,7 @@ use node_tree::{Bytes, Memory, Span};
 use std::alloc::Global;
 use std::cmp::Ordering;
 use store_form::{FormFault, Front, add_length, add_members, add_number};
-use tree_match::{Leaf, LeafSet, MOST};
+use tree_match::{Leaf, LeafSet, MOST_MEMBERS};
 
 // Which of two members comes first.
 fn order(a: &(Span, Binding), b: &(Span, Binding)) -> Result<Ordering, Memory>
@@ -59,7 +59,7 @@ pub fn take_leaf(alloc: Global, front: &mut Front<'_>) -> Result<Leaf, FormFault
     if count == u32::MAX {
         return Ok(Leaf::Crowded);
     }
-    if count as usize > MOST {
+    if count as usize > MOST_MEMBERS {
         return Err(FormFault::NoForm);
     }
     let members = front.members(alloc, count)?;
@@ -76,7 +76,7 @@ pub fn add_leaf(out: &mut Bytes, leaf: &Leaf) -> Result<(), FormFault>
     match leaf {
         Leaf::Crowded => add_number(out, u32::MAX),
         Leaf::Full(set) => {
-            if set.len() > MOST {
+            if set.len() > MOST_MEMBERS {
                 return Err(FormFault::NoForm);
             }
             add_length(out, set.len())?;

@@ -1,7 +1,7 @@
 //! Trees written as bytes, and read back.
 //!
-//! No two trees have the same bytes, nor does what one begins with make up another, so bytes of trees serve as keys. They take a
-//! fraction of the memory that the trees do.
+//! No two trees have the same bytes, and no tree's bytes go on to make those of another, so bytes of trees serve as keys. They
+//! take a fraction of the memory that the trees do.
 #![tactic(auto)]
 
 mod front;

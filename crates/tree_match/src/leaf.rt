@@ -21,7 +21,7 @@ use std::alloc::Global;
 use std::marker::Model;
 
 /// The most members of a set.
-pub const MOST: usize = 10000;
+pub const MOST_MEMBERS: usize = 10_000;
 
 /// The members of a set: ranges, each with what the metavariables stand for there. They stand in order of range, then of
 /// binding (the names with their spans, then the contents), each once.
@@ -163,7 +163,7 @@ fn members_of_kinds<'t>(
     for further in 0..root.size() {
         let kind = kinds[further as usize];
         add_begun_at(alloc, known, pattern, root, further, kind, &mut members)?;
-        if members.len() > MOST {
+        if members.len() > MOST_MEMBERS {
             return Ok(None);
         }
     }
@@ -184,12 +184,19 @@ fn add_begun_at<'t>(
     requires kind { kind ≡ slice_index (kinds_at (seen root)) further }
     requires ascend { IsAscending member_cmp members.old }
     ensures ordered { IsAscending member_cmp members.new }
-    ensures added { OnOk result ((s : Numbered) → s ≡ slice_index_or (pre_at (seen root.entry)) further s → AddsUpTo 10000 members.old members.new (λ m. MemberAt known.entry.names.now pattern.now s m)) }
+    ensures added { OnOk result ((s : Numbered) → s ≡ slice_index_or (pre_at (seen root.entry)) further s → AddsUpTo MOST_MEMBERS members.old members.new (λ m. MemberAt known.entry.names.now pattern.now s m)) }
 {
     if is_elsewhere(pattern, kind) {
         return Ok(());
     }
-    add_node(alloc, known, pattern, root.below(further), members, MOST)?;
+    add_node(
+        alloc,
+        known,
+        pattern,
+        root.below(further),
+        members,
+        MOST_MEMBERS,
+    )?;
     Ok(())
 }
 
@@ -229,7 +236,7 @@ fn members_in_blocks<'t>(
     let mut members = List::new(alloc);
     for further in 0..root.size() {
         add_run_at(alloc, known, pattern, root.below(further), &mut members)?;
-        if members.len() > MOST {
+        if members.len() > MOST_MEMBERS {
             return Ok(None);
         }
     }
@@ -246,12 +253,12 @@ fn add_run_at<'t>(
 ) -> Result<(), Memory>
     requires { IsAscending member_cmp members.old }
     ensures ordered { IsAscending member_cmp members.new }
-    ensures added { OnOk result (AddsUpTo 10000 members.old members.new (λ m. MemberIn (MemberRun known.entry.names.now pattern.now) (those_blocks (seen spot.entry ∷ [])) m)) }
+    ensures added { OnOk result (AddsUpTo MOST_MEMBERS members.old members.new (λ m. MemberIn (MemberRun known.entry.names.now pattern.now) (those_blocks (seen spot.entry ∷ [])) m)) }
 {
     if !holds_statements(spot.node.kind) {
         return Ok(());
     }
-    add_block(alloc, known, pattern, spot, members, MOST)?;
+    add_block(alloc, known, pattern, spot, members, MOST_MEMBERS)?;
     Ok(())
 }
 

@@ -13,14 +13,15 @@ use crate::hand::Hand;
 use crate::head::{Head, read_line, take_line};
 use crate::trouble::Trouble;
 use crate::wire::Wire;
-use scan_world::Source;
+use node_tree::MOST_BYTES;
+use scan_world::{MOST_RULE_BYTES, Source};
 use std::alloc::Global;
 
 // The most bytes that are kept of a file: one more than a file that is scanned may have.
-const MOST_FILE: usize = 1_000_001;
+const MOST_FILE: usize = MOST_BYTES + 1;
 
 // The most bytes that are kept of a rule file: one more than it may have.
-const MOST_RULES: usize = 262_145;
+const MOST_RULES: usize = MOST_RULE_BYTES + 1;
 
 /// Reads what follows the line of a command, and tells how many bytes it has.
 fn read_rest<S: Source>(

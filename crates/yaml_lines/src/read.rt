@@ -14,7 +14,7 @@ use crate::head::{Marks, before_blanks, is_skipped, past_blanks, read_marks};
 use crate::key::{Key, read_key, text_of};
 use crate::line::YLine;
 use crate::scan::{Place, Scan, Scanned, scan_line};
-use node_tree::{List, Memory, Text};
+use node_tree::{List, MOST_BYTES, Memory, Text};
 use std::alloc::Global;
 use std::str::from_utf8;
 
@@ -225,7 +225,7 @@ pub fn past_order_mark(bytes: &[u8]) -> &[u8]
 /// their start, are no UTF-8, or a line that begins a value has a feature outside the profile, of which the first is named.
 /// `NoValue` is no answer of this call.
 pub fn lines(alloc: Global, bytes: &[u8]) -> Result<List<YLine>, YFault>
-    requires { length bytes.now ≤ 1000000 }
+    requires { length bytes.now ≤ MOST_BYTES }
     ensures { Gives (spec.lines_of bytes.now) result }
 {
     let Ok(text) = from_utf8(past_order_mark(bytes)) else {

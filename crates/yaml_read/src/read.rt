@@ -11,7 +11,7 @@ ghost use Rattle.yaml_read.specs.Value as spec;
 ghost use Rattle.yaml_cells.specs.declared.value.YValue.{YValue};
 
 use crate::build::node;
-use node_tree::{List, Memory, Text, Twin};
+use node_tree::{List, MOST_BYTES, Memory, Text, Twin};
 use std::alloc::Global;
 use std::str::from_utf8;
 use yaml_cells::cell::Cell;
@@ -136,7 +136,7 @@ fn built(alloc: Global, mut cells: List<Cell>) -> Result<YValue, YFault>
 
 /// The value of a YAML text, as it is read from the left.
 fn value_in(alloc: Global, bytes: &[u8]) -> Result<YValue, YFault>
-    requires { length bytes.now ≤ 1000000 }
+    requires { length bytes.now ≤ MOST_BYTES }
     ensures { Gives (spec.value_of bytes.now) result }
 {
     let found = lines(alloc, bytes)?;
@@ -155,7 +155,7 @@ fn value_in(alloc: Global, bytes: &[u8]) -> Result<YValue, YFault>
 /// The error is `NotUtf8` where the bytes, without a byte order mark at their start, are no UTF-8, `OutsideProfile` with the
 /// first line (counted from 1) that has a feature outside the profile, and `NoValue` where there is no value.
 pub fn read_yaml(alloc: Global, bytes: &[u8]) -> Result<YValue, YFault>
-    requires { length bytes.now ≤ 1000000 }
+    requires { length bytes.now ≤ MOST_BYTES }
     ensures value { IfOk result (spec.IsValueOf bytes.now) }
     ensures only { (value : YValue) → spec.IsValueOf bytes.now value → Gives (Ok value) result }
     ensures no_value { result ≡ Err NoValue → (value : YValue) → spec.IsValueOf bytes.now value → ⊥ }

@@ -28,8 +28,8 @@ returns-in_err-part-clause-only c = λ mode n to all r.
     let h : _ = fails_still {Z = Node × ℕ} one c.in_err-part.field-0.0 _ (one (q, to)) (n, to) c.in_err-part.ensures.gives (tree_is_read mode (take c.shallow_end.result c.args.tokens.now) c.args.level c.args.from n to (left_of_mode mode c.args.tokens.now c.shallow_end.result all) left) in
     search (rules, h)
 
-pub returns-then-part-gt-MAX_DEPTH-clause-only : goal.returns-then-part-gt-MAX_DEPTH-clause-only
-returns-then-part-gt-MAX_DEPTH-clause-only c = λ mode n to all r.
+pub returns-then-part-gt-MOST_DEEP-clause-only : goal.returns-then-part-gt-MOST_DEEP-clause-only
+returns-then-part-gt-MOST_DEEP-clause-only c = λ mode n to all r.
     let cut : IsCut c.args.tokens.now c.args.from c.shallow_end.result = record { ordered = c.shallow_end.ensures.ordered; within = c.shallow_end.ensures.within; many = c.shallow_end.ensures.many } in
     let left : _ = tree_of_left mode c.args.tokens.now c.args.level c.args.from c.shallow_end.result n to cut r in
     let d : left.depth ≡ c.in_ok-part.part.depth = ap (λ (p : Part). p.depth) (one_tree mode (take c.shallow_end.result c.args.tokens.now) c.args.level c.args.from n c.in_ok-part.part to c.in_ok-part.end (left_of_mode mode c.args.tokens.now c.shallow_end.result all) left c.in_ok-part.ensures.gives).0 in

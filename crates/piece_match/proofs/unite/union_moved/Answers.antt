@@ -17,8 +17,8 @@ loop-part-preserved c =
 pub returns-in_default : goal.returns-in_default
 returns-in_default c = inl (crowded_part c.args.parts.now c.loop-part.part-index c.part-item.result c.loop-part-test.true c.part-item.is c.in_default.is)
 
-pub returns-then-len-gt-MOST : goal.returns-then-len-gt-MOST
-returns-then-len-gt-MOST c =
+pub returns-then-len-gt-MOST_MEMBERS : goal.returns-then-len-gt-MOST_MEMBERS
+returns-then-len-gt-MOST_MEMBERS c =
     let l = c.loop-part in
     inr (record {
       some = c.in_ok-members.members;

@@ -5,8 +5,8 @@ use Rattle.scan_run.specs.Config.{ConfigEnds, too_long, too_many_rules}
 use Rattle.scan_run.proofs.Rules.{one_file}
 use Rattle.scan_run.proofs.config.rules_of.Goals as goal
 
-pub returns-then-bytes-gt-MOST_BYTES-clause-ended : goal.returns-then-bytes-gt-MOST_BYTES-clause-ended
-returns-then-bytes-gt-MOST_BYTES-clause-ended c a = too_long c.args.bytes.now (omega arith)
+pub returns-then-bytes-gt-MOST_RULE_BYTES-clause-ended : goal.returns-then-bytes-gt-MOST_RULE_BYTES-clause-ended
+returns-then-bytes-gt-MOST_RULE_BYTES-clause-ended c a = too_long c.args.bytes.now (omega arith)
 
 pub returns-then-entries-gt-MOST_RULES-clause-ended : goal.returns-then-entries-gt-MOST_RULES-clause-ended
 returns-then-entries-gt-MOST_RULES-clause-ended c a =

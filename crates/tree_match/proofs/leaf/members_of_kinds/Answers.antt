@@ -30,8 +30,8 @@ loop-further-preserved c =
       gathers = λ m. gathered _ _ _ _ _ _ ((c.in_ok-add_begun_at.ensures.added spot is).whole (omega (arith, c.len.ensures)) m) (next_node (MemberAt c.args.known.names.now c.args.pattern.now) spot _ _ m here) (c.loop-further.invariant.gathers m);
     }
 
-pub returns-then-len-gt-MOST : goal.returns-then-len-gt-MOST
-returns-then-len-gt-MOST c =
+pub returns-then-len-gt-MOST_MEMBERS : goal.returns-then-len-gt-MOST_MEMBERS
+returns-then-len-gt-MOST_MEMBERS c =
     let xs = pre_at (seen c.args.root) in
     let lt : c.loop-further.further < length xs = omega (arith, pre_many (seen c.args.root), c.size-further-end.ensures.size, c.loop-further-test.true) in
     let spot = get_or xs c.loop-further.further (seen c.args.root) in
