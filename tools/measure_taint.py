@@ -47,12 +47,33 @@ def go_nowhere(lines):
     return 'a = "x"\n' * lines + 'sink(a)\n'
 
 
+def go_no_step(lines):
+    return 'f("x")\n' * lines + 'sink(a)\n'
+
+
+def round_and_round(names, sources, lines):
+    """A loop whose names all take from one another, with as many sources, each of which gets to each name at each point."""
+    moved = ''.join('        a%d = a%d + a%d%s\n' % (k % names, k % names, (k + 1) % names, ' + src()' if k < sources else '') for k in range(lines))
+    return 'def f(b):\n    while b:\n' + moved + '    sink(a0)\n'
+
+
+def many_sources_round(lines):
+    return round_and_round(17, 240, lines)
+
+
+def many_names_round(lines):
+    return round_and_round(4_900, 1, lines)
+
+
 CASES = [('lines between one source and one sink', CALLS, one_source, (5_000, 10_000, 20_000)),
          ('functions with a source and a sink each', CALLS, functions, (2_500, 5_000, 10_000)),
          ('sources, names and sinks in one function', CALLS, many_sources, (50, 100, 200)),
          ('sinks without a source', CALLS, no_source, (2_000, 4_000, 8_000)),
          ('lines with no source and no sink', CALLS, nothing, (5_000, 10_000, 20_000)),
-         ('sources that go nowhere, and one sink', STRINGS, go_nowhere, (1_000, 2_500, 4_990))]
+         ('sources that are overwritten, and one sink', STRINGS, go_nowhere, (1_000, 2_500, 4_990)),
+         ('sources that go nowhere, and one sink', STRINGS, go_no_step, (1_000, 2_000, 4_000)),
+         ('lines with 240 sources and 17 names, the most that are followed', CALLS, many_sources_round, (10_400,)),
+         ('lines with a source and 4,900 names, the most that are followed', CALLS, many_names_round, (10_180,))]
 
 
 def took(words, folder):
