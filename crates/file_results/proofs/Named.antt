@@ -31,9 +31,8 @@ use Rattle.file_results.specs.Sets.{IsExactly}
 use Rattle.file_results.specs.Reports.{reported_cmp}
 use Rattle.running_rules.proofs.Members.{among_left, among_right}
 use Rattle.file_results.specs.Looking.{AreLeaves, LooksAt, RuleFinds, named_leaf, own_leaf}
-use Rattle.file_results.specs.Needing.{UsesNames, RulesUseNames, AreWanted, HasNoneOrAll, NeedsNoNames, RulesNeedNoNames, Serves, ServesRules}
+use Rattle.file_results.specs.Needing.{UsesNames, RulesUse, RulesUseNames, AreWanted, HasNoneOrAll, NeedsNoNames, RulesNeedNoNames, Serves, ServesRules}
 use Rattle.file_results.specs.Quieted.{Comments}
-use Rattle.file_results.specs.Taking.{SomeTakeNamesIn}
 use Rattle.file_results.specs.Shown.{IsFoundIn, IsShownIn, IsNotedIn}
 use Rattle.file_results.specs.Tracing.{PartHas, IsPartTrace, IsRuleTrace, IsTraced, HasTrace}
 
@@ -58,9 +57,9 @@ lacking lang tree p none known other leaf h =
 
 -- ---- rules that may use no names
 
--- rules that may use names in a file take them
-pub used_taken : (lang : Lang) (tree : Node) (rules : List Rule) → RulesUseNames lang tree rules → SomeTakeNamesIn lang rules
-used_taken lang tree rules (rule, runs, (part, has, (looks, (p, a, uses)))) = (rule, runs, (part, has, (looks, (p, a, uses.0))))
+-- rules that use names also do so where more patterns may have members
+pub use_more : (Few More : Pattern → Type 0) → ((p : Pattern) → Few p → More p) → (lang : Lang) (rules : List Rule) → RulesUse Few lang rules → RulesUse More lang rules
+use_more Few More more lang rules (rule, runs, (part, has, (looks, (p, a, (takes, may))))) = (rule, runs, (part, has, (looks, (p, a, (takes, more p may)))))
 
 -- a pattern that may use no names needs none
 uses_none : (lang : Lang) (tree : Node) (p : Pattern) (b : Bool) → uses_literals p ≡ b → (UsesNames lang tree p → ⊥) → NeedsNoNames lang tree p

@@ -3,7 +3,6 @@ pub mod Looking
 pub mod Asking
 pub mod Needing
 pub mod Following
-pub mod Taking
 pub mod Reports
 pub mod Hits
 pub mod HitOrder

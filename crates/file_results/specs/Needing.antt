@@ -16,26 +16,33 @@ use Rattle.file_results.specs.Looking.{LooksAt, named_leaf}
 
 -- ---- rules that may use names
 
--- names may make a difference to the pattern in a file of that language with that tree: literals of it also take names that hold
--- them, and the file may have it
-abbrev pub UsesNames : Lang → Node → Pattern → Type 0
-UsesNames lang tree p = (uses_literals p ≡ true) × MayHaveIn lang tree p
+-- names may make a difference to a pattern that may have members: literals of it also take names that hold them
+abbrev pub Uses : (Pattern → Type 0) → Pattern → Type 0
+Uses May p = (uses_literals p ≡ true) × May p
 
 -- so may one of the patterns
-abbrev pub PatternsUseNames : Lang → Node → List Pattern → Type 0
-PatternsUseNames lang tree ps = (p : Pattern) × Among ps p × UsesNames lang tree p
+abbrev pub PatternsUse : (Pattern → Type 0) → List Pattern → Type 0
+PatternsUse May ps = (p : Pattern) × Among ps p × Uses May p
 
 -- the part looks at files of the language, and one of its patterns may use names there
-abbrev pub PartUsesNames : Lang → Node → Part → Type 0
-PartUsesNames lang tree part = LooksAt part lang × PatternsUseNames lang tree part.patterns
+abbrev pub PartUses : (Pattern → Type 0) → Lang → Part → Type 0
+PartUses May lang part = LooksAt part lang × PatternsUse May part.patterns
 
 -- so may one of the parts
-abbrev pub PartsUseNames : Lang → Node → List Part → Type 0
-PartsUseNames lang tree parts = (part : Part) × Among parts part × PartUsesNames lang tree part
+abbrev pub PartsUse : (Pattern → Type 0) → Lang → List Part → Type 0
+PartsUse May lang parts = (part : Part) × Among parts part × PartUses May lang part
 
 -- so may one of the rules
+abbrev pub RulesUse : (Pattern → Type 0) → Lang → List Rule → Type 0
+RulesUse May lang rules = (rule : Rule) × Among rules rule × PartsUse May lang rule.parts
+
+-- so may a pattern in a file of that language with that tree
+abbrev pub UsesNames : Lang → Node → Pattern → Type 0
+UsesNames lang tree p = Uses (MayHaveIn lang tree) p
+
+-- so may one of the rules in it
 abbrev pub RulesUseNames : Lang → Node → List Rule → Type 0
-RulesUseNames lang tree rules = (rule : Rule) × Among rules rule × PartsUseNames lang tree rule.parts
+RulesUseNames lang tree rules = RulesUse (MayHaveIn lang tree) lang rules
 
 -- just the names that are known in the file, where one of the rules may use names there; else none
 abbrev pub AreWanted : Knows → Lang → Node → List Rule → List Known → Type 0

@@ -11,12 +11,12 @@
 #![tactic(auto)]
 
 mod looking;
+mod may_have;
 mod needing;
 mod quiet;
 mod reporting;
 mod row;
 mod scanning;
-mod taking;
 mod tracing;
 
 pub use needing::with_needed_names;

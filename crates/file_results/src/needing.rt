@@ -2,24 +2,24 @@
 //! where names make no difference to the patterns of the rules.
 
 ghost use Rattle.std.specs.Prelude.{◌≡◌, ◌↔◌, [], IsTrue, IfOk};
-ghost use Rattle.file_results.specs.Needing.{UsesNames, PatternsUseNames, PartUsesNames, PartsUseNames, RulesUseNames, HasNoneOrAll, AreWanted};
+ghost use Rattle.file_results.specs.Needing.{Uses, PatternsUse, PartUses, PartsUse, RulesUse, RulesUseNames, HasNoneOrAll, AreWanted};
 
 use crate::looking::looks_at;
-use crate::taking::some_take_names_in;
+use crate::may_have::{AnyFile, MayHave};
 use code_reader::TreeReader;
+use file_match::ReadyFile;
 use file_open::with_names;
 use file_search::WholeFile;
 use import_names::resolved_beside;
 use literal_use::uses_literals;
-use node_tree::{FileView, List, Memory, Pattern};
+use node_tree::{FileView, Lang, List, Memory, Pattern};
 use rule_form::Part;
 use running_rules::Runner;
 use std::alloc::Global;
 
-// Whether names may make a difference to the pattern in the file: it may take one that is known to hold a literal, and the file
-// has the words that it needs.
-fn pattern_needs(alloc: Global, file: &WholeFile<'_>, pattern: &Pattern) -> Result<bool, Memory>
-    ensures { IfOk result (λ needs. IsTrue needs ↔ UsesNames file.now.lang file.now.tree pattern.now) }
+// Whether names may make a difference to the pattern: it may take one that is known to hold a literal, and may have members.
+fn pattern_needs<F: MayHave>(alloc: Global, file: &F, pattern: &Pattern) -> Result<bool, Memory>
+    ensures { IfOk result (λ needs. IsTrue needs ↔ Uses (F.may file.now) pattern.now) }
 {
     if !uses_literals(pattern) {
         return Ok(false);
@@ -28,8 +28,8 @@ fn pattern_needs(alloc: Global, file: &WholeFile<'_>, pattern: &Pattern) -> Resu
 }
 
 // The same for one of the patterns.
-fn patterns_need(alloc: Global, file: &WholeFile<'_>, patterns: &[Pattern]) -> Result<bool, Memory>
-    ensures { IfOk result (λ need. IsTrue need ↔ PatternsUseNames file.now.lang file.now.tree patterns.now) }
+fn patterns_need<F: MayHave>(alloc: Global, file: &F, patterns: &[Pattern]) -> Result<bool, Memory>
+    ensures { IfOk result (λ need. IsTrue need ↔ PatternsUse (F.may file.now) patterns.now) }
 {
     for pattern in patterns {
         if pattern_needs(alloc, file, pattern)? {
@@ -39,54 +39,66 @@ fn patterns_need(alloc: Global, file: &WholeFile<'_>, patterns: &[Pattern]) -> R
     Ok(false)
 }
 
-// The same for a pattern of the part, if it looks at the file.
-fn part_needs(alloc: Global, file: &WholeFile<'_>, part: &Part) -> Result<bool, Memory>
-    ensures { IfOk result (λ needs. IsTrue needs ↔ PartUsesNames file.now.lang file.now.tree part.now) }
+// The same for a pattern of the part, if it looks at files of the language.
+fn part_needs<F: MayHave>(alloc: Global, file: &F, lang: Lang, part: &Part) -> Result<bool, Memory>
+    ensures { IfOk result (λ needs. IsTrue needs ↔ PartUses (F.may file.now) lang part.now) }
 {
-    if !looks_at(part, file.view().lang) {
+    if !looks_at(part, lang) {
         return Ok(false);
     }
     patterns_need(alloc, file, part.patterns.as_slice())
 }
 
 // The same for one of the parts.
-fn parts_need(alloc: Global, file: &WholeFile<'_>, parts: &[Part]) -> Result<bool, Memory>
-    ensures { IfOk result (λ need. IsTrue need ↔ PartsUseNames file.now.lang file.now.tree parts.now) }
+fn parts_need<F: MayHave>(
+    alloc: Global,
+    file: &F,
+    lang: Lang,
+    parts: &[Part],
+) -> Result<bool, Memory>
+    ensures { IfOk result (λ need. IsTrue need ↔ PartsUse (F.may file.now) lang parts.now) }
 {
     for part in parts {
-        if part_needs(alloc, file, part)? {
+        if part_needs(alloc, file, lang, part)? {
             return Ok(true);
         }
     }
     Ok(false)
 }
 
-/// Whether the names that are known in the file may make a difference to one of the rules.
-pub fn rules_need(
+/// Whether the names that are known in a file of the language may make a difference to one of the rules, as far as the file tells
+/// which patterns may have members in it.
+pub fn rules_need<F: MayHave>(
     alloc: Global,
-    file: &WholeFile<'_>,
+    file: &F,
+    lang: Lang,
     running: &[Runner<'_>],
 ) -> Result<bool, Memory>
-    ensures { IfOk result (λ need. IsTrue need ↔ RulesUseNames file.now.lang file.now.tree running.now) }
+    ensures { IfOk result (λ need. IsTrue need ↔ RulesUse (F.may file.now) lang running.now) }
 {
     for runner in running {
-        if parts_need(alloc, file, runner.rule().parts.as_slice())? {
+        if parts_need(alloc, file, lang, runner.rule().parts.as_slice())? {
             return Ok(true);
         }
     }
     Ok(false)
 }
 
-// The same of a file that isn't ready for the search. It is made ready only for rules that may take names.
+// Whether the names that are known in a file may make a difference to one of the rules. The file is made ready only for rules that
+// may take names, and its imported names are looked up only where the words that stand there don't tell.
 fn view_needs(alloc: Global, view: &FileView, running: &[Runner<'_>]) -> Result<bool, Memory>
     ensures { IfOk result (λ need. IsTrue need ↔ RulesUseNames view.now.lang view.now.tree running.now) }
 {
-    if !some_take_names_in(running, view.lang) {
+    if !rules_need(alloc, &AnyFile, view.lang, running)? {
         return Ok(false);
     }
+    let written = ReadyFile::of(alloc, view)?;
+    if rules_need(alloc, &written, view.lang, running)? {
+        return Ok(true);
+    }
     let beside = resolved_beside(alloc, view)?;
-    let file = WholeFile::of(alloc, view, &beside)?;
-    rules_need(alloc, &file, running)
+    let file = WholeFile::with(alloc, written, &beside)?;
+    rules_need(alloc, &file, view.lang, running)
 }
 
 // The file without its names.

@@ -20,6 +20,7 @@ use crate::row::rows_of;
 use crate::tracing::with_traces;
 use code_reader::TreeReader;
 use comment_reader::CommentReader;
+use file_match::ReadyFile;
 use file_open::{Opened, open_file, with_names};
 use file_search::{FileSearch, WholeFile};
 use import_names::resolved_beside;
@@ -99,9 +100,13 @@ fn show_bare<R: TreeReader + CommentReader, L: Ledger>(
     ensures notices { IfOk result (λ shown. IsSome shown → Adds notices.old.items notices.new.items (IsNotedIn (own_leaf (R.knows reader.now)) running.now path.now view.now.lang view.now.bytes view.now.tree)) }
     ensures untold { IfOk result (λ shown. shown ≡ None → notices.new.items ≡ notices.old.items) }
 {
+    let written = ReadyFile::of(alloc, view)?;
+    if rules_need(alloc, &written, view.lang, running)? {
+        return Ok(None);
+    }
     let beside = resolved_beside(alloc, view)?;
-    let mut file = WholeFile::of(alloc, view, &beside)?;
-    if rules_need(alloc, &file, running)? {
+    let mut file = WholeFile::with(alloc, written, &beside)?;
+    if rules_need(alloc, &file, view.lang, running)? {
         return Ok(None);
     }
     let shown = scan_view(

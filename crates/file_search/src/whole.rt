@@ -97,10 +97,21 @@ impl<'v> WholeFile<'v> {
         requires { MatchOption resolved.now (IsResolved view.now view.now) (IsResolved view.now) }
         ensures { IfOk result (λ file. file ≡ view.now) }
     {
-        Ok(WholeFile {
-            written: ReadyFile::of(alloc, view)?,
-            resolved: beside(alloc, view, resolved)?,
-        })
+        let written = ReadyFile::of(alloc, view)?;
+        WholeFile::with(alloc, written, resolved)
+    }
+
+    /// The same of a file that is ready already, as it is written.
+    pub fn with(
+        alloc: Global,
+        written: ReadyFile<'v>,
+        resolved: &'v Option<FileView>,
+    ) -> Result<WholeFile<'v>, Memory>
+        requires { MatchOption resolved.now (IsResolved written written) (IsResolved written) }
+        ensures { IfOk result (λ file. file ≡ written.entry) }
+    {
+        let resolved = beside(alloc, written.view(), resolved)?;
+        Ok(WholeFile { written, resolved })
     }
 
     /// The file.
