@@ -39,6 +39,10 @@ def no_source(sinks):
     return 'def f(b):\n' + ''.join('    sink(a%d)\n' % k for k in range(sinks))
 
 
+def no_sink(sources):
+    return 'def f(b):\n' + ''.join('    a%d = src(b)\n' % (k % 7) for k in range(sources))
+
+
 def nothing(lines):
     return 'def f(b):\n' + ''.join('    a%d = g(a%d, b)\n' % (k % 7, (k + 1) % 7) for k in range(lines))
 
@@ -69,6 +73,7 @@ CASES = [('lines between one source and one sink', CALLS, one_source, (5_000, 10
          ('functions with a source and a sink each', CALLS, functions, (2_500, 5_000, 10_000)),
          ('sources, names and sinks in one function', CALLS, many_sources, (50, 100, 200)),
          ('sinks without a source', CALLS, no_source, (2_000, 4_000, 8_000)),
+         ('sources without a sink', CALLS, no_sink, (1_000, 2_000, 4_000)),
          ('lines with no source and no sink', CALLS, nothing, (5_000, 10_000, 20_000)),
          ('sources that are overwritten, and one sink', STRINGS, go_nowhere, (1_000, 2_500, 4_990)),
          ('sources that go nowhere, and one sink', STRINGS, go_no_step, (1_000, 2_000, 4_000)),
