@@ -6,7 +6,7 @@ ghost use Rattle.node_tree.specs.Numbers.{siblings};
 ghost use Rattle.node_tree.specs.Tree.{kids_of, kind_of};
 ghost use Rattle.flow_graph.specs.Outline.{labels_in, labels_here, name_among, target_among, target_by};
 
-use crate::parts::{parts_in, past};
+use crate::parts::{number_at, parts_in};
 use graph_form::{Point, Role};
 use node_tree::{Kind, List, Memory, Node, Text, Twin};
 use std::alloc::Global;
@@ -73,9 +73,9 @@ pub fn gather_each(
     ensures { OnOk result (labels.new ≡ labels.old ++ flat_map (labels_in depth) (siblings at nodes.now)) }
 {
     let mut next = at;
-    for node in nodes {
+    for (place, node) in nodes.iter().enumerate() {
+        next = number_at(next, nodes, place)?;
         gather(alloc, depth, next, node, labels)?;
-        next = past(next, node)?;
     }
     Ok(())
 }

@@ -6,7 +6,7 @@ ghost use Rattle.flow_graph.specs.Outline.{outlined};
 
 use crate::forms::form_of;
 use crate::labels::{Label, target_of};
-use crate::parts::{parts_in, past};
+use crate::parts::{number_at, parts_in};
 use flow_edges::{Form, Statement};
 use graph_form::Point;
 use node_tree::{List, Memory, Node};
@@ -57,9 +57,9 @@ pub fn outline_each(
 {
     let mut statements = List::new(alloc);
     let mut next = at;
-    for node in nodes {
+    for (place, node) in nodes.iter().enumerate() {
+        next = number_at(next, nodes, place)?;
         statements.push(outline(alloc, depth, labels, exit, next, node)?)?;
-        next = past(next, node)?;
     }
     Ok(statements)
 }

@@ -1,6 +1,6 @@
 //! The parts of nodes, and their numbers.
 
-ghost use Rattle.std.specs.Prelude.{◌≡◌, ◌+◌, ◌-◌, ◌≤◌, length, take, drop, IfOk};
+ghost use Rattle.std.specs.Prelude.{◌≡◌, ◌+◌, ◌-◌, ◌<◌, ◌≤◌, ℕ, length, take, drop, IfOk};
 ghost use Rattle.node_tree.specs.Numbers.{count_of, siblings};
 ghost use Rattle.node_tree.specs.Tree.{pre_all, kids_of, kind_of};
 ghost use Rattle.flow_graph.specs.Outline.{parts_of};
@@ -41,6 +41,19 @@ pub fn behind(at: u32, nodes: &[Node]) -> Result<u32, Memory>
         end = past(end, node)?;
     }
     Ok(end)
+}
+
+/// The number of the node at that place, where the one before it has this number, or the first one where there is none. So the last
+/// node's own nodes aren't counted.
+pub fn number_at(before: u32, nodes: &[Node], at: usize) -> Result<u32, Memory>
+    requires { at < length nodes.now }
+    ensures { (first : ℕ) → before ≡ first + length (pre_all (take (at - 1) nodes.now)) →
+        IfOk result (λ number. number ≡ first + length (pre_all (take at nodes.now))) }
+{
+    if at == 0 {
+        return Ok(before);
+    }
+    past(before, &nodes[at - 1])
 }
 
 // From which kid on, and up to which, the kids of a node of a kind are parts.

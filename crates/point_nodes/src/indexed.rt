@@ -1,6 +1,6 @@
 //! Trees whose nodes are found by their numbers.
 
-ghost use Rattle.std.specs.Prelude.{◌≡◌, IfOk};
+ghost use Rattle.std.specs.Prelude.{◌≡◌, length, IfOk};
 ghost use Rattle.std.specs.Option.{option_map};
 ghost use Rattle.node_tree.specs.Tree.{pre_of};
 ghost use Rattle.node_pool.specs.Spots.{seen};
@@ -44,6 +44,13 @@ impl<'t> IndexedTree<'t> {
         let mut pool = NodePool::with_room(alloc, count)?;
         pool.place(root);
         Ok(IndexedTree { pool, count })
+    }
+
+    /// How many nodes it has.
+    pub fn count(&self) -> u32
+        ensures { result ≡ length self.now }
+    {
+        self.count
     }
 
     /// The node of that number, if there is one.

@@ -12,7 +12,7 @@ use point_nodes::IndexedTree;
 use std::alloc::Global;
 use std::marker::Model;
 use taint_flow::{TaintFault, TaintHit, TaintSets, taint_in};
-use unit_names::{Scope, scopes_of};
+use unit_names::{Scope, scopes_in};
 
 /// A tree in which many rules follow data: its nodes are found by number, and its units have their graphs. Contracts see the tree.
 #[derive(Drop)]
@@ -42,11 +42,9 @@ impl<'t> FlowTree<'t> {
     pub fn of(alloc: Global, root: &'t Node) -> Result<FlowTree<'t>, Memory>
         ensures { IfOk result (λ tree. tree ≡ root.now) }
     {
-        Ok(FlowTree {
-            root,
-            nodes: IndexedTree::of(alloc, root)?,
-            units: scopes_of(root)?,
-        })
+        let nodes = IndexedTree::of(alloc, root)?;
+        let units = scopes_in(&nodes, root)?;
+        Ok(FlowTree { root, nodes, units })
     }
 
     /// Its nodes, which are found by their numbers.

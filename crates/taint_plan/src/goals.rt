@@ -18,7 +18,7 @@ use crate::goal::Goal;
 use graph_form::Point;
 use node_pool::Spot;
 use node_tree::{List, Memory, Node, Span};
-use point_nodes::{IndexedTree, nodes, tops};
+use point_nodes::{IndexedTree, tops};
 use std::alloc::Global;
 use taint_form::add_outermost;
 use taint_tables::{Hull, Look, Sink, SinkIndex};
@@ -104,19 +104,13 @@ fn add_sink<'t>(
     Ok(())
 }
 
-// The sinks that may hold an expression at a point.
-fn sinks_at(
-    alloc: Global,
-    tree: &IndexedTree<'_>,
-    index: &SinkIndex,
-    point: Point,
-) -> Result<Vec<Sink>, Memory>
+// The sinks that may hold an expression at a point with these tops.
+fn sinks_at(alloc: Global, index: &SinkIndex, heads: &[Spot<'_, '_>]) -> Result<Vec<Sink>, Memory>
     ensures only { IfOk result (λ found. (s : a_sink) → Among found.items s → Among index.now s) }
     ensures all { IfOk result (λ found. (s : a_sink) → Among index.now s → (e : a_node) →
-        Among (outermost_among s.range (tops_of tree.now point)) e → Among found.items s) }
+        Among (outermost_among s.range (all_seen heads.now)) e → Among found.items s) }
 {
-    let spots = nodes(alloc, tree, point)?;
-    let hull = Hull::of(spots.as_slice());
+    let hull = Hull::of(heads);
     let sinks = index.meeting(alloc, hull)?;
     Ok(sinks)
 }
@@ -159,7 +153,7 @@ fn add_point<'t>(
         (tops_of tree.now point) g.sink g.fact))) }
 {
     let heads = tops(alloc, tree, point)?;
-    let sinks = sinks_at(alloc, tree, index, point)?;
+    let sinks = sinks_at(alloc, index, heads.as_slice())?;
     add_sinks(alloc, look, heads.as_slice(), place, &sinks, into)?;
     Ok(())
 }

@@ -10,7 +10,9 @@ ghost use Rattle.assignments.specs.Assignments.{assigned_of};
 ghost use Rattle.assignments.specs.Seen.{seen_assignment, seen_target, all_assignments};
 ghost use Rattle.taint_form.specs.Origins.{Comes, IsListed};
 ghost use Rattle.taint_form.specs.Tables.{Holds};
-ghost use Rattle.taint_plan.specs.Facts.{AfterFact, AfterFacts, PointFactOf, TaintsValue, Same};
+ghost use Rattle.point_nodes.specs.Tops.{nodes_of};
+ghost use Rattle.taint_tables.specs.declared.sets.Carry.{Carry as a_carry};
+ghost use Rattle.taint_plan.specs.Facts.{AfterFact, AfterFacts, CarriesFact, PointFactOf, TaintsValue, Same};
 ghost use Rattle.taint_tables.specs.Numbers.{numbers_of};
 ghost use Rattle.taint_plan.specs.RowFacts.{AreAims, IsAimOf};
 ghost use Rattle.taint_form.specs.declared.origins.Aim.{Aim as an_aim};
@@ -148,6 +150,26 @@ fn origins_of<'t>(
     Ok(origins)
 }
 
+// The pairs of facts that the carries carry over at a point. Without carries its nodes aren't listed.
+fn carried_at<'t>(
+    alloc: Global,
+    tree: &IndexedTree<'t>,
+    look: Look<'_, 't>,
+    carries: &CarryIndex,
+    point: Point,
+) -> Result<Vec<(u32, u32)>, Memory>
+    ensures { (spans : list a_span) → Holds look.entry.sanitizers.now spans →
+        IfOk result (λ pairs. (from to : ℕ) →
+        Among pairs.items (from, to) ↔ ((c : a_carry) × Among carries.now c ×
+        CarriesFact spans (numbers_of look.entry.census.now) (nodes_of tree.now point) c from to)) }
+{
+    if carries.is_empty() {
+        return Ok(Vec::new(alloc));
+    }
+    let spots = nodes(alloc, tree, point)?;
+    carried(alloc, look, spots.as_slice(), carries)
+}
+
 // What a point does to the facts.
 fn row<'t>(
     alloc: Global,
@@ -163,8 +185,7 @@ fn row<'t>(
 {
     let list = assignments(alloc, tree, point)?;
     let origins = origins_of(alloc, look, list.as_slice())?;
-    let spots = nodes(alloc, tree, point)?;
-    let pairs = carried(alloc, look, spots.as_slice(), carries)?;
+    let pairs = carried_at(alloc, tree, look, carries, point)?;
     let row = origins.row(alloc, &pairs)?;
     Ok(row)
 }

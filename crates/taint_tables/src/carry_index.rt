@@ -1,6 +1,6 @@
 //! Carries that are found by where they begin.
 
-ghost use Rattle.std.specs.Prelude.{◌≡◌, ◌↔◌, ◌≤◌, ◌<◌, ℕ, length, slice_get, Some, IfOk};
+ghost use Rattle.std.specs.Prelude.{◌≡◌, ◌↔◌, ◌≤◌, ◌<◌, ℕ, [], IsTrue, length, slice_get, Some, IfOk};
 ghost use Rattle.graph_form.specs.Sets.{Among};
 ghost use Rattle.taint_tables.specs.declared.sets.Carry.{Carry as a_carry};
 ghost use Rattle.taint_tables.specs.Carries.{AreInOrder};
@@ -53,6 +53,13 @@ fn count_through(carries: &[Carry], from: u32) -> usize
 }
 
 impl CarryIndex {
+    /// Whether there are none.
+    pub fn is_empty(&self) -> bool
+        ensures { IsTrue result → self.now ≡ [] }
+    {
+        self.carries.len() == 0
+    }
+
     /// An index of these carries.
     pub fn of(alloc: Global, carries: &[Carry]) -> Result<CarryIndex, Memory>
         ensures { IfOk result (λ index. (c : a_carry) → Among index c ↔ Among carries.now c) }

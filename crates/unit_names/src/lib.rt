@@ -10,7 +10,7 @@ mod words;
 
 pub use hiding::{add_all_referred, add_all_shared, add_referred_of};
 pub use own::{add_own, add_parameters, is_assigned};
-pub use scope::{Scope, scopes_of};
+pub use scope::{Scope, scopes_in, scopes_of};
 pub use tables::{add_literals, add_names};
 pub use word::{Word, is_literal, is_name, literal_here, name_here, name_word, word_of};
 pub use words::Words;

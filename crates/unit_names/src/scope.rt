@@ -33,15 +33,20 @@ fn graph_in(tree: &IndexedTree<'_>, root: &Node, depth: u32, unit: u32) -> Resul
 pub fn scopes_of(root: &Node) -> Result<List<Scope>, Memory>
     ensures { IfOk result (AreScopes root.now) }
 {
-    let alloc = root.kids.alloc();
-    let Some(depth) = root.count() else {
-        return Err(Memory);
-    };
-    let tree = IndexedTree::of(alloc, root)?;
+    let tree = IndexedTree::of(root.kids.alloc(), root)?;
+    scopes_in(&tree, root)
+}
+
+/// The same of a file whose nodes are found by their numbers.
+pub fn scopes_in(tree: &IndexedTree<'_>, root: &Node) -> Result<List<Scope>, Memory>
+    requires { tree.now ≡ pre_of root.now }
+    ensures { IfOk result (AreScopes root.now) }
+{
+    let depth = tree.count();
     let numbers = units(root)?;
-    let mut scopes = List::new(alloc);
+    let mut scopes = List::new(root.kids.alloc());
     for unit in numbers.as_slice() {
-        let graph = graph_in(&tree, root, depth, *unit)?;
+        let graph = graph_in(tree, root, depth, *unit)?;
         scopes.push(Scope { unit: *unit, graph })?;
     }
     Ok(scopes)

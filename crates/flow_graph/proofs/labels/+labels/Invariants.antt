@@ -1,4 +1,4 @@
-use Rattle.std.proofs.Common.{◌≡◌, ◌+◌, ◌*◌, ◌++◌, length, take}
+use Rattle.std.proofs.Common.{◌≡◌, ◌+◌, ◌-◌, ◌*◌, ◌++◌, length, take}
 use Rattle.std.specs.List.{flat_map}
 use Rattle.node_tree.specs.Numbers.{siblings}
 use Rattle.node_tree.specs.Tree.{pre_all}
@@ -11,8 +11,8 @@ decreases-gather l = 2 * l.depth
 abbrev pub decreases-gather_each : goal.decreases-gather_each
 decreases-gather_each l = 2 * l.depth + 1
 
-abbrev pub invariant-gather_each-loop-node : goal.invariant-gather_each-loop-node
-invariant-gather_each-loop-node l = record {
-  next : l.next ≡ l.at + length (pre_all (take l.node-index l.nodes));
-  labels : l.labels ≡ l.initial.labels ++ flat_map (labels_in l.depth) (siblings l.at (take l.node-index l.nodes));
+abbrev pub invariant-gather_each-loop-place : goal.invariant-gather_each-loop-place
+invariant-gather_each-loop-place l = record {
+  next : l.next ≡ l.at + length (pre_all (take (l.place - 1) l.nodes));
+  labels : l.labels ≡ l.initial.labels ++ flat_map (labels_in l.depth) (siblings l.at (take l.place l.nodes));
 }

@@ -2,7 +2,7 @@ use Rattle.std.proofs.Common.{◌∙◌, subst, ℕ, List}
 use Rattle.std.proofs.lemmas.List.{take_all}
 use Rattle.unit_names.specs.Scopes.{AreScopesOf}
 use Rattle.unit_names.proofs.ScopeList.{scope_more, scope_none}
-use Rattle.unit_names.proofs.scope.scopes_of.Goals as goal
+use Rattle.unit_names.proofs.scope.scopes_in.Goals as goal
 
 pub loop-unit-init : goal.loop-unit-init
 loop-unit-init c = scope_none c.args.root.now c.new-scopes.result c.new-scopes.ensures
