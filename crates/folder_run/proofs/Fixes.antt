@@ -16,15 +16,13 @@ use Rattle.fix_apply.specs.declared.fixed.FixReport.{FixReport}
 use Rattle.run_status.specs.declared.status.Status.{Status}
 use Rattle.run_status.specs.declared.status.Status.TheVariants as statuses
 use Rattle.run_status.specs.Ways.{Printed, PrintedFront}
-use Rattle.stream_run.specs.SeenFiles.{SeenFiles}
-use Rattle.stream_run.specs.Seen.{HasSeenNone}
 use Rattle.wire_words.specs.Commands.{Task}
 use Rattle.stream_run.specs.FixFault.{FixFault}
 use Rattle.stream_run.specs.FixFault.TheVariants as faults
 use Rattle.stream_run.specs.State.{State}
 use Rattle.wire_stream.specs.declared.wire.Wire.TheVariants as wires
 use Rattle.stream_run.specs.Reports.{Readings, HasMoreResults, SettlesRules}
-use Rattle.stream_run.specs.Work.{Works}
+use Rattle.stream_run.specs.Work.{WorksOnce}
 use Rattle.stream_run.specs.Fixes.{IsFixReport, FixesPass, files_fixed}
 use Rattle.stream_run.specs.Printed.{fix_line}
 use Rattle.stream_run.specs.Doing.{Setting}
@@ -123,9 +121,8 @@ module _ {R : Type 0} (readings : R → Readings) (r r' : R) (same : r' ≡ r) (
       subst U refused_is (subst Q same h)
 
   -- the one scan of what was taken
-  module _ (was unseen seen : SeenFiles) (has-none : HasSeenNone unseen) (still : was ≡ unseen) (before after : ℕ) (work : Works (readings r') after-fix.refused mid.files mid.rules was seen before after) where
-    pub scans_once : ScansOnce s (shelves_of mid) before after
-    scans_once = (was, seen, subst HasSeenNone (sym still) has-none, by_start (λ x t. Works (readings x) t mid.files mid.rules was seen before after) work)
+  pub scans_once : (before after : ℕ) → WorksOnce (readings r') after-fix.refused mid.files mid.rules before after → ScansOnce s (shelves_of mid) before after
+  scans_once before after work = by_start (λ x t. WorksOnce (readings x) t mid.files mid.rules before after) work
 
   -- the builder was asked once for each text of the rules that were taken
   abbrev pub AsksTexts : Asked → Asked → Type 0

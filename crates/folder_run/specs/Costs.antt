@@ -3,16 +3,14 @@ use Rattle.std.specs.Prelude.{◌≡◌, ℕ, List, Option}
 use Rattle.fix_apply.specs.declared.fixed.FixedFile.{FixedFile}
 use Rattle.run_status.specs.declared.status.Status.{Status}
 use Rattle.run_status.specs.Ways.{Printed}
-use Rattle.stream_run.specs.SeenFiles.{SeenFiles}
-use Rattle.stream_run.specs.Seen.{HasSeenNone}
 use Rattle.wire_words.specs.Commands.{Task}
-use Rattle.stream_run.specs.Work.{Works}
+use Rattle.stream_run.specs.Work.{WorksOnce}
 use Rattle.stream_run.specs.Doing.{Setting, Shelves}
 use Rattle.folder_run.specs.Ends.{FixEnds, none, too_many, over, fixed, FixPrints}
 
 -- one scan of these files by these rules, before which nothing was seen, takes the steps from the one number to the other
 abbrev pub ScansOnce : Setting → Shelves → ℕ → ℕ → Type 0
-ScansOnce s shelves before after = (was : SeenFiles) × (seen : SeenFiles) × HasSeenNone was × Works s.readings s.refused shelves.files shelves.rules was seen before after
+ScansOnce s shelves before after = WorksOnce s.readings s.refused shelves.files shelves.rules before after
 
 module _ {s : Setting} {task : Task} where
   -- the steps of fixing a folder that ends so: none where nothing was taken, else those of one scan of what was taken

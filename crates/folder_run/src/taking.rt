@@ -1,18 +1,20 @@
 //! Taking the rules and the files of a folder.
 
-ghost use Rattle.std.specs.Prelude.{◌≡◌, IfOk, IfErr, IsSome, OnOk};
+ghost use Rattle.std.specs.Prelude.{◌≡◌, [], IfOk, IfErr, IsSome, OnOk};
 ghost use Rattle.scan_world.specs.Trees.{KeepsFiles, LacksFile};
 ghost use Rattle.run_status.specs.Status.{IsAnswer};
 ghost use Rattle.run_status.specs.declared.status.Status.TheVariants.{NoSuchPath as no_path};
-ghost use Rattle.stream_run.specs.Still.{shelves_of, IsNew};
+ghost use Rattle.stream_run.specs.Reports.{readings_of};
 ghost use Rattle.folder_run.specs.Taking.{IsConfig, RulesEndOnce, Takes, TakesNone};
 ghost use Rattle.folder_run.specs.Causes.{HasTakingCause};
 
-use file_map::{PutFault, SyncFault};
+use code_reader::{PatternReader, TreeReader};
+use comment_reader::CommentReader;
+use file_map::{FileMap, PutFault, SyncFault};
 use node_tree::Bytes;
+use rule_map::RuleMap;
 use run_status::Status;
 use scan_world::{MOST_RULE_BYTES, Tree, TreeFault};
-use stream_run::Workspace;
 use wire_words::Job;
 
 // The bytes of the rules.
@@ -31,20 +33,19 @@ fn read_config<T: Tree>(tree: &mut T, path: &str) -> Result<Bytes, Status>
     }
 }
 
-/// Takes the rules at the path of the config and the files under the prefix into a new workspace.
-pub fn take_folder<W: Workspace, T: Tree>(
-    workspace: &mut W,
+/// Takes the rules at the path of the config and the files under the prefix, where there were neither.
+pub fn take_folder<R: TreeReader + CommentReader + PatternReader, T: Tree>(
+    rules: &mut RuleMap<'_, R>,
+    files: &mut FileMap,
     tree: &mut T,
     job: &Job<'_>,
 ) -> Result<(), Status>
-    requires { IsNew (W.state workspace.old) }
-    ensures takes { OnOk result (Takes (W.readings (W.reader workspace.old)) (T.files tree.old) job.now.config.now job.now.prefix.now (shelves_of (W.state workspace.new))) }
-    ensures none { IfErr result (λ status. IsAnswer status → TakesNone (W.readings (W.reader workspace.old)) (T.files tree.old) job.now.config.now job.now.prefix.now status) }
-    ensures once { IsSome (T.files tree.old) → IfErr result IsAnswer → RulesEndOnce (W.readings (W.reader workspace.old)) (T.files tree.old) job.now.config.now }
-    ensures decided { OnOk result ((W.state workspace.new).decided ≡ (W.state workspace.old).decided) }
-    ensures most { OnOk result ((W.state workspace.new).most ≡ (W.state workspace.old).most) }
-    ensures unseen { W.seen workspace.new ≡ W.seen workspace.old }
-    ensures same_reader { W.reader workspace.new ≡ W.reader workspace.old }
+    requires rules { rules.old.files ≡ [] }
+    requires files { files.old ≡ [] }
+    ensures takes { OnOk result (Takes (readings_of (R.spells rules.old.reader) (R.knows rules.old.reader) (R.comments rules.old.reader) (R.writes rules.old.reader) job.now.trace) (T.files tree.old) job.now.config.now job.now.prefix.now (record { files = files.new; rules = rules.new.files })) }
+    ensures none { IfErr result (λ status. IsAnswer status → TakesNone (readings_of (R.spells rules.old.reader) (R.knows rules.old.reader) (R.comments rules.old.reader) (R.writes rules.old.reader) job.now.trace) (T.files tree.old) job.now.config.now job.now.prefix.now status) }
+    ensures once { IsSome (T.files tree.old) → IfErr result IsAnswer → RulesEndOnce (readings_of (R.spells rules.old.reader) (R.knows rules.old.reader) (R.comments rules.old.reader) (R.writes rules.old.reader) job.now.trace) (T.files tree.old) job.now.config.now }
+    ensures same_reader { rules.new.reader ≡ rules.old.reader }
     ensures kept { KeepsFiles (T.files tree.old) (T.files tree.new) }
     ensures unfailed { OnOk result (T.faults tree.new ≡ T.faults tree.old) }
     ensures cause { IfErr result (HasTakingCause (T.faults tree.old) (T.faults tree.new) (T.absences tree.old) (T.absences tree.new)) }
@@ -53,12 +54,12 @@ pub fn take_folder<W: Workspace, T: Tree>(
         Ok(bytes) => bytes,
         Err(status) => return Err(status),
     };
-    match workspace.put_rules(job.config, bytes.as_slice()) {
+    match rules.put(job.config, bytes.as_slice()) {
         Ok(()) => {}
         Err(PutFault::Memory) => return Err(Status::Memory),
         Err(PutFault::OverLimit(kind, count)) => return Err(Status::OverLimit(kind, count)),
     }
-    match workspace.sync(tree, job.prefix) {
+    match files.sync(tree, job.prefix) {
         Ok(()) => Ok(()),
         Err(SyncFault::Memory) => Err(Status::Memory),
         Err(SyncFault::Failed) => Err(Status::TreeFault),

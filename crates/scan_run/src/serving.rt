@@ -54,9 +54,7 @@ pub fn run_fix<T: Tree, K: Sink, P: Patterns, L: Ledger>(
     ensures front_written { result ≡ Status.OutputFault → PrintedFront (Fixes (task_of job.now) (T.files tree.old) (gained (P.refusals patterns.old) (P.refusals patterns.new))) (K.written out.old) (K.written out.new) }
     ensures patterns_grow { Gains (P.refusals patterns.old) (P.refusals patterns.new) }
 {
-    let languages = Languages;
-    let mut session = Session::new(alloc, &languages, job.most, job.trace);
-    fix_folder(alloc, job, &mut session, tree, out, patterns, steps)
+    fix_folder(alloc, job, &Languages, tree, out, patterns, steps)
 }
 
 /// Does the commands of the input, each of which prints what it says, as `specs/Serving.antt` says. Findings have their traces if

@@ -24,7 +24,9 @@ use Rattle.file_results.specs.Quieted.{Comments, Grammars}
 use Rattle.file_results.specs.Shown.{File, lang_at, Shows, opened_notices, IsShownIn, IsNotedIn, IsResultIn, IsNoticeIn}
 use Rattle.file_results.proofs.Named.{wanted_serve, wanted_own, shown_served, noted_served}
 use Rattle.file_results.proofs.OneFile.{no_results, own_notices, seen_results, seen_notices}
+use Rattle.seen_files.specs.declared.found_file.FoundFile.{FoundFile}
 use Rattle.seen_files.specs.declared.seen.SeenFile.{SeenFile}
+use Rattle.seen_files.specs.Findings.{seen_of}
 use Rattle.seen_files.specs.Needs.{HasView}
 use Rattle.seen_files.specs.Seen.{file_of, IsSameFile, AreAlike, IsOpenedSo, IsNamedFor, HasOwnNames, IsSeen}
 
@@ -201,25 +203,31 @@ module _ (knows : Knows) (rules : List Rule) (path : List ℕ) (v w : FileView) 
 
 -- ---- the same of answers
 
-module _ {E : Type 0} (grammars : Grammars) (rules : List Rule) (path bytes : List ℕ) (r : Result SeenFile E) (file_is : IfOk r (λ s. file_of s ≡ (path, bytes))) where
-  pub if_large : IfOk r (λ s. s.opened ≡ TooLarge) → IfOk r (λ s. s.results ≡ []) → IfOk r (λ s. (n : Notice) → Among s.notices n ↔ Among (notice path [] kinds.TooLarge [] ∷ []) n) → IsOpenedSo grammars.spells (path, bytes) TooLarge → IfOk r (IsSeen grammars rules)
+-- whatever an answer is, seen as a file so
+module _ {X E : Type 0} (view : X → SeenFile) (grammars : Grammars) (rules : List Rule) (path bytes : List ℕ) (r : Result X E) (file_is : IfOk r (λ x. file_of (view x) ≡ (path, bytes))) where
+  pub if_large : IfOk r (λ x. (view x).opened ≡ TooLarge) → IfOk r (λ x. (view x).results ≡ []) → IfOk r (λ x. (n : Notice) → Among (view x).notices n ↔ Among (notice path [] kinds.TooLarge [] ∷ []) n) → IsOpenedSo grammars.spells (path, bytes) TooLarge → IfOk r (λ x. IsSeen grammars rules (view x))
   if_large opened results notices so =
-      if_four (λ s. file_of s ≡ (path, bytes)) (λ s. s.opened ≡ TooLarge) (λ s. s.results ≡ []) (λ s. (n : Notice) → Among s.notices n ↔ Among (notice path [] kinds.TooLarge [] ∷ []) n) (IsSeen grammars rules) r
-      (λ s f o e n. large_seen grammars rules path bytes s f e o so n) file_is opened results notices
+      if_four (λ x. file_of (view x) ≡ (path, bytes)) (λ x. (view x).opened ≡ TooLarge) (λ x. (view x).results ≡ []) (λ x. (n : Notice) → Among (view x).notices n ↔ Among (notice path [] kinds.TooLarge [] ∷ []) n) (λ x. IsSeen grammars rules (view x)) r
+      (λ x f o e n. large_seen grammars rules path bytes (view x) f e o so n) file_is opened results notices
 
-  pub if_odd : IfOk r (λ s. s.opened ≡ NotUtf8) → IfOk r (λ s. s.results ≡ []) → IfOk r (λ s. (n : Notice) → Among s.notices n ↔ Among (notice path [] kinds.NotUtf8 [] ∷ []) n) → IsOpenedSo grammars.spells (path, bytes) NotUtf8 → IfOk r (IsSeen grammars rules)
+  pub if_odd : IfOk r (λ x. (view x).opened ≡ NotUtf8) → IfOk r (λ x. (view x).results ≡ []) → IfOk r (λ x. (n : Notice) → Among (view x).notices n ↔ Among (notice path [] kinds.NotUtf8 [] ∷ []) n) → IsOpenedSo grammars.spells (path, bytes) NotUtf8 → IfOk r (λ x. IsSeen grammars rules (view x))
   if_odd opened results notices so =
-      if_four (λ s. file_of s ≡ (path, bytes)) (λ s. s.opened ≡ NotUtf8) (λ s. s.results ≡ []) (λ s. (n : Notice) → Among s.notices n ↔ Among (notice path [] kinds.NotUtf8 [] ∷ []) n) (IsSeen grammars rules) r
-      (λ s f o e n. odd_seen grammars rules path bytes s f e o so n) file_is opened results notices
+      if_four (λ x. file_of (view x) ≡ (path, bytes)) (λ x. (view x).opened ≡ NotUtf8) (λ x. (view x).results ≡ []) (λ x. (n : Notice) → Among (view x).notices n ↔ Among (notice path [] kinds.NotUtf8 [] ∷ []) n) (λ x. IsSeen grammars rules (view x)) r
+      (λ x f o e n. odd_seen grammars rules path bytes (view x) f e o so n) file_is opened results notices
 
   module _ (v w : FileView) (same : IsSameFile v w) (named : AreWanted grammars.knows v.lang v.tree rules w.known) (rs : List Reported) (found : IsExactly reported_cmp (IsShownIn grammars.leaf_of grammars.comments grammars.traced rules path v.lang v.bytes v.tree) rs)
-      (mid new : List Notice) (noted : Adds mid new (IsNotedIn grammars.leaf_of rules path v.lang v.bytes v.tree)) (results : IfOk r (λ s. s.results ≡ rs)) (notices : IfOk r (λ s. (n : Notice) → Among s.notices n ↔ Among new n)) where
-    pub if_read : mid ≡ [] → IfOk r (λ s. s.opened ≡ Read w) → IsOpenedSo grammars.spells (path, bytes) (Read v) → IfOk r (IsSeen grammars rules)
+      (mid new : List Notice) (noted : Adds mid new (IsNotedIn grammars.leaf_of rules path v.lang v.bytes v.tree)) (results : IfOk r (λ x. (view x).results ≡ rs)) (notices : IfOk r (λ x. (n : Notice) → Among (view x).notices n ↔ Among new n)) where
+    pub if_read : mid ≡ [] → IfOk r (λ x. (view x).opened ≡ Read w) → IsOpenedSo grammars.spells (path, bytes) (Read v) → IfOk r (λ x. IsSeen grammars rules (view x))
     if_read start opened so =
-        if_four (λ s. file_of s ≡ (path, bytes)) (λ s. s.opened ≡ Read w) (λ s. s.results ≡ rs) (λ s. (n : Notice) → Among s.notices n ↔ Among new n) (IsSeen grammars rules) r
-        (λ s f o e n. read_seen grammars rules path bytes v w same named rs found mid new noted s f e n start so o) file_is opened results notices
+        if_four (λ x. file_of (view x) ≡ (path, bytes)) (λ x. (view x).opened ≡ Read w) (λ x. (view x).results ≡ rs) (λ x. (n : Notice) → Among (view x).notices n ↔ Among new n) (λ x. IsSeen grammars rules (view x)) r
+        (λ x f o e n. read_seen grammars rules path bytes v w same named rs found mid new noted (view x) f e n start so o) file_is opened results notices
 
-    pub if_plain : mid ≡ notice path [] kinds.NoTree [] ∷ [] → IfOk r (λ s. s.opened ≡ NoTree w) → IsOpenedSo grammars.spells (path, bytes) (NoTree v) → IfOk r (IsSeen grammars rules)
+    pub if_plain : mid ≡ notice path [] kinds.NoTree [] ∷ [] → IfOk r (λ x. (view x).opened ≡ NoTree w) → IsOpenedSo grammars.spells (path, bytes) (NoTree v) → IfOk r (λ x. IsSeen grammars rules (view x))
     if_plain start opened so =
-        if_four (λ s. file_of s ≡ (path, bytes)) (λ s. s.opened ≡ NoTree w) (λ s. s.results ≡ rs) (λ s. (n : Notice) → Among s.notices n ↔ Among new n) (IsSeen grammars rules) r
-        (λ s f o e n. plain_seen grammars rules path bytes v w same named rs found mid new noted s f e n start so o) file_is opened results notices
+        if_four (λ x. file_of (view x) ≡ (path, bytes)) (λ x. (view x).opened ≡ NoTree w) (λ x. (view x).results ≡ rs) (λ x. (n : Notice) → Among (view x).notices n ↔ Among new n) (λ x. IsSeen grammars rules (view x)) r
+        (λ x f o e n. plain_seen grammars rules path bytes v w same named rs found mid new noted (view x) f e n start so o) file_is opened results notices
+
+-- what is said of what was found is said of it where its tree is bytes
+pub if_packed : {E : Type 0} (f : FoundFile) (r : Result SeenFile E) → IfOk r (λ s. s ≡ seen_of f) → (P : SeenFile → Type 0) → P (seen_of f) → IfOk r P
+if_packed f (Ok s) e P h = subst P (sym e) h
+if_packed f (Err e) none P h = tt

@@ -4,3 +4,4 @@ pub mod Stacks
 pub mod Counting
 pub mod Walking
 pub mod Once
+pub mod Fresh

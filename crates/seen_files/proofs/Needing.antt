@@ -167,13 +167,13 @@ both : {A E : Type 0} (r : Result A E) (P Q R : A → Type 0) → ((a : A) → P
 both (Ok a) P Q R f p q = f a p q
 both (Err e) P Q R f p q = tt
 
-module _ {E : Type 0} (rules : List Rule) (o : Opened) (r : Result SeenFile E) (opened : IfOk r (λ s. s.opened ≡ o)) where
+module _ {X E : Type 0} (view : X → SeenFile) (rules : List Rule) (o : Opened) (r : Result X E) (opened : IfOk r (λ x. (view x).opened ≡ o)) where
   -- a file that can't be looked at costs nothing
-  pub if_hidden : ((view : FileView) → HasView o view → ⊥) → (map : Map) (steps : ℕ) → IfOk r (λ s. Meets (IsNeededAt rules s) map steps map steps)
-  if_hidden hidden map steps = weaker r (λ s. s.opened ≡ o) (λ s. Meets (IsNeededAt rules s) map steps map steps) (λ s e. meets_as (λ x. ⊥) (IsNeededAt rules s) map steps map steps (none_needed rules s o e hidden) (meets_none map steps)) opened
+  pub if_hidden : ((v : FileView) → HasView o v → ⊥) → (map : Map) (steps : ℕ) → IfOk r (λ x. Meets (IsNeededAt rules (view x)) map steps map steps)
+  if_hidden hidden map steps = weaker r (λ x. (view x).opened ≡ o) (λ x. Meets (IsNeededAt rules (view x)) map steps map steps) (λ x e. meets_as (λ p. ⊥) (IsNeededAt rules (view x)) map steps map steps (none_needed rules (view x) o e hidden) (meets_none map steps)) opened
 
-  pub if_viewed : (w : FileView) (path bytes : List ℕ) → IfOk r (λ s. file_of s ≡ (path, bytes)) → HasView o w → ((view : FileView) → HasView o view → w ≡ view) → (old : Map) (before : ℕ) (new : Map) (after : ℕ)
-      → Meets (IsNeededIn rules path w) old before new after → IfOk r (λ s. Meets (IsNeededAt rules s) old before new after)
+  pub if_viewed : (w : FileView) (path bytes : List ℕ) → IfOk r (λ x. file_of (view x) ≡ (path, bytes)) → HasView o w → ((v : FileView) → HasView o v → w ≡ v) → (old : Map) (before : ℕ) (new : Map) (after : ℕ)
+      → Meets (IsNeededIn rules path w) old before new after → IfOk r (λ x. Meets (IsNeededAt rules (view x)) old before new after)
   if_viewed w path bytes file_is has only old before new after m =
-      both r (λ s. s.opened ≡ o) (λ s. file_of s ≡ (path, bytes)) (λ s. Meets (IsNeededAt rules s) old before new after)
-      (λ s e f. meets_as (IsNeededIn rules path w) (IsNeededAt rules s) old before new after (needed_there rules s o w path e (ap (λ (g : File). g.0) f) has only) m) opened file_is
+      both r (λ x. (view x).opened ≡ o) (λ x. file_of (view x) ≡ (path, bytes)) (λ x. Meets (IsNeededAt rules (view x)) old before new after)
+      (λ x e f. meets_as (IsNeededIn rules path w) (IsNeededAt rules (view x)) old before new after (needed_there rules (view x) o w path e (ap (λ (g : File). g.0) f) has only) m) opened file_is

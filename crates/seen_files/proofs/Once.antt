@@ -152,12 +152,16 @@ module _ (grammars : Grammars) (rules : List Rule) (s t : SeenFile) (one : IsSee
 
 -- ---- files that are seen by the same rules twice
 
-pub needed_once : (grammars : Grammars) (rules : List Rule) (files : List File) (a b : SeenFiles) → HasSeen grammars rules files a → HasSeen grammars rules files b → (x : Pair) → IsNeeded rules a.files x → IsNeeded rules b.files x
-needed_once grammars rules files a b one other x (s, here, n) =
+pub needed_in : (grammars : Grammars) (rules : List Rule) (files : List File) (a b : List SeenFile) → map file_of a ≡ files → map file_of b ≡ files → ((s : SeenFile) → Among a s → IsSeen grammars rules s) → ((s : SeenFile) → Among b s → IsSeen grammars rules s)
+    → (x : Pair) → IsNeeded rules a x → IsNeeded rules b x
+needed_in grammars rules files a b one other all every x (s, here, n) =
     let P : List File → Type 0 = λ fs. Among fs (file_of s) in
-    let there : Among (map file_of b.files) (file_of s) = subst P (one.files_are ∙ sym other.files_are) (among_map file_of a.files s here) in
-    let (t, among, same) = among_seen b.files (file_of s) there in
-    (t, among, needed_again grammars rules s t (one.all s here) (other.all t among) same x n)
+    let there : Among (map file_of b) (file_of s) = subst P (one ∙ sym other) (among_map file_of a s here) in
+    let (t, among, same) = among_seen b (file_of s) there in
+    (t, among, needed_again grammars rules s t (all s here) (every t among) same x n)
+
+pub needed_once : (grammars : Grammars) (rules : List Rule) (files : List File) (a b : SeenFiles) → HasSeen grammars rules files a → HasSeen grammars rules files b → (x : Pair) → IsNeeded rules a.files x → IsNeeded rules b.files x
+needed_once grammars rules files a b one other = needed_in grammars rules files a.files b.files one.files_are other.files_are one.all other.all
 
 -- ---- how many pairs there are
 

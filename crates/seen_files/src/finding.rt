@@ -10,16 +10,16 @@ ghost use Rattle.running_rules.specs.Notes.{notice};
 ghost use Rattle.running_rules.specs.Running.{AreApart};
 ghost use Rattle.file_results.specs.Quieted.{grammars_of};
 ghost use Rattle.seen_files.specs.Needs.{IsNeededAt};
+ghost use Rattle.seen_files.specs.Findings.{seen_of};
 ghost use Rattle.seen_files.specs.Seen.{file_of, IsOpenedSo, HasOwnNames, IsSeen};
 
+use crate::found_file::FoundFile;
 use crate::looking::look_with_names;
-use crate::seen::SeenFile;
 use code_reader::TreeReader;
 use comment_reader::CommentReader;
 use file_open::{Opened, open_file};
 use kept_leaves::KeptLeaves;
 use node_tree::{Bytes, Lang, List, Memory, Steps, Text, Twin};
-use packed_view::PackedOpened;
 use path_glob::lang_of;
 use report_form::{NoticeKind, Reported};
 use running_rules::{Noted, Runner, add_notice, in_order};
@@ -27,23 +27,22 @@ use std::alloc::Global;
 use std::rc::Rc;
 use std::sync::ledger::Ledger;
 
-// The file as it was seen, with its tree as bytes and its notices in order.
-fn seen_as(
+// What was found in a file, with its notices in order.
+fn found_in(
     alloc: Global,
     path: &str,
     bytes: Rc<Bytes>,
     opened: Opened,
     results: List<Reported>,
     notices: Vec<Noted>,
-) -> Result<SeenFile, Memory>
+) -> Result<FoundFile, Memory>
     requires { HasText bytes.value opened }
-    ensures file { IfOk result (λ s. file_of s ≡ (path.now, bytes.value)) }
-    ensures opened { IfOk result (λ s. s.opened ≡ opened) }
-    ensures results { IfOk result (λ s. s.results ≡ results) }
-    ensures notices { IfOk result (λ s. (n : a_notice) → Among s.notices n ↔ Among notices.items n) }
+    ensures file { IfOk result (λ f. file_of (seen_of f) ≡ (path.now, bytes.value)) }
+    ensures opened { IfOk result (λ f. f.opened ≡ opened) }
+    ensures results { IfOk result (λ f. f.results ≡ results) }
+    ensures notices { IfOk result (λ f. (n : a_notice) → Among f.notices n ↔ Among notices.items n) }
 {
-    let opened = PackedOpened::of(alloc, &bytes, opened)?;
-    Ok(SeenFile {
+    Ok(FoundFile {
         path: Text::from_str(alloc, path)?,
         bytes,
         opened,
@@ -59,16 +58,16 @@ fn unseen(
     bytes: Rc<Bytes>,
     opened: Opened,
     why: NoticeKind,
-) -> Result<SeenFile, Memory>
+) -> Result<FoundFile, Memory>
     requires { HasText bytes.value opened }
-    ensures file { IfOk result (λ s. file_of s ≡ (path.now, bytes.value)) }
-    ensures opened { IfOk result (λ s. s.opened ≡ opened) }
-    ensures results { IfOk result (λ s. s.results ≡ []) }
-    ensures notices { IfOk result (λ s. (n : a_notice) → Among s.notices n ↔ Among (notice path.now [] why [] ∷ []) n) }
+    ensures file { IfOk result (λ f. file_of (seen_of f) ≡ (path.now, bytes.value)) }
+    ensures opened { IfOk result (λ f. f.opened ≡ opened) }
+    ensures results { IfOk result (λ f. f.results ≡ []) }
+    ensures notices { IfOk result (λ f. (n : a_notice) → Among f.notices n ↔ Among (notice path.now [] why [] ∷ []) n) }
 {
     let mut notices = Vec::new(alloc);
     add_notice(alloc, &mut notices, path, "", why, "")?;
-    seen_as(alloc, path, bytes, opened, List::new(alloc), notices)
+    found_in(alloc, path, bytes, opened, List::new(alloc), notices)
 }
 
 /// What the rules find in a file with these bytes that was opened so. Names that it has are taken for those that are known in it.
@@ -82,11 +81,11 @@ pub fn find<R: TreeReader + CommentReader, L: Ledger>(
     traced: bool,
     kept: &mut KeptLeaves,
     steps: &mut Steps<L>,
-) -> Result<SeenFile, Memory>
+) -> Result<FoundFile, Memory>
     requires { HasText bytes.value opened }
-    ensures file { IfOk result (λ s. file_of s ≡ (path.now, bytes.value)) }
-    ensures seen { IsOpenedSo (R.spells reader.now) (path.now, bytes.value) opened → HasOwnNames (R.knows reader.now) opened → AreApart running.now → IfOk result (IsSeen (grammars_of (R.spells reader.now) (R.knows reader.now) (R.comments reader.now) traced) running.now) }
-    ensures kept { IfOk result (λ s. Meets (IsNeededAt running.now s) (map_of kept.old) steps.old (map_of kept.new) steps.new) }
+    ensures file { IfOk result (λ f. file_of (seen_of f) ≡ (path.now, bytes.value)) }
+    ensures seen { IsOpenedSo (R.spells reader.now) (path.now, bytes.value) opened → HasOwnNames (R.knows reader.now) opened → AreApart running.now → IfOk result (λ f. IsSeen (grammars_of (R.spells reader.now) (R.knows reader.now) (R.comments reader.now) traced) running.now (seen_of f)) }
+    ensures kept { IfOk result (λ f. Meets (IsNeededAt running.now (seen_of f)) (map_of kept.old) steps.old (map_of kept.new) steps.new) }
 {
     match opened {
         Opened::TooLarge => unseen(alloc, path, bytes, Opened::TooLarge, NoticeKind::TooLarge),
@@ -105,7 +104,7 @@ pub fn find<R: TreeReader + CommentReader, L: Ledger>(
                 steps,
                 &mut notices,
             )?;
-            seen_as(
+            found_in(
                 alloc,
                 path,
                 bytes,
@@ -127,7 +126,7 @@ pub fn find<R: TreeReader + CommentReader, L: Ledger>(
                 steps,
                 &mut notices,
             )?;
-            seen_as(alloc, path, bytes, Opened::Read(found.0), found.1, notices)
+            found_in(alloc, path, bytes, Opened::Read(found.0), found.1, notices)
         }
     }
 }
@@ -143,10 +142,10 @@ pub fn find_anew<R: TreeReader + CommentReader, L: Ledger>(
     traced: bool,
     kept: &mut KeptLeaves,
     steps: &mut Steps<L>,
-) -> Result<SeenFile, Memory>
-    ensures file { IfOk result (λ s. file_of s ≡ (path.now, bytes.now.value)) }
-    ensures seen { AreApart running.now → IfOk result (IsSeen (grammars_of (R.spells reader.now) (R.knows reader.now) (R.comments reader.now) traced) running.now) }
-    ensures kept { IfOk result (λ s. Meets (IsNeededAt running.now s) (map_of kept.old) (steps.old + 1) (map_of kept.new) steps.new) }
+) -> Result<FoundFile, Memory>
+    ensures file { IfOk result (λ f. file_of (seen_of f) ≡ (path.now, bytes.now.value)) }
+    ensures seen { AreApart running.now → IfOk result (λ f. IsSeen (grammars_of (R.spells reader.now) (R.knows reader.now) (R.comments reader.now) traced) running.now (seen_of f)) }
+    ensures kept { IfOk result (λ f. Meets (IsNeededAt running.now (seen_of f)) (map_of kept.old) (steps.old + 1) (map_of kept.new) steps.new) }
 {
     let lang = lang_of(path).unwrap_or(Lang::Regex);
     let own = Rc::as_ref(bytes).copy()?;

@@ -6,9 +6,14 @@
 #![tactic(auto)]
 
 mod finding;
+mod found_file;
 mod looking;
+mod one_scan;
+mod packing;
 mod seeing;
 mod seen;
 mod walk;
 
+pub use found_file::FoundFile;
+pub use one_scan::find_fresh;
 pub use seen::{SeenFile, SeenFiles};

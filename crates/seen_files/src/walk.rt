@@ -12,7 +12,7 @@ ghost use Rattle.seen_files.specs.Needs.{IsNeededAt};
 ghost use Rattle.seen_files.specs.Seen.{file_of, IsSeen};
 ghost use Rattle.seen_files.specs.Walk.{openings, Takes};
 
-use crate::finding::{find, find_anew};
+use crate::packing::{see_anew, see_opened};
 use crate::seen::SeenFile;
 use code_reader::TreeReader;
 use comment_reader::CommentReader;
@@ -71,14 +71,14 @@ fn see_again<R: TreeReader + CommentReader, L: Ledger>(
         → IfOk result (λ s. Meets (IsNeededAt running.now s) (map_of kept.old) (steps.old + openings (Some was) bytes.now.value) (map_of kept.new) steps.new) }
 {
     if !has_bytes(&was, bytes) {
-        return find_anew(alloc, reader, path, bytes, running, traced, kept, steps);
+        return see_anew(alloc, reader, path, bytes, running, traced, kept, steps);
     }
     if same_rules {
         kept.keep_path(path);
         return Ok(was);
     }
     let opened = was.opened.opened(alloc)?;
-    find(
+    see_opened(
         alloc, reader, path, was.bytes, opened, running, traced, kept, steps,
     )
 }
@@ -106,7 +106,7 @@ pub fn see_file<R: TreeReader + CommentReader, L: Ledger>(
         → IfOk result (λ s. Meets (IsNeededAt running.now s) (map_of kept.old) (steps.old + openings was bytes.now.value) (map_of kept.new) steps.new) }
 {
     match was {
-        None => find_anew(alloc, reader, path, bytes, running, traced, kept, steps),
+        None => see_anew(alloc, reader, path, bytes, running, traced, kept, steps),
         Some(was) => see_again(
             alloc, reader, path, bytes, was, running, same_rules, traced, kept, steps,
         ),

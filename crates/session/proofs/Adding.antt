@@ -29,12 +29,15 @@ among_items (x ∷ xs) (suc i) d lt = inr (among_items xs i d (omega (arith, lt)
 abbrev pub manner_of : {R : Type 0} → Scanner R → R × Bool
 manner_of s = (s.reader.now, s.traced)
 
+pub in_manner : {R : Type 0} (s : Scanner R) (reader : R) (traced : Bool) → s.reader.now ≡ reader → s.traced ≡ traced → manner_of s ≡ (reader, traced)
+in_manner {R} s reader traced reader_is traced_is =
+    let F : R → R × Bool = λ r. (r, s.traced) in
+    let G : Bool → R × Bool = λ b. (reader, b) in
+    ap F reader_is ∙ ap G traced_is
+
 -- both are as they were
 pub same_manner : {R : Type 0} (now begun : Scanner R) → now.reader.now ≡ begun.reader.now → now.traced ≡ begun.traced → manner_of now ≡ manner_of begun
-same_manner {R} now begun reader traced =
-    let F : R → R × Bool = λ r. (r, now.traced) in
-    let G : Bool → R × Bool = λ b. (begun.reader.now, b) in
-    ap F reader ∙ ap G traced
+same_manner now begun = in_manner now begun.reader.now begun.traced
 
 -- Whichever rules the scan is by and whatever files were seen by them, the scan has looked at these.
 abbrev pub HasAdded : {R : Type 0} → Grammars → SeenFiles → Scanner R → List File → Scanner R → Type 0
@@ -44,32 +47,34 @@ HasAdded grammars seen begun done now =
 pub added_none : {R : Type 0} (grammars : Grammars) (seen : SeenFiles) (begun : Scanner R) → HasAdded grammars seen begun [] begun
 added_none grammars seen begun refused rules most files has sees = has
 
+-- what was found in a file that was seen, added to a scan in the same manner by the same rules
+module _ {R : Type 0} (grammars : R × Bool → Grammars) (manner : R × Bool) (now next : Scanner R) (still : manner_of now ≡ manner) (rules : List Rule) (rules_are : now.running.items ≡ rules) (x : SeenFile) (s : IsSeen (grammars manner) rules x)
+    (results : List Reported) (notices : List Notice) (results_are : results ≡ x.results) (notices_are : notices ≡ x.notices)
+    (adds : (file : File) → IsExactly reported_cmp (IsResultIn (grammars (manner_of now)) now.running.items file) results → ((n : Notice) → Among notices n ↔ IsNoticeIn (grammars (manner_of now)) now.running.items file n) → Scans (grammars (manner_of now)) (file ∷ []) now next) where
+  own_results : IsExactly reported_cmp (IsResultIn (grammars (manner_of now)) now.running.items (file_of x)) results
+  own_results =
+      let P : R × Bool → List Rule → List Reported → Type 0 = λ r rs l. IsExactly reported_cmp (IsResultIn (grammars r) rs (file_of x)) l in
+      let A : List Reported → Type 0 = λ l. P manner rules l in
+      let B : List Rule → Type 0 = λ rs. P manner rs results in
+      let C : R × Bool → Type 0 = λ r. P r now.running.items results in
+      subst C (sym still) (subst B (sym rules_are) (subst A (sym results_are) s.results))
+
+  own_notices : (n : Notice) → Among notices n ↔ IsNoticeIn (grammars (manner_of now)) now.running.items (file_of x) n
+  own_notices =
+      let P : R × Bool → List Rule → List Notice → Type 0 = λ r rs l. (n : Notice) → Among l n ↔ IsNoticeIn (grammars r) rs (file_of x) n in
+      let A : List Notice → Type 0 = λ l. P manner rules l in
+      let B : List Rule → Type 0 = λ rs. P manner rs notices in
+      let C : R × Bool → Type 0 = λ r. P r now.running.items notices in
+      subst C (sym still) (subst B (sym rules_are) (subst A (sym notices_are) s.notices))
+
+  pub own_scan : Scans (grammars manner) (file_of x ∷ []) now next
+  own_scan = let P : R × Bool → Type 0 = λ r. Scans (grammars r) (file_of x ∷ []) now next in subst P still (adds (file_of x) own_results own_notices)
+
 -- one more file
 module _ {R : Type 0} (grammars : R × Bool → Grammars) (seen : SeenFiles) (begun now next : Scanner R) (still : manner_of now ≡ manner_of begun)
     (items : List SeenFile) (are : items ≡ seen.files) (i : ℕ) (x d : SeenFile) (lt : i < length items) (is : x ≡ get_or items i d)
     (results : List Reported) (notices : List Notice) (results_are : results ≡ x.results) (notices_are : notices ≡ x.notices)
     (adds : (file : File) → IsExactly reported_cmp (IsResultIn (grammars (manner_of now)) now.running.items file) results → ((n : Notice) → Among notices n ↔ IsNoticeIn (grammars (manner_of now)) now.running.items file n) → Scans (grammars (manner_of now)) (file ∷ []) now next) where
-  -- in the manner and by the rules with which the scan began
-  module _ (rules : List Rule) (rules_are : now.running.items ≡ rules) (s : IsSeen (grammars (manner_of begun)) rules x) where
-    own_results : IsExactly reported_cmp (IsResultIn (grammars (manner_of now)) now.running.items (file_of x)) results
-    own_results =
-        let P : R × Bool → List Rule → List Reported → Type 0 = λ r rs l. IsExactly reported_cmp (IsResultIn (grammars r) rs (file_of x)) l in
-        let A : List Reported → Type 0 = λ l. P (manner_of begun) rules l in
-        let B : List Rule → Type 0 = λ rs. P (manner_of begun) rs results in
-        let C : R × Bool → Type 0 = λ r. P r now.running.items results in
-        subst C (sym still) (subst B (sym rules_are) (subst A (sym results_are) s.results))
-
-    own_notices : (n : Notice) → Among notices n ↔ IsNoticeIn (grammars (manner_of now)) now.running.items (file_of x) n
-    own_notices =
-        let P : R × Bool → List Rule → List Notice → Type 0 = λ r rs l. (n : Notice) → Among l n ↔ IsNoticeIn (grammars r) rs (file_of x) n in
-        let A : List Notice → Type 0 = λ l. P (manner_of begun) rules l in
-        let B : List Rule → Type 0 = λ rs. P (manner_of begun) rs notices in
-        let C : R × Bool → Type 0 = λ r. P r now.running.items notices in
-        subst C (sym still) (subst B (sym rules_are) (subst A (sym notices_are) s.notices))
-
-    own_scan : Scans (grammars (manner_of begun)) (file_of x ∷ []) now next
-    own_scan = let P : R × Bool → Type 0 = λ r. Scans (grammars r) (file_of x ∷ []) now next in subst P still (adds (file_of x) own_results own_notices)
-
   there : Among seen.files x
   there = let P : List SeenFile → Type 0 = λ l. Among l x in subst P are (let Q : SeenFile → Type 0 = λ y. Among items y in subst Q (sym is) (among_items items i d lt))
 
@@ -88,7 +93,7 @@ module _ {R : Type 0} (grammars : R × Bool → Grammars) (seen : SeenFiles) (be
       let done = map file_of (take i items) in
       let so_far = far refused rules most files has sees in
       let P : List File → Type 0 = λ fs. HasScanned (grammars (manner_of begun)) refused rules most fs next in
-      subst P joined (own_scan (running refused rules) so_far.rules (sees.all x there) refused rules most done (in_order files sees.files_are sees.ordered) so_far)
+      subst P joined (own_scan grammars (manner_of begun) now next still (running refused rules) so_far.rules x (sees.all x there) results notices results_are notices_are adds refused rules most done (in_order files sees.files_are sees.ordered) so_far)
 
 -- all files
 pub added_all : {R : Type 0} (grammars : Grammars) (seen : SeenFiles) (begun now : Scanner R) (items : List SeenFile) → items ≡ seen.files → (i : ℕ) → length items ≤ i → HasAdded grammars seen begun (map file_of (take i items)) now
@@ -97,7 +102,7 @@ added_all grammars seen begun now items are i end far refused rules most files h
     let P : List File → Type 0 = λ fs. HasScanned grammars refused rules most fs now in
     subst P (ap (map file_of) (take_all i items end ∙ are) ∙ sees.files_are) (far refused rules most files has sees)
 
--- what is said after a scan in its own manner is said in that in which it began
-pub after_all : {R : Type 0} (grammars : R × Bool → Grammars) (begun scanned : Scanner R) → manner_of scanned ≡ manner_of begun → (refused : List (List ℕ)) (rules : List RuleFile) (most : ℕ) (files : List File) → HasScanned (grammars (manner_of begun)) refused rules most files scanned
-    → (P : Grammars → List (List ℕ) → List RuleFile → ℕ → List File → Type 0) → AfterScan (grammars (manner_of scanned)) scanned P → P (grammars (manner_of begun)) refused rules most files
-after_all {R} grammars begun scanned still refused rules most files has P h = let Q : R × Bool → Type 0 = λ r. AfterScan (grammars r) scanned P in subst Q still h refused rules most files has
+-- what is said after a scan in its own manner is said in the same one
+pub after_all : {R : Type 0} (grammars : R × Bool → Grammars) (manner : R × Bool) (scanned : Scanner R) → manner_of scanned ≡ manner → (refused : List (List ℕ)) (rules : List RuleFile) (most : ℕ) (files : List File) → HasScanned (grammars manner) refused rules most files scanned
+    → (P : Grammars → List (List ℕ) → List RuleFile → ℕ → List File → Type 0) → AfterScan (grammars (manner_of scanned)) scanned P → P (grammars manner) refused rules most files
+after_all {R} grammars manner scanned still refused rules most files has P h = let Q : R × Bool → Type 0 = λ r. AfterScan (grammars r) scanned P in subst Q still h refused rules most files has

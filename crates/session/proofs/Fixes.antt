@@ -1,6 +1,6 @@
 -- What fixes make of the files of a session.
-use Rattle.std.proofs.Common.{◌≡◌, ℕ, zero, List, [], ◌∷◌, map, refl, sym, ap, ◌∙◌, subst}
-use Rattle.std.specs.Prelude.{Result, Ok, Err, Option, None, Some}
+use Rattle.std.proofs.Common.{◌≡◌, ◌≤◌, ℕ, zero, List, [], ◌∷◌, length, map, refl, sym, ap, ◌∙◌, subst}
+use Rattle.std.specs.Prelude.{Result, Ok, Err, IfOk, Option, None, Some}
 use Rattle.scan_world.specs.Files.{Files}
 use Rattle.file_map.specs.declared.limit.LimitKind.{LimitKind}
 use Rattle.file_map.specs.FileMap.{File, front}
@@ -11,9 +11,9 @@ use Rattle.report_form.specs.declared.report.Report.{Report}
 use Rattle.workspace.specs.declared.fault.FixFault.{FixFault}
 use Rattle.workspace.specs.declared.fault.FixFault.TheVariants as faults
 use Rattle.workspace.specs.Reports.{Readings, IsReport}
-use Rattle.workspace.specs.Fixes.{AreFixed, IsFixReport, put_of, files_fixed}
+use Rattle.workspace.specs.Fixes.{AreFixed, IsFixReport, FixesPass, put_of, files_fixed}
 use Rattle.workspace.proofs.Once.{fixed_once}
-use Rattle.session.specs.Sessions.{text_of}
+use Rattle.session.specs.Sessions.{FixesOver, text_of}
 
 puts_are : (fixed : List FixedFile) → map front (map text_of fixed) ≡ map put_of fixed
 puts_are [] = refl
@@ -24,15 +24,32 @@ pub texts_put : (old files : Files) (texts : List File) (fixed : List FixedFile)
 texts_put old files texts fixed same e =
     ap (λ (fs : Files). with_files fs (map front texts)) same ∙ ap (λ (ts : List File). with_files old (map front ts)) e ∙ ap (with_files old) (puts_are fixed)
 
--- where a report is the only one, what its fixes make of the files is one thing
-pub only_fixed : (readings : Readings) (refused : List (List ℕ)) (files rules : Files) (report : Report) (fixed : List FixedFile) → ((r : Report) → IsReport readings refused files rules r → r ≡ report) → AreFixed report.results files fixed →
-    (f : FixReport) → IsFixReport readings refused files rules f → f ≡ record { report = report; files = fixed }
-only_fixed readings refused files rules report fixed one are f is =
-    let same : f.report ≡ report = one f.report is.report in
-    let P : Report → Type 0 = λ r. AreFixed r.results files f.files in
-    let u : Report → FixReport = λ r. record { report = r; files = f.files } in
-    let v : List FixedFile → FixReport = λ fs. record { report = report; files = fs } in
-    ap u same ∙ ap v (fixed_once report.results files fixed f.files are (subst P same is.fixes))
+-- what was fixed by a report is a report of fixes
+module _ (readings : Readings) (refused : List (List ℕ)) (files rules : Files) (report : Report) where
+  pub fix_report : (r : Result FixReport FixFault) → IfOk r (λ f. f.report ≡ report) → IfOk r (λ f. AreFixed report.results files f.files) → IsReport readings refused files rules report → IfOk r (IsFixReport readings refused files rules)
+  fix_report (Ok f) same are is =
+      let P : Report → Type 0 = λ o. IsReport readings refused files rules o in
+      let Q : Report → Type 0 = λ o. AreFixed o.results files f.files in
+      record { report = subst P (sym same) is; fixes = subst Q (sym same) are }
+  fix_report (Err e) same are is = tt
+
+  pub fix_few : (most : ℕ) (r : Result FixReport FixFault) → IfOk r (λ f. f.report ≡ report) → length report.results ≤ most → IfOk r (λ f. length f.report.results ≤ most)
+  fix_few most (Ok f) same few = let P : Report → Type 0 = λ o. length o.results ≤ most in subst P (sym same) few
+  fix_few most (Err e) same few = tt
+
+  -- where the report is the only one, what its fixes make of the files is one thing
+  pub fix_only : (r : Result FixReport FixFault) → IfOk r (λ f. f.report ≡ report) → IfOk r (λ f. AreFixed report.results files f.files) → ((o : Report) → IsReport readings refused files rules o → o ≡ report)
+      → IfOk r (λ f. (o : FixReport) → IsFixReport readings refused files rules o → o ≡ f)
+  fix_only (Ok f) same are one = λ o is.
+      let P : Report → Type 0 = λ x. AreFixed x.results files o.files in
+      let u : Report → FixReport = λ x. record { report = x; files = o.files } in
+      let v : List FixedFile → FixReport = λ fs. record { report = f.report; files = fs } in
+      let same_report = one o.report is.report in
+      ap u (same_report ∙ sym same) ∙ ap v (fixed_once report.results files f.files o.files are (subst P same_report is.fixes))
+  fix_only (Err e) same are one = tt
+
+  pub fix_over : (most : ℕ) (kind : LimitKind) (n : ℕ) → IsReport readings refused files rules report → length report.results ≤ most → FixesOver report.results files kind n → FixesPass readings refused files rules most kind n
+  fix_over most kind n is few (fixed, are, over) = record { fixed = record { report = report; files = fixed }; is = record { report = is; fixes = are }; few = few; passes = over }
 
 -- what a fault tells
 abbrev pub most_of : {X : Type 0} → Result X FixFault → ℕ

@@ -4,3 +4,4 @@ pub mod Telling
 pub mod Keeping
 pub mod Reports
 pub mod Fixes
+pub mod Once

@@ -1,17 +1,21 @@
-//! What the fixes of a report make of the files of a session.
+//! What the fixes of a report make of files.
 
-ghost use Rattle.std.specs.Prelude.{◌≡◌, [], map, IfOk, IfSome, IfNone, OnOk, IsTrue};
+ghost use Rattle.std.specs.Prelude.{◌≡◌, ℕ, [], map, None, Err, IfOk, IfSome, IfNone, OnOk, OnErr, IsTrue};
+ghost use Rattle.file_map.specs.FileMap.{over_limit};
+ghost use Rattle.file_map.specs.declared.limit.LimitKind.{LimitKind as limit_kind};
 ghost use Rattle.fix_apply.specs.Order.{AreInOrder};
 ghost use Rattle.fix_apply.specs.Choices.{AreChosen};
-ghost use Rattle.workspace.specs.Fixes.{IsFixed, AreFixed};
-ghost use Rattle.session.specs.Sessions.{EndWithin, AddsFixed, text_of};
+ghost use Rattle.workspace.specs.declared.fault.FixFault.TheVariants as fix_faults;
+ghost use Rattle.workspace.specs.Fixes.{IsFixed, AreFixed, files_fixed};
+ghost use Rattle.session.specs.Sessions.{EndWithin, AddsFixed, FixesOver, text_of};
 
-use file_map::FileMap;
-use fix_apply::{FixedFile, apply, choose};
+use file_map::{FileMap, PutFault};
+use fix_apply::{FixReport, FixedFile, apply, choose};
 use node_tree::{Bytes, List, Memory, Text, Twin};
-use report_form::{Edit, Reported};
+use report_form::{Edit, Report, Reported};
 use std::alloc::Global;
 use std::rc::Rc;
+use workspace::FixFault;
 
 // Whether all edits end within so many bytes.
 fn end_within(edits: &[Edit], size: usize) -> bool
@@ -69,8 +73,8 @@ fn add_fixed(
     }
 }
 
-/// What the fixes that are taken make of the files in which there are some, in order of path.
-pub fn fixed_files(
+// What the fixes that are taken make of the files in which there are some, in order of path.
+fn fixed_files(
     alloc: Global,
     files: &FileMap,
     results: &List<Reported>,
@@ -92,8 +96,8 @@ pub fn fixed_files(
     Ok(fixed)
 }
 
-/// The paths of changed files, each with all of its text.
-pub fn texts_of(alloc: Global, files: &[FixedFile]) -> Result<List<(Text, Bytes)>, Memory>
+// The paths of changed files, each with all of its text.
+fn texts_of(alloc: Global, files: &[FixedFile]) -> Result<List<(Text, Bytes)>, Memory>
     ensures { IfOk result (λ texts. texts ≡ map text_of files.now) }
 {
     let mut texts = List::new(alloc);
@@ -101,4 +105,27 @@ pub fn texts_of(alloc: Global, files: &[FixedFile]) -> Result<List<(Text, Bytes)
         texts.push((file.path.copy()?, file.whole.copy()?))?;
     }
     Ok(texts)
+}
+
+/// Puts what the fixes of a report make of the files. It is refused where they would have more than 33,554,432 bytes then.
+pub fn fix_by(alloc: Global, files: &mut FileMap, report: Report) -> Result<FixReport, FixFault>
+    requires { AreInOrder report.results }
+    ensures report { IfOk result (λ fixed. fixed.report ≡ report) }
+    ensures fixed { IfOk result (λ fixed. AreFixed report.results files.old fixed.files) }
+    ensures put { IfOk result (λ fixed. files.new ≡ files_fixed files.old fixed.files) }
+    ensures within { IfOk result (λ fixed. over_limit (files_fixed files.old fixed.files) ≡ None) }
+    ensures over { (kind : limit_kind) (n : ℕ) → result ≡ Err (fix_faults.OverLimit kind n) → FixesOver report.results files.old kind n }
+    ensures not_many { (n : ℕ) → result ≡ Err (fix_faults.TooMany n) → ⊥ }
+    ensures refused { OnErr result (files.new ≡ files.old) }
+{
+    let fixed = fixed_files(alloc, files, &report.results)?;
+    let texts = texts_of(alloc, fixed.as_slice())?;
+    match files.replace_all(texts.as_slice()) {
+        Ok(()) => Ok(FixReport {
+            report,
+            files: fixed,
+        }),
+        Err(PutFault::Memory) => Err(FixFault::Memory),
+        Err(PutFault::OverLimit(kind, count)) => Err(FixFault::OverLimit(kind, count)),
+    }
 }

@@ -7,8 +7,10 @@
 
 mod copying;
 mod fixing;
+mod one_fix;
 mod scan_state;
 mod scanning;
 mod session;
 
+pub use one_fix::fix_once;
 pub use session::Session;

@@ -4,7 +4,7 @@ ghost use Rattle.std.specs.Prelude.{◌≡◌, []};
 ghost use Rattle.seen_files.specs.Seen.{HasSeenNone};
 ghost use Rattle.session.specs.Sessions.{state_of};
 
-use crate::fixing::{fixed_files, texts_of};
+use crate::fixing::fix_by;
 use crate::scan_state::ScanState;
 use code_reader::{PatternReader, TreeReader};
 use comment_reader::CommentReader;
@@ -104,12 +104,6 @@ impl<'r, R: TreeReader + CommentReader + PatternReader> Workspace for Session<'r
             Err(ScanFault::Memory) => return Err(FixFault::Memory),
             Err(ScanFault::TooMany(most)) => return Err(FixFault::TooMany(most)),
         };
-        let files = fixed_files(self.alloc, &self.files, &report.results)?;
-        let texts = texts_of(self.alloc, files.as_slice())?;
-        match self.files.replace_all(texts.as_slice()) {
-            Ok(()) => Ok(FixReport { report, files }),
-            Err(PutFault::Memory) => Err(FixFault::Memory),
-            Err(PutFault::OverLimit(kind, count)) => Err(FixFault::OverLimit(kind, count)),
-        }
+        fix_by(self.alloc, &mut self.files, report)
     }
 }

@@ -9,6 +9,7 @@ use Rattle.seen_files.specs.declared.seen.SeenFiles.{SeenFiles}
 use Rattle.seen_files.specs.Needs.{IsNeeded}
 use Rattle.seen_files.specs.Seen.{HasSeen}
 use Rattle.seen_files.specs.Spends.{Spends}
+use Rattle.seen_files.specs.Fresh.{SeesFresh}
 use Rattle.workspace.specs.Reports.{Readings}
 
 -- The files were seen by the rules that run. That took one step for each file whose bytes were not seen there at the scan before,
@@ -21,3 +22,10 @@ pub record Works (readings : Readings) (refused : List (List ℕ)) (files rules 
   pub files_before : Files
   pub was : HasSeen readings.grammars rules_before files_before old
   pub spends : Spends files_before files (IsNeeded rules_before old.files) (IsNeeded (running refused contents) new.files) before after
+
+-- The files were seen by the rules that run, where none was seen before. That took one step for each file, and one for each pair of
+-- a piece and a pattern that is needed.
+pub record WorksOnce (readings : Readings) (refused : List (List ℕ)) (files rules : Files) (before after : ℕ) : Type 0 where
+  pub contents : List RuleFile
+  pub are : AreRuleFiles readings.writes rules contents
+  pub sees : SeesFresh readings.grammars (running refused contents) files before after

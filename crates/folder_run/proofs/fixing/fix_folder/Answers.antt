@@ -1,122 +1,25 @@
-use Rattle.std.proofs.Common.{◌∙◌, ap, Err}
-use Rattle.wire_words.specs.Commands.{task_of}
-use Rattle.decided_texts.specs.Refused.{gained}
-use Rattle.folder_run.proofs.Fixes.{asking, scans_once, texts_once, none_after, none_wrote, many_after, many_wrote, over_after, over_wrote, done_left, done_after, done_wrote, done_front, not_memory, many_not_memory, over_not_memory}
-use Rattle.stream_run.specs.Still.{setting, shelves_of}
-use Rattle.folder_run.proofs.Once.{one_taken, only_fix, only_none}
 use Rattle.folder_run.proofs.fixing.fix_folder.Goals as goal
 
-pub returns-in-Err-clause-ends : goal.returns-in-Err-clause-ends
-returns-in-Err-clause-ends g c a =
-    (none_after (setting (g.W.Workspace.readings (g.W.Workspace.reader c.args.workspace.now)) (g.T.Tree.files c.args.tree.now) (g.W.Workspace.state c.args.workspace.now).most _) (task_of c.args.job.now) c.in-Err.status (c.in-Err.ensures.none a) (g.K.Sink.written c.args.out.now) c.args.steps.now (g.P.Patterns.asked c.args.patterns.now)).takes.prints
+pub fix_taken-requires : goal.fix_taken-requires
+fix_taken-requires g c = record { rules = c.new-rules.ensures.files; files = c.new-files.ensures; decided = c.new-decided.ensures }
 
-pub returns-in-Err-clause-work : goal.returns-in-Err-clause-work
-returns-in-Err-clause-work g c a =
-    (none_after (setting (g.W.Workspace.readings (g.W.Workspace.reader c.args.workspace.now)) (g.T.Tree.files c.args.tree.now) (g.W.Workspace.state c.args.workspace.now).most _) (task_of c.args.job.now) c.in-Err.status (c.in-Err.ensures.none a) (g.K.Sink.written c.args.out.now) c.args.steps.now (g.P.Patterns.asked c.args.patterns.now)).takes
+pub returns-clause-ends : goal.returns-clause-ends
+returns-clause-ends g c = rw c.new-rules.ensures.reader at c.fix_taken.ensures.ends
 
-pub returns-in-Err-clause-asked : goal.returns-in-Err-clause-asked
-returns-in-Err-clause-asked g c a =
-    asking _ _ _ _ _ _ _ _ _ (none_after (setting (g.W.Workspace.readings (g.W.Workspace.reader c.args.workspace.now)) (g.T.Tree.files c.args.tree.now) (g.W.Workspace.state c.args.workspace.now).most _) (task_of c.args.job.now) c.in-Err.status (c.in-Err.ensures.none a) (g.K.Sink.written c.args.out.now) c.args.steps.now (g.P.Patterns.asked c.args.patterns.now))
+pub returns-clause-only : goal.returns-clause-only
+returns-clause-only g c = rw c.new-rules.ensures.reader at c.fix_taken.ensures.only
 
-pub returns-in-Err-clause-wrote : goal.returns-in-Err-clause-wrote
-returns-in-Err-clause-wrote g c a =
-    none_wrote (setting (g.W.Workspace.readings (g.W.Workspace.reader c.args.workspace.now)) (g.T.Tree.files c.args.tree.now) (g.W.Workspace.state c.args.workspace.now).most _) (task_of c.args.job.now) c.in-Err.status (c.in-Err.ensures.none a) (g.T.Tree.files c.take_folder.new.tree) c.in-Err.ensures.kept
+pub returns-clause-work : goal.returns-clause-work
+returns-clause-work g c = rw c.new-rules.ensures.reader at c.fix_taken.ensures.work
 
-pub returns-in-Ok-fix-clause-ends : goal.returns-in-Ok-fix-clause-ends
-returns-in-Ok-fix-clause-ends g c a =
-    (done_after g.W.Workspace.readings (g.W.Workspace.reader c.args.workspace.now) (g.W.Workspace.reader c.take_folder.new.workspace) c.in-Ok.ensures.same_reader (g.T.Tree.files c.args.tree.now) (g.T.Tree.files c.take_folder.new.tree) c.in-Ok.ensures.kept (task_of c.args.job.now) (g.W.Workspace.state c.args.workspace.now) (g.W.Workspace.state c.take_folder.new.workspace) c.requires.new c.in-Ok.ensures.takes c.in-Ok.ensures.decided c.in-Ok.ensures.most (g.W.Workspace.state c.fix.new.self).decided (gained (g.P.Patterns.refusals c.args.patterns.now) (g.P.Patterns.refusals c.fix.new.patterns)) (c.fix.ensures.refused (λ e. not_memory c.fix.result _ c.in-Ok-fix.is e)) c.in-Ok-fix.fixed c.in-Ok-fix.ensures.report c.in-Ok-fix.ensures.few c.in-Ok-fix.ensures.within c.write_and_print.result (g.K.Sink.written c.args.out.now) (g.K.Sink.written c.write_and_print.new.out) c.args.steps.now c.fix.new.steps (g.P.Patterns.asked c.args.patterns.now) (g.P.Patterns.asked c.fix.new.patterns)
-    (scans_once g.W.Workspace.readings (g.W.Workspace.reader c.args.workspace.now) (g.W.Workspace.reader c.take_folder.new.workspace) c.in-Ok.ensures.same_reader (g.T.Tree.files c.args.tree.now) (g.T.Tree.files c.take_folder.new.tree) c.in-Ok.ensures.kept (task_of c.args.job.now) (g.W.Workspace.state c.args.workspace.now) (g.W.Workspace.state c.take_folder.new.workspace) c.requires.new c.in-Ok.ensures.takes c.in-Ok.ensures.decided c.in-Ok.ensures.most (g.W.Workspace.state c.fix.new.self).decided (gained (g.P.Patterns.refusals c.args.patterns.now) (g.P.Patterns.refusals c.fix.new.patterns)) (c.fix.ensures.refused (λ e. not_memory c.fix.result _ c.in-Ok-fix.is e)) (g.W.Workspace.seen c.take_folder.new.workspace) (g.W.Workspace.seen c.args.workspace.now) (g.W.Workspace.seen c.fix.new.self) c.requires.unseen c.in-Ok.ensures.unseen c.args.steps.now c.fix.new.steps (c.fix.ensures.work (λ e. not_memory c.fix.result _ c.in-Ok-fix.is e)))
-    (texts_once g.W.Workspace.readings (g.W.Workspace.reader c.args.workspace.now) (g.W.Workspace.reader c.take_folder.new.workspace) c.in-Ok.ensures.same_reader (g.T.Tree.files c.args.tree.now) (g.T.Tree.files c.take_folder.new.tree) c.in-Ok.ensures.kept (task_of c.args.job.now) (g.W.Workspace.state c.args.workspace.now) (g.W.Workspace.state c.take_folder.new.workspace) c.requires.new c.in-Ok.ensures.takes c.in-Ok.ensures.decided c.in-Ok.ensures.most (g.W.Workspace.state c.fix.new.self).decided (gained (g.P.Patterns.refusals c.args.patterns.now) (g.P.Patterns.refusals c.fix.new.patterns)) (c.fix.ensures.refused (λ e. not_memory c.fix.result _ c.in-Ok-fix.is e)) (g.P.Patterns.asked c.args.patterns.now) (g.P.Patterns.asked c.fix.new.patterns) (c.fix.ensures.settled (λ e. not_memory c.fix.result _ c.in-Ok-fix.is e)))
-    (c.write_and_print.ensures.ends a)).takes.prints
+pub returns-clause-asked : goal.returns-clause-asked
+returns-clause-asked g c = rw c.new-rules.ensures.reader at c.fix_taken.ensures.asked
 
-pub returns-in-Ok-fix-clause-work : goal.returns-in-Ok-fix-clause-work
-returns-in-Ok-fix-clause-work g c a =
-    (done_after g.W.Workspace.readings (g.W.Workspace.reader c.args.workspace.now) (g.W.Workspace.reader c.take_folder.new.workspace) c.in-Ok.ensures.same_reader (g.T.Tree.files c.args.tree.now) (g.T.Tree.files c.take_folder.new.tree) c.in-Ok.ensures.kept (task_of c.args.job.now) (g.W.Workspace.state c.args.workspace.now) (g.W.Workspace.state c.take_folder.new.workspace) c.requires.new c.in-Ok.ensures.takes c.in-Ok.ensures.decided c.in-Ok.ensures.most (g.W.Workspace.state c.fix.new.self).decided (gained (g.P.Patterns.refusals c.args.patterns.now) (g.P.Patterns.refusals c.fix.new.patterns)) (c.fix.ensures.refused (λ e. not_memory c.fix.result _ c.in-Ok-fix.is e)) c.in-Ok-fix.fixed c.in-Ok-fix.ensures.report c.in-Ok-fix.ensures.few c.in-Ok-fix.ensures.within c.write_and_print.result (g.K.Sink.written c.args.out.now) (g.K.Sink.written c.write_and_print.new.out) c.args.steps.now c.fix.new.steps (g.P.Patterns.asked c.args.patterns.now) (g.P.Patterns.asked c.fix.new.patterns)
-    (scans_once g.W.Workspace.readings (g.W.Workspace.reader c.args.workspace.now) (g.W.Workspace.reader c.take_folder.new.workspace) c.in-Ok.ensures.same_reader (g.T.Tree.files c.args.tree.now) (g.T.Tree.files c.take_folder.new.tree) c.in-Ok.ensures.kept (task_of c.args.job.now) (g.W.Workspace.state c.args.workspace.now) (g.W.Workspace.state c.take_folder.new.workspace) c.requires.new c.in-Ok.ensures.takes c.in-Ok.ensures.decided c.in-Ok.ensures.most (g.W.Workspace.state c.fix.new.self).decided (gained (g.P.Patterns.refusals c.args.patterns.now) (g.P.Patterns.refusals c.fix.new.patterns)) (c.fix.ensures.refused (λ e. not_memory c.fix.result _ c.in-Ok-fix.is e)) (g.W.Workspace.seen c.take_folder.new.workspace) (g.W.Workspace.seen c.args.workspace.now) (g.W.Workspace.seen c.fix.new.self) c.requires.unseen c.in-Ok.ensures.unseen c.args.steps.now c.fix.new.steps (c.fix.ensures.work (λ e. not_memory c.fix.result _ c.in-Ok-fix.is e)))
-    (texts_once g.W.Workspace.readings (g.W.Workspace.reader c.args.workspace.now) (g.W.Workspace.reader c.take_folder.new.workspace) c.in-Ok.ensures.same_reader (g.T.Tree.files c.args.tree.now) (g.T.Tree.files c.take_folder.new.tree) c.in-Ok.ensures.kept (task_of c.args.job.now) (g.W.Workspace.state c.args.workspace.now) (g.W.Workspace.state c.take_folder.new.workspace) c.requires.new c.in-Ok.ensures.takes c.in-Ok.ensures.decided c.in-Ok.ensures.most (g.W.Workspace.state c.fix.new.self).decided (gained (g.P.Patterns.refusals c.args.patterns.now) (g.P.Patterns.refusals c.fix.new.patterns)) (c.fix.ensures.refused (λ e. not_memory c.fix.result _ c.in-Ok-fix.is e)) (g.P.Patterns.asked c.args.patterns.now) (g.P.Patterns.asked c.fix.new.patterns) (c.fix.ensures.settled (λ e. not_memory c.fix.result _ c.in-Ok-fix.is e)))
-    (c.write_and_print.ensures.ends a)).takes
+pub returns-clause-wrote : goal.returns-clause-wrote
+returns-clause-wrote g c = rw c.new-rules.ensures.reader at c.fix_taken.ensures.wrote
 
-pub returns-in-Ok-fix-clause-asked : goal.returns-in-Ok-fix-clause-asked
-returns-in-Ok-fix-clause-asked g c a =
-    asking _ _ _ _ _ _ _ _ _ (done_after g.W.Workspace.readings (g.W.Workspace.reader c.args.workspace.now) (g.W.Workspace.reader c.take_folder.new.workspace) c.in-Ok.ensures.same_reader (g.T.Tree.files c.args.tree.now) (g.T.Tree.files c.take_folder.new.tree) c.in-Ok.ensures.kept (task_of c.args.job.now) (g.W.Workspace.state c.args.workspace.now) (g.W.Workspace.state c.take_folder.new.workspace) c.requires.new c.in-Ok.ensures.takes c.in-Ok.ensures.decided c.in-Ok.ensures.most (g.W.Workspace.state c.fix.new.self).decided (gained (g.P.Patterns.refusals c.args.patterns.now) (g.P.Patterns.refusals c.fix.new.patterns)) (c.fix.ensures.refused (λ e. not_memory c.fix.result _ c.in-Ok-fix.is e)) c.in-Ok-fix.fixed c.in-Ok-fix.ensures.report c.in-Ok-fix.ensures.few c.in-Ok-fix.ensures.within c.write_and_print.result (g.K.Sink.written c.args.out.now) (g.K.Sink.written c.write_and_print.new.out) c.args.steps.now c.fix.new.steps (g.P.Patterns.asked c.args.patterns.now) (g.P.Patterns.asked c.fix.new.patterns)
-    (scans_once g.W.Workspace.readings (g.W.Workspace.reader c.args.workspace.now) (g.W.Workspace.reader c.take_folder.new.workspace) c.in-Ok.ensures.same_reader (g.T.Tree.files c.args.tree.now) (g.T.Tree.files c.take_folder.new.tree) c.in-Ok.ensures.kept (task_of c.args.job.now) (g.W.Workspace.state c.args.workspace.now) (g.W.Workspace.state c.take_folder.new.workspace) c.requires.new c.in-Ok.ensures.takes c.in-Ok.ensures.decided c.in-Ok.ensures.most (g.W.Workspace.state c.fix.new.self).decided (gained (g.P.Patterns.refusals c.args.patterns.now) (g.P.Patterns.refusals c.fix.new.patterns)) (c.fix.ensures.refused (λ e. not_memory c.fix.result _ c.in-Ok-fix.is e)) (g.W.Workspace.seen c.take_folder.new.workspace) (g.W.Workspace.seen c.args.workspace.now) (g.W.Workspace.seen c.fix.new.self) c.requires.unseen c.in-Ok.ensures.unseen c.args.steps.now c.fix.new.steps (c.fix.ensures.work (λ e. not_memory c.fix.result _ c.in-Ok-fix.is e)))
-    (texts_once g.W.Workspace.readings (g.W.Workspace.reader c.args.workspace.now) (g.W.Workspace.reader c.take_folder.new.workspace) c.in-Ok.ensures.same_reader (g.T.Tree.files c.args.tree.now) (g.T.Tree.files c.take_folder.new.tree) c.in-Ok.ensures.kept (task_of c.args.job.now) (g.W.Workspace.state c.args.workspace.now) (g.W.Workspace.state c.take_folder.new.workspace) c.requires.new c.in-Ok.ensures.takes c.in-Ok.ensures.decided c.in-Ok.ensures.most (g.W.Workspace.state c.fix.new.self).decided (gained (g.P.Patterns.refusals c.args.patterns.now) (g.P.Patterns.refusals c.fix.new.patterns)) (c.fix.ensures.refused (λ e. not_memory c.fix.result _ c.in-Ok-fix.is e)) (g.P.Patterns.asked c.args.patterns.now) (g.P.Patterns.asked c.fix.new.patterns) (c.fix.ensures.settled (λ e. not_memory c.fix.result _ c.in-Ok-fix.is e)))
-    (c.write_and_print.ensures.ends a))
+pub returns-clause-left : goal.returns-clause-left
+returns-clause-left g c = rw c.new-rules.ensures.reader at c.fix_taken.ensures.left
 
-pub returns-in-Ok-fix-clause-wrote : goal.returns-in-Ok-fix-clause-wrote
-returns-in-Ok-fix-clause-wrote g c a =
-    done_wrote g.W.Workspace.readings (g.W.Workspace.reader c.args.workspace.now) (g.W.Workspace.reader c.take_folder.new.workspace) c.in-Ok.ensures.same_reader (g.T.Tree.files c.args.tree.now) (g.T.Tree.files c.take_folder.new.tree) c.in-Ok.ensures.kept (task_of c.args.job.now) (g.W.Workspace.state c.args.workspace.now) (g.W.Workspace.state c.take_folder.new.workspace) c.requires.new c.in-Ok.ensures.takes c.in-Ok.ensures.decided c.in-Ok.ensures.most (g.W.Workspace.state c.fix.new.self).decided (gained (g.P.Patterns.refusals c.args.patterns.now) (g.P.Patterns.refusals c.fix.new.patterns)) (c.fix.ensures.refused (λ e. not_memory c.fix.result _ c.in-Ok-fix.is e)) c.in-Ok-fix.fixed c.in-Ok-fix.ensures.report c.in-Ok-fix.ensures.few c.in-Ok-fix.ensures.within c.write_and_print.result (g.T.Tree.files c.write_and_print.new.tree) (c.write_and_print.ensures.ends a).ends.0 (c.write_and_print.ensures.wrote a)
-
-pub returns-in-Ok-fix-clause-left : goal.returns-in-Ok-fix-clause-left
-returns-in-Ok-fix-clause-left g c =
-    done_left g.W.Workspace.readings (g.W.Workspace.reader c.args.workspace.now) (g.W.Workspace.reader c.take_folder.new.workspace) c.in-Ok.ensures.same_reader (g.T.Tree.files c.args.tree.now) (g.T.Tree.files c.take_folder.new.tree) c.in-Ok.ensures.kept (task_of c.args.job.now) (g.W.Workspace.state c.args.workspace.now) (g.W.Workspace.state c.take_folder.new.workspace) c.requires.new c.in-Ok.ensures.takes c.in-Ok.ensures.decided c.in-Ok.ensures.most (g.W.Workspace.state c.fix.new.self).decided (gained (g.P.Patterns.refusals c.args.patterns.now) (g.P.Patterns.refusals c.fix.new.patterns)) (c.fix.ensures.refused (λ e. not_memory c.fix.result _ c.in-Ok-fix.is e)) c.in-Ok-fix.fixed c.in-Ok-fix.ensures.report c.in-Ok-fix.ensures.few c.in-Ok-fix.ensures.within (g.T.Tree.files c.write_and_print.new.tree) c.write_and_print.ensures.left
-
-pub returns-in-Ok-fix-clause-front_written : goal.returns-in-Ok-fix-clause-front_written
-returns-in-Ok-fix-clause-front_written g c e =
-    done_front g.W.Workspace.readings (g.W.Workspace.reader c.args.workspace.now) (g.W.Workspace.reader c.take_folder.new.workspace) c.in-Ok.ensures.same_reader (g.T.Tree.files c.args.tree.now) (g.T.Tree.files c.take_folder.new.tree) c.in-Ok.ensures.kept (task_of c.args.job.now) (g.W.Workspace.state c.args.workspace.now) (g.W.Workspace.state c.take_folder.new.workspace) c.requires.new c.in-Ok.ensures.takes c.in-Ok.ensures.decided c.in-Ok.ensures.most (g.W.Workspace.state c.fix.new.self).decided (gained (g.P.Patterns.refusals c.args.patterns.now) (g.P.Patterns.refusals c.fix.new.patterns)) (c.fix.ensures.refused (λ e. not_memory c.fix.result _ c.in-Ok-fix.is e)) c.in-Ok-fix.fixed c.in-Ok-fix.ensures.report c.in-Ok-fix.ensures.few c.in-Ok-fix.ensures.within (g.K.Sink.written c.args.out.now) (g.K.Sink.written c.write_and_print.new.out) (c.write_and_print.ensures.front_written e)
-
-pub returns-in-Err-TooMany-clause-ends : goal.returns-in-Err-TooMany-clause-ends
-returns-in-Err-TooMany-clause-ends g c a =
-    let e = c.fix.ensures.too_many _ (c.in-Err-TooMany.is ∙ ap (λ f. Err f) c.in-Err-TooMany.field-0-is) in rw c.in-Err-TooMany.field-0-is ((many_after g.W.Workspace.readings (g.W.Workspace.reader c.args.workspace.now) (g.W.Workspace.reader c.take_folder.new.workspace) c.in-Ok.ensures.same_reader (g.T.Tree.files c.args.tree.now) (g.T.Tree.files c.take_folder.new.tree) c.in-Ok.ensures.kept (task_of c.args.job.now) (g.W.Workspace.state c.args.workspace.now) (g.W.Workspace.state c.take_folder.new.workspace) c.requires.new c.in-Ok.ensures.takes c.in-Ok.ensures.decided c.in-Ok.ensures.most (g.W.Workspace.state c.fix.new.self).decided (gained (g.P.Patterns.refusals c.args.patterns.now) (g.P.Patterns.refusals c.fix.new.patterns)) (c.fix.ensures.refused (λ k. many_not_memory _ _ _ c.in-Err-TooMany.is c.in-Err-TooMany.field-0-is k)) _ e.0 e.1 (g.K.Sink.written c.args.out.now) c.args.steps.now c.fix.new.steps (g.P.Patterns.asked c.args.patterns.now) (g.P.Patterns.asked c.fix.new.patterns)
-    (scans_once g.W.Workspace.readings (g.W.Workspace.reader c.args.workspace.now) (g.W.Workspace.reader c.take_folder.new.workspace) c.in-Ok.ensures.same_reader (g.T.Tree.files c.args.tree.now) (g.T.Tree.files c.take_folder.new.tree) c.in-Ok.ensures.kept (task_of c.args.job.now) (g.W.Workspace.state c.args.workspace.now) (g.W.Workspace.state c.take_folder.new.workspace) c.requires.new c.in-Ok.ensures.takes c.in-Ok.ensures.decided c.in-Ok.ensures.most (g.W.Workspace.state c.fix.new.self).decided (gained (g.P.Patterns.refusals c.args.patterns.now) (g.P.Patterns.refusals c.fix.new.patterns)) (c.fix.ensures.refused (λ k. many_not_memory _ _ _ c.in-Err-TooMany.is c.in-Err-TooMany.field-0-is k)) (g.W.Workspace.seen c.take_folder.new.workspace) (g.W.Workspace.seen c.args.workspace.now) (g.W.Workspace.seen c.fix.new.self) c.requires.unseen c.in-Ok.ensures.unseen c.args.steps.now c.fix.new.steps (c.fix.ensures.work (λ k. many_not_memory _ _ _ c.in-Err-TooMany.is c.in-Err-TooMany.field-0-is k)))
-    (texts_once g.W.Workspace.readings (g.W.Workspace.reader c.args.workspace.now) (g.W.Workspace.reader c.take_folder.new.workspace) c.in-Ok.ensures.same_reader (g.T.Tree.files c.args.tree.now) (g.T.Tree.files c.take_folder.new.tree) c.in-Ok.ensures.kept (task_of c.args.job.now) (g.W.Workspace.state c.args.workspace.now) (g.W.Workspace.state c.take_folder.new.workspace) c.requires.new c.in-Ok.ensures.takes c.in-Ok.ensures.decided c.in-Ok.ensures.most (g.W.Workspace.state c.fix.new.self).decided (gained (g.P.Patterns.refusals c.args.patterns.now) (g.P.Patterns.refusals c.fix.new.patterns)) (c.fix.ensures.refused (λ k. many_not_memory _ _ _ c.in-Err-TooMany.is c.in-Err-TooMany.field-0-is k)) (g.P.Patterns.asked c.args.patterns.now) (g.P.Patterns.asked c.fix.new.patterns) (c.fix.ensures.settled (λ k. many_not_memory _ _ _ c.in-Err-TooMany.is c.in-Err-TooMany.field-0-is k)))).takes.prints)
-
-pub returns-in-Err-TooMany-clause-work : goal.returns-in-Err-TooMany-clause-work
-returns-in-Err-TooMany-clause-work g c a =
-    let e = c.fix.ensures.too_many _ (c.in-Err-TooMany.is ∙ ap (λ f. Err f) c.in-Err-TooMany.field-0-is) in rw c.in-Err-TooMany.field-0-is ((many_after g.W.Workspace.readings (g.W.Workspace.reader c.args.workspace.now) (g.W.Workspace.reader c.take_folder.new.workspace) c.in-Ok.ensures.same_reader (g.T.Tree.files c.args.tree.now) (g.T.Tree.files c.take_folder.new.tree) c.in-Ok.ensures.kept (task_of c.args.job.now) (g.W.Workspace.state c.args.workspace.now) (g.W.Workspace.state c.take_folder.new.workspace) c.requires.new c.in-Ok.ensures.takes c.in-Ok.ensures.decided c.in-Ok.ensures.most (g.W.Workspace.state c.fix.new.self).decided (gained (g.P.Patterns.refusals c.args.patterns.now) (g.P.Patterns.refusals c.fix.new.patterns)) (c.fix.ensures.refused (λ k. many_not_memory _ _ _ c.in-Err-TooMany.is c.in-Err-TooMany.field-0-is k)) _ e.0 e.1 (g.K.Sink.written c.args.out.now) c.args.steps.now c.fix.new.steps (g.P.Patterns.asked c.args.patterns.now) (g.P.Patterns.asked c.fix.new.patterns)
-    (scans_once g.W.Workspace.readings (g.W.Workspace.reader c.args.workspace.now) (g.W.Workspace.reader c.take_folder.new.workspace) c.in-Ok.ensures.same_reader (g.T.Tree.files c.args.tree.now) (g.T.Tree.files c.take_folder.new.tree) c.in-Ok.ensures.kept (task_of c.args.job.now) (g.W.Workspace.state c.args.workspace.now) (g.W.Workspace.state c.take_folder.new.workspace) c.requires.new c.in-Ok.ensures.takes c.in-Ok.ensures.decided c.in-Ok.ensures.most (g.W.Workspace.state c.fix.new.self).decided (gained (g.P.Patterns.refusals c.args.patterns.now) (g.P.Patterns.refusals c.fix.new.patterns)) (c.fix.ensures.refused (λ k. many_not_memory _ _ _ c.in-Err-TooMany.is c.in-Err-TooMany.field-0-is k)) (g.W.Workspace.seen c.take_folder.new.workspace) (g.W.Workspace.seen c.args.workspace.now) (g.W.Workspace.seen c.fix.new.self) c.requires.unseen c.in-Ok.ensures.unseen c.args.steps.now c.fix.new.steps (c.fix.ensures.work (λ k. many_not_memory _ _ _ c.in-Err-TooMany.is c.in-Err-TooMany.field-0-is k)))
-    (texts_once g.W.Workspace.readings (g.W.Workspace.reader c.args.workspace.now) (g.W.Workspace.reader c.take_folder.new.workspace) c.in-Ok.ensures.same_reader (g.T.Tree.files c.args.tree.now) (g.T.Tree.files c.take_folder.new.tree) c.in-Ok.ensures.kept (task_of c.args.job.now) (g.W.Workspace.state c.args.workspace.now) (g.W.Workspace.state c.take_folder.new.workspace) c.requires.new c.in-Ok.ensures.takes c.in-Ok.ensures.decided c.in-Ok.ensures.most (g.W.Workspace.state c.fix.new.self).decided (gained (g.P.Patterns.refusals c.args.patterns.now) (g.P.Patterns.refusals c.fix.new.patterns)) (c.fix.ensures.refused (λ k. many_not_memory _ _ _ c.in-Err-TooMany.is c.in-Err-TooMany.field-0-is k)) (g.P.Patterns.asked c.args.patterns.now) (g.P.Patterns.asked c.fix.new.patterns) (c.fix.ensures.settled (λ k. many_not_memory _ _ _ c.in-Err-TooMany.is c.in-Err-TooMany.field-0-is k)))).takes)
-
-pub returns-in-Err-TooMany-clause-asked : goal.returns-in-Err-TooMany-clause-asked
-returns-in-Err-TooMany-clause-asked g c a =
-    let e = c.fix.ensures.too_many _ (c.in-Err-TooMany.is ∙ ap (λ f. Err f) c.in-Err-TooMany.field-0-is) in rw c.in-Err-TooMany.field-0-is (asking _ _ _ _ _ _ _ _ _ (many_after g.W.Workspace.readings (g.W.Workspace.reader c.args.workspace.now) (g.W.Workspace.reader c.take_folder.new.workspace) c.in-Ok.ensures.same_reader (g.T.Tree.files c.args.tree.now) (g.T.Tree.files c.take_folder.new.tree) c.in-Ok.ensures.kept (task_of c.args.job.now) (g.W.Workspace.state c.args.workspace.now) (g.W.Workspace.state c.take_folder.new.workspace) c.requires.new c.in-Ok.ensures.takes c.in-Ok.ensures.decided c.in-Ok.ensures.most (g.W.Workspace.state c.fix.new.self).decided (gained (g.P.Patterns.refusals c.args.patterns.now) (g.P.Patterns.refusals c.fix.new.patterns)) (c.fix.ensures.refused (λ k. many_not_memory _ _ _ c.in-Err-TooMany.is c.in-Err-TooMany.field-0-is k)) _ e.0 e.1 (g.K.Sink.written c.args.out.now) c.args.steps.now c.fix.new.steps (g.P.Patterns.asked c.args.patterns.now) (g.P.Patterns.asked c.fix.new.patterns)
-    (scans_once g.W.Workspace.readings (g.W.Workspace.reader c.args.workspace.now) (g.W.Workspace.reader c.take_folder.new.workspace) c.in-Ok.ensures.same_reader (g.T.Tree.files c.args.tree.now) (g.T.Tree.files c.take_folder.new.tree) c.in-Ok.ensures.kept (task_of c.args.job.now) (g.W.Workspace.state c.args.workspace.now) (g.W.Workspace.state c.take_folder.new.workspace) c.requires.new c.in-Ok.ensures.takes c.in-Ok.ensures.decided c.in-Ok.ensures.most (g.W.Workspace.state c.fix.new.self).decided (gained (g.P.Patterns.refusals c.args.patterns.now) (g.P.Patterns.refusals c.fix.new.patterns)) (c.fix.ensures.refused (λ k. many_not_memory _ _ _ c.in-Err-TooMany.is c.in-Err-TooMany.field-0-is k)) (g.W.Workspace.seen c.take_folder.new.workspace) (g.W.Workspace.seen c.args.workspace.now) (g.W.Workspace.seen c.fix.new.self) c.requires.unseen c.in-Ok.ensures.unseen c.args.steps.now c.fix.new.steps (c.fix.ensures.work (λ k. many_not_memory _ _ _ c.in-Err-TooMany.is c.in-Err-TooMany.field-0-is k)))
-    (texts_once g.W.Workspace.readings (g.W.Workspace.reader c.args.workspace.now) (g.W.Workspace.reader c.take_folder.new.workspace) c.in-Ok.ensures.same_reader (g.T.Tree.files c.args.tree.now) (g.T.Tree.files c.take_folder.new.tree) c.in-Ok.ensures.kept (task_of c.args.job.now) (g.W.Workspace.state c.args.workspace.now) (g.W.Workspace.state c.take_folder.new.workspace) c.requires.new c.in-Ok.ensures.takes c.in-Ok.ensures.decided c.in-Ok.ensures.most (g.W.Workspace.state c.fix.new.self).decided (gained (g.P.Patterns.refusals c.args.patterns.now) (g.P.Patterns.refusals c.fix.new.patterns)) (c.fix.ensures.refused (λ k. many_not_memory _ _ _ c.in-Err-TooMany.is c.in-Err-TooMany.field-0-is k)) (g.P.Patterns.asked c.args.patterns.now) (g.P.Patterns.asked c.fix.new.patterns) (c.fix.ensures.settled (λ k. many_not_memory _ _ _ c.in-Err-TooMany.is c.in-Err-TooMany.field-0-is k)))))
-
-pub returns-in-Err-TooMany-clause-wrote : goal.returns-in-Err-TooMany-clause-wrote
-returns-in-Err-TooMany-clause-wrote g c a =
-    let e = c.fix.ensures.too_many _ (c.in-Err-TooMany.is ∙ ap (λ f. Err f) c.in-Err-TooMany.field-0-is) in rw c.in-Err-TooMany.field-0-is (many_wrote g.W.Workspace.readings (g.W.Workspace.reader c.args.workspace.now) (g.W.Workspace.reader c.take_folder.new.workspace) c.in-Ok.ensures.same_reader (g.T.Tree.files c.args.tree.now) (g.T.Tree.files c.take_folder.new.tree) c.in-Ok.ensures.kept (task_of c.args.job.now) (g.W.Workspace.state c.args.workspace.now) (g.W.Workspace.state c.take_folder.new.workspace) c.requires.new c.in-Ok.ensures.takes c.in-Ok.ensures.decided c.in-Ok.ensures.most (g.W.Workspace.state c.fix.new.self).decided (gained (g.P.Patterns.refusals c.args.patterns.now) (g.P.Patterns.refusals c.fix.new.patterns)) (c.fix.ensures.refused (λ k. many_not_memory _ _ _ c.in-Err-TooMany.is c.in-Err-TooMany.field-0-is k)) _ e.0 e.1)
-
-pub returns-in-Err-OverLimit-clause-ends : goal.returns-in-Err-OverLimit-clause-ends
-returns-in-Err-OverLimit-clause-ends g c a =
-    let e = c.fix.ensures.over _ _ (c.in-Err-OverLimit.is ∙ ap (λ f. Err f) c.in-Err-OverLimit.field-0-is) in rw c.in-Err-OverLimit.field-0-is ((over_after g.W.Workspace.readings (g.W.Workspace.reader c.args.workspace.now) (g.W.Workspace.reader c.take_folder.new.workspace) c.in-Ok.ensures.same_reader (g.T.Tree.files c.args.tree.now) (g.T.Tree.files c.take_folder.new.tree) c.in-Ok.ensures.kept (task_of c.args.job.now) (g.W.Workspace.state c.args.workspace.now) (g.W.Workspace.state c.take_folder.new.workspace) c.requires.new c.in-Ok.ensures.takes c.in-Ok.ensures.decided c.in-Ok.ensures.most (g.W.Workspace.state c.fix.new.self).decided (gained (g.P.Patterns.refusals c.args.patterns.now) (g.P.Patterns.refusals c.fix.new.patterns)) (c.fix.ensures.refused (λ k. over_not_memory _ _ _ _ c.in-Err-OverLimit.is c.in-Err-OverLimit.field-0-is k)) _ _ e (g.K.Sink.written c.args.out.now) c.args.steps.now c.fix.new.steps (g.P.Patterns.asked c.args.patterns.now) (g.P.Patterns.asked c.fix.new.patterns)
-    (scans_once g.W.Workspace.readings (g.W.Workspace.reader c.args.workspace.now) (g.W.Workspace.reader c.take_folder.new.workspace) c.in-Ok.ensures.same_reader (g.T.Tree.files c.args.tree.now) (g.T.Tree.files c.take_folder.new.tree) c.in-Ok.ensures.kept (task_of c.args.job.now) (g.W.Workspace.state c.args.workspace.now) (g.W.Workspace.state c.take_folder.new.workspace) c.requires.new c.in-Ok.ensures.takes c.in-Ok.ensures.decided c.in-Ok.ensures.most (g.W.Workspace.state c.fix.new.self).decided (gained (g.P.Patterns.refusals c.args.patterns.now) (g.P.Patterns.refusals c.fix.new.patterns)) (c.fix.ensures.refused (λ k. over_not_memory _ _ _ _ c.in-Err-OverLimit.is c.in-Err-OverLimit.field-0-is k)) (g.W.Workspace.seen c.take_folder.new.workspace) (g.W.Workspace.seen c.args.workspace.now) (g.W.Workspace.seen c.fix.new.self) c.requires.unseen c.in-Ok.ensures.unseen c.args.steps.now c.fix.new.steps (c.fix.ensures.work (λ k. over_not_memory _ _ _ _ c.in-Err-OverLimit.is c.in-Err-OverLimit.field-0-is k)))
-    (texts_once g.W.Workspace.readings (g.W.Workspace.reader c.args.workspace.now) (g.W.Workspace.reader c.take_folder.new.workspace) c.in-Ok.ensures.same_reader (g.T.Tree.files c.args.tree.now) (g.T.Tree.files c.take_folder.new.tree) c.in-Ok.ensures.kept (task_of c.args.job.now) (g.W.Workspace.state c.args.workspace.now) (g.W.Workspace.state c.take_folder.new.workspace) c.requires.new c.in-Ok.ensures.takes c.in-Ok.ensures.decided c.in-Ok.ensures.most (g.W.Workspace.state c.fix.new.self).decided (gained (g.P.Patterns.refusals c.args.patterns.now) (g.P.Patterns.refusals c.fix.new.patterns)) (c.fix.ensures.refused (λ k. over_not_memory _ _ _ _ c.in-Err-OverLimit.is c.in-Err-OverLimit.field-0-is k)) (g.P.Patterns.asked c.args.patterns.now) (g.P.Patterns.asked c.fix.new.patterns) (c.fix.ensures.settled (λ k. over_not_memory _ _ _ _ c.in-Err-OverLimit.is c.in-Err-OverLimit.field-0-is k)))).takes.prints)
-
-pub returns-in-Err-OverLimit-clause-work : goal.returns-in-Err-OverLimit-clause-work
-returns-in-Err-OverLimit-clause-work g c a =
-    let e = c.fix.ensures.over _ _ (c.in-Err-OverLimit.is ∙ ap (λ f. Err f) c.in-Err-OverLimit.field-0-is) in rw c.in-Err-OverLimit.field-0-is ((over_after g.W.Workspace.readings (g.W.Workspace.reader c.args.workspace.now) (g.W.Workspace.reader c.take_folder.new.workspace) c.in-Ok.ensures.same_reader (g.T.Tree.files c.args.tree.now) (g.T.Tree.files c.take_folder.new.tree) c.in-Ok.ensures.kept (task_of c.args.job.now) (g.W.Workspace.state c.args.workspace.now) (g.W.Workspace.state c.take_folder.new.workspace) c.requires.new c.in-Ok.ensures.takes c.in-Ok.ensures.decided c.in-Ok.ensures.most (g.W.Workspace.state c.fix.new.self).decided (gained (g.P.Patterns.refusals c.args.patterns.now) (g.P.Patterns.refusals c.fix.new.patterns)) (c.fix.ensures.refused (λ k. over_not_memory _ _ _ _ c.in-Err-OverLimit.is c.in-Err-OverLimit.field-0-is k)) _ _ e (g.K.Sink.written c.args.out.now) c.args.steps.now c.fix.new.steps (g.P.Patterns.asked c.args.patterns.now) (g.P.Patterns.asked c.fix.new.patterns)
-    (scans_once g.W.Workspace.readings (g.W.Workspace.reader c.args.workspace.now) (g.W.Workspace.reader c.take_folder.new.workspace) c.in-Ok.ensures.same_reader (g.T.Tree.files c.args.tree.now) (g.T.Tree.files c.take_folder.new.tree) c.in-Ok.ensures.kept (task_of c.args.job.now) (g.W.Workspace.state c.args.workspace.now) (g.W.Workspace.state c.take_folder.new.workspace) c.requires.new c.in-Ok.ensures.takes c.in-Ok.ensures.decided c.in-Ok.ensures.most (g.W.Workspace.state c.fix.new.self).decided (gained (g.P.Patterns.refusals c.args.patterns.now) (g.P.Patterns.refusals c.fix.new.patterns)) (c.fix.ensures.refused (λ k. over_not_memory _ _ _ _ c.in-Err-OverLimit.is c.in-Err-OverLimit.field-0-is k)) (g.W.Workspace.seen c.take_folder.new.workspace) (g.W.Workspace.seen c.args.workspace.now) (g.W.Workspace.seen c.fix.new.self) c.requires.unseen c.in-Ok.ensures.unseen c.args.steps.now c.fix.new.steps (c.fix.ensures.work (λ k. over_not_memory _ _ _ _ c.in-Err-OverLimit.is c.in-Err-OverLimit.field-0-is k)))
-    (texts_once g.W.Workspace.readings (g.W.Workspace.reader c.args.workspace.now) (g.W.Workspace.reader c.take_folder.new.workspace) c.in-Ok.ensures.same_reader (g.T.Tree.files c.args.tree.now) (g.T.Tree.files c.take_folder.new.tree) c.in-Ok.ensures.kept (task_of c.args.job.now) (g.W.Workspace.state c.args.workspace.now) (g.W.Workspace.state c.take_folder.new.workspace) c.requires.new c.in-Ok.ensures.takes c.in-Ok.ensures.decided c.in-Ok.ensures.most (g.W.Workspace.state c.fix.new.self).decided (gained (g.P.Patterns.refusals c.args.patterns.now) (g.P.Patterns.refusals c.fix.new.patterns)) (c.fix.ensures.refused (λ k. over_not_memory _ _ _ _ c.in-Err-OverLimit.is c.in-Err-OverLimit.field-0-is k)) (g.P.Patterns.asked c.args.patterns.now) (g.P.Patterns.asked c.fix.new.patterns) (c.fix.ensures.settled (λ k. over_not_memory _ _ _ _ c.in-Err-OverLimit.is c.in-Err-OverLimit.field-0-is k)))).takes)
-
-pub returns-in-Err-OverLimit-clause-asked : goal.returns-in-Err-OverLimit-clause-asked
-returns-in-Err-OverLimit-clause-asked g c a =
-    let e = c.fix.ensures.over _ _ (c.in-Err-OverLimit.is ∙ ap (λ f. Err f) c.in-Err-OverLimit.field-0-is) in rw c.in-Err-OverLimit.field-0-is (asking _ _ _ _ _ _ _ _ _ (over_after g.W.Workspace.readings (g.W.Workspace.reader c.args.workspace.now) (g.W.Workspace.reader c.take_folder.new.workspace) c.in-Ok.ensures.same_reader (g.T.Tree.files c.args.tree.now) (g.T.Tree.files c.take_folder.new.tree) c.in-Ok.ensures.kept (task_of c.args.job.now) (g.W.Workspace.state c.args.workspace.now) (g.W.Workspace.state c.take_folder.new.workspace) c.requires.new c.in-Ok.ensures.takes c.in-Ok.ensures.decided c.in-Ok.ensures.most (g.W.Workspace.state c.fix.new.self).decided (gained (g.P.Patterns.refusals c.args.patterns.now) (g.P.Patterns.refusals c.fix.new.patterns)) (c.fix.ensures.refused (λ k. over_not_memory _ _ _ _ c.in-Err-OverLimit.is c.in-Err-OverLimit.field-0-is k)) _ _ e (g.K.Sink.written c.args.out.now) c.args.steps.now c.fix.new.steps (g.P.Patterns.asked c.args.patterns.now) (g.P.Patterns.asked c.fix.new.patterns)
-    (scans_once g.W.Workspace.readings (g.W.Workspace.reader c.args.workspace.now) (g.W.Workspace.reader c.take_folder.new.workspace) c.in-Ok.ensures.same_reader (g.T.Tree.files c.args.tree.now) (g.T.Tree.files c.take_folder.new.tree) c.in-Ok.ensures.kept (task_of c.args.job.now) (g.W.Workspace.state c.args.workspace.now) (g.W.Workspace.state c.take_folder.new.workspace) c.requires.new c.in-Ok.ensures.takes c.in-Ok.ensures.decided c.in-Ok.ensures.most (g.W.Workspace.state c.fix.new.self).decided (gained (g.P.Patterns.refusals c.args.patterns.now) (g.P.Patterns.refusals c.fix.new.patterns)) (c.fix.ensures.refused (λ k. over_not_memory _ _ _ _ c.in-Err-OverLimit.is c.in-Err-OverLimit.field-0-is k)) (g.W.Workspace.seen c.take_folder.new.workspace) (g.W.Workspace.seen c.args.workspace.now) (g.W.Workspace.seen c.fix.new.self) c.requires.unseen c.in-Ok.ensures.unseen c.args.steps.now c.fix.new.steps (c.fix.ensures.work (λ k. over_not_memory _ _ _ _ c.in-Err-OverLimit.is c.in-Err-OverLimit.field-0-is k)))
-    (texts_once g.W.Workspace.readings (g.W.Workspace.reader c.args.workspace.now) (g.W.Workspace.reader c.take_folder.new.workspace) c.in-Ok.ensures.same_reader (g.T.Tree.files c.args.tree.now) (g.T.Tree.files c.take_folder.new.tree) c.in-Ok.ensures.kept (task_of c.args.job.now) (g.W.Workspace.state c.args.workspace.now) (g.W.Workspace.state c.take_folder.new.workspace) c.requires.new c.in-Ok.ensures.takes c.in-Ok.ensures.decided c.in-Ok.ensures.most (g.W.Workspace.state c.fix.new.self).decided (gained (g.P.Patterns.refusals c.args.patterns.now) (g.P.Patterns.refusals c.fix.new.patterns)) (c.fix.ensures.refused (λ k. over_not_memory _ _ _ _ c.in-Err-OverLimit.is c.in-Err-OverLimit.field-0-is k)) (g.P.Patterns.asked c.args.patterns.now) (g.P.Patterns.asked c.fix.new.patterns) (c.fix.ensures.settled (λ k. over_not_memory _ _ _ _ c.in-Err-OverLimit.is c.in-Err-OverLimit.field-0-is k)))))
-
-pub returns-in-Err-OverLimit-clause-wrote : goal.returns-in-Err-OverLimit-clause-wrote
-returns-in-Err-OverLimit-clause-wrote g c a =
-    let e = c.fix.ensures.over _ _ (c.in-Err-OverLimit.is ∙ ap (λ f. Err f) c.in-Err-OverLimit.field-0-is) in rw c.in-Err-OverLimit.field-0-is (over_wrote g.W.Workspace.readings (g.W.Workspace.reader c.args.workspace.now) (g.W.Workspace.reader c.take_folder.new.workspace) c.in-Ok.ensures.same_reader (g.T.Tree.files c.args.tree.now) (g.T.Tree.files c.take_folder.new.tree) c.in-Ok.ensures.kept (task_of c.args.job.now) (g.W.Workspace.state c.args.workspace.now) (g.W.Workspace.state c.take_folder.new.workspace) c.requires.new c.in-Ok.ensures.takes c.in-Ok.ensures.decided c.in-Ok.ensures.most (g.W.Workspace.state c.fix.new.self).decided (gained (g.P.Patterns.refusals c.args.patterns.now) (g.P.Patterns.refusals c.fix.new.patterns)) (c.fix.ensures.refused (λ k. over_not_memory _ _ _ _ c.in-Err-OverLimit.is c.in-Err-OverLimit.field-0-is k)) _ _ e)
-
-pub returns-in-Err-clause-only : goal.returns-in-Err-clause-only
-returns-in-Err-clause-only g c a told =
-    only_none (setting (g.W.Workspace.readings (g.W.Workspace.reader c.args.workspace.now)) (g.T.Tree.files c.args.tree.now) (g.W.Workspace.state c.args.workspace.now).most _) told (task_of c.args.job.now) (c.in-Err.ensures.once told a) (g.K.Sink.written c.args.out.now) c.in-Err.status (c.in-Err.ensures.none a)
-
-pub returns-in-Ok-fix-clause-only : goal.returns-in-Ok-fix-clause-only
-returns-in-Ok-fix-clause-only g c a told =
-    let rules = c.in-Ok.ensures.once told tt in
-    only_fix (setting (g.W.Workspace.readings (g.W.Workspace.reader c.args.workspace.now)) (g.T.Tree.files c.args.tree.now) (g.W.Workspace.state c.args.workspace.now).most (gained (g.P.Patterns.refusals c.args.patterns.now) (g.P.Patterns.refusals c.fix.new.patterns))) told (task_of c.args.job.now) rules (one_taken (setting (g.W.Workspace.readings (g.W.Workspace.reader c.args.workspace.now)) (g.T.Tree.files c.args.tree.now) (g.W.Workspace.state c.args.workspace.now).most (gained (g.P.Patterns.refusals c.args.patterns.now) (g.P.Patterns.refusals c.fix.new.patterns))) told (task_of c.args.job.now) rules (shelves_of (g.W.Workspace.state c.take_folder.new.workspace)) c.in-Ok.ensures.takes (rw c.in-Ok.ensures.same_reader at c.fix.ensures.one)) _ _ _
-    (returns-in-Ok-fix-clause-ends g c a)
-
-pub returns-in-Err-TooMany-clause-only : goal.returns-in-Err-TooMany-clause-only
-returns-in-Err-TooMany-clause-only g c a told =
-    let rules = c.in-Ok.ensures.once told tt in
-    only_fix (setting (g.W.Workspace.readings (g.W.Workspace.reader c.args.workspace.now)) (g.T.Tree.files c.args.tree.now) (g.W.Workspace.state c.args.workspace.now).most (gained (g.P.Patterns.refusals c.args.patterns.now) (g.P.Patterns.refusals c.fix.new.patterns))) told (task_of c.args.job.now) rules (one_taken (setting (g.W.Workspace.readings (g.W.Workspace.reader c.args.workspace.now)) (g.T.Tree.files c.args.tree.now) (g.W.Workspace.state c.args.workspace.now).most (gained (g.P.Patterns.refusals c.args.patterns.now) (g.P.Patterns.refusals c.fix.new.patterns))) told (task_of c.args.job.now) rules (shelves_of (g.W.Workspace.state c.take_folder.new.workspace)) c.in-Ok.ensures.takes (rw c.in-Ok.ensures.same_reader at c.fix.ensures.one)) _ _ _
-    (returns-in-Err-TooMany-clause-ends g c a)
-
-pub returns-in-Err-OverLimit-clause-only : goal.returns-in-Err-OverLimit-clause-only
-returns-in-Err-OverLimit-clause-only g c a told =
-    let rules = c.in-Ok.ensures.once told tt in
-    only_fix (setting (g.W.Workspace.readings (g.W.Workspace.reader c.args.workspace.now)) (g.T.Tree.files c.args.tree.now) (g.W.Workspace.state c.args.workspace.now).most (gained (g.P.Patterns.refusals c.args.patterns.now) (g.P.Patterns.refusals c.fix.new.patterns))) told (task_of c.args.job.now) rules (one_taken (setting (g.W.Workspace.readings (g.W.Workspace.reader c.args.workspace.now)) (g.T.Tree.files c.args.tree.now) (g.W.Workspace.state c.args.workspace.now).most (gained (g.P.Patterns.refusals c.args.patterns.now) (g.P.Patterns.refusals c.fix.new.patterns))) told (task_of c.args.job.now) rules (shelves_of (g.W.Workspace.state c.take_folder.new.workspace)) c.in-Ok.ensures.takes (rw c.in-Ok.ensures.same_reader at c.fix.ensures.one)) _ _ _
-    (returns-in-Err-OverLimit-clause-ends g c a)
+pub returns-clause-front_written : goal.returns-clause-front_written
+returns-clause-front_written g c = rw c.new-rules.ensures.reader at c.fix_taken.ensures.front_written

@@ -9,6 +9,7 @@ use Rattle.kept_leaves.specs.Kept.{map_of}
 use Rattle.packed_view.specs.Opened.{HasText}
 use Rattle.file_results.specs.Shown.{lang_at}
 use Rattle.file_results.proofs.OneFile.{opened_as, only_as}
+use Rattle.seen_files.specs.Findings.{seen_of}
 use Rattle.seen_files.specs.Needs.{IsNeededAt}
 use Rattle.seen_files.specs.Seen.{file_of}
 use Rattle.seen_files.proofs.Found.{opened_so, opened_bare, opened_text}
@@ -21,7 +22,7 @@ find-requires g c =
     subst T same (opened_text (g.R.TreeReader.spells c.args.reader.now) c.unwrap_or-lang.result c.in_ok-own.own c.in_ok-opened.opened c.in_ok-opened.ensures.opened)
 
 pub returns-clause-file : goal.returns-clause-file
-returns-clause-file g c = let P : List ℕ → Type 0 = λ b. IfOk c.find.result (λ s. file_of s ≡ (c.args.path.now, b)) in subst P c.in_ok-shared.ensures.cases c.find.ensures.file
+returns-clause-file g c = let P : List ℕ → Type 0 = λ b. IfOk c.find.result (λ f. file_of (seen_of f) ≡ (c.args.path.now, b)) in subst P c.in_ok-shared.ensures.cases c.find.ensures.file
 
 pub returns-clause-seen : goal.returns-clause-seen
 returns-clause-seen g c apart =
@@ -38,5 +39,5 @@ returns-clause-seen g c apart =
 
 pub returns-clause-kept : goal.returns-clause-kept
 returns-clause-kept g c =
-    let P : ℕ → Type 0 = λ n. IfOk c.find.result (λ s. Meets (IsNeededAt c.args.running.now s) (map_of c.args.kept.now) n (map_of c.find.new.kept) c.find.new.steps) in
+    let P : ℕ → Type 0 = λ n. IfOk c.find.result (λ f. Meets (IsNeededAt c.args.running.now (seen_of f)) (map_of c.args.kept.now) n (map_of c.find.new.kept) c.find.new.steps) in
     subst P c.in_ok-opened.ensures.one_step c.find.ensures.kept

@@ -13,12 +13,12 @@ use Rattle.seen_files.proofs.Walking.{opened_again, looked_again, stays_seen}
 use Rattle.seen_files.proofs.walk.see_again.Goals as goal
 
 pub returns-then-not-has_bytes-clause-seen : goal.returns-then-not-has_bytes-clause-seen
-returns-then-not-has_bytes-clause-seen g c before same apart seen = c.find_anew.ensures.seen apart
+returns-then-not-has_bytes-clause-seen g c before same apart seen = c.see_anew.ensures.seen apart
 
 pub returns-then-not-has_bytes-clause-kept : goal.returns-then-not-has_bytes-clause-kept
 returns-then-not-has_bytes-clause-kept g c before same needed =
-    opened_again c.args.running.now before c.args.was c.args.path.now c.args.bytes.now.value (map_of c.args.kept.now) c.args.steps.now c.find_anew.result (map_of c.find_anew.new.kept) c.find_anew.new.steps
-    (sym c.has_bytes.ensures ∙ c.if-not-has_bytes.true) c.find_anew.ensures.kept
+    opened_again c.args.running.now before c.args.was c.args.path.now c.args.bytes.now.value (map_of c.args.kept.now) c.args.steps.now c.see_anew.result (map_of c.see_anew.new.kept) c.see_anew.new.steps
+    (sym c.has_bytes.ensures ∙ c.if-not-has_bytes.true) c.see_anew.ensures.kept
 
 pub returns-then-same_rules-clause-file : goal.returns-then-same_rules-clause-file
 returns-then-same_rules-clause-file g c =
@@ -37,14 +37,14 @@ returns-then-same_rules-clause-kept g c before same needed =
     stays_seen c.args.running.now before c.args.was c.args.path.now c.args.bytes.now.value (map_of c.args.kept.now) c.args.steps.now (map_of c.keep_path.new.self) (sym c.has_bytes.ensures ∙ c.if-not-has_bytes.false)
     (same c.if-same_rules.true) needed c.keep_path.ensures
 
-pub find-requires : goal.find-requires
-find-requires g c = let T : Opened → Type 0 = HasText c.args.was.bytes.value in subst T (sym c.in_ok-opened.ensures) c.args.was.text
+pub see_opened-requires : goal.see_opened-requires
+see_opened-requires g c = let T : Opened → Type 0 = HasText c.args.was.bytes.value in subst T (sym c.in_ok-opened.ensures) c.args.was.text
 
 pub returns-clause-file : goal.returns-clause-file
 returns-clause-file g c =
     let same : c.args.was.bytes.value ≡ c.args.bytes.now.value = (bytes_eq-Decides c.args.was.bytes.value c.args.bytes.now.value).0 (sym c.has_bytes.ensures ∙ c.if-not-has_bytes.false) in
-    let P : List ℕ → Type 0 = λ b. IfOk c.find.result (λ s. file_of s ≡ (c.args.path.now, b)) in
-    subst P same c.find.ensures.file
+    let P : List ℕ → Type 0 = λ b. IfOk c.see_opened.result (λ s. file_of s ≡ (c.args.path.now, b)) in
+    subst P same c.see_opened.ensures.file
 
 pub returns-clause-seen : goal.returns-clause-seen
 returns-clause-seen g c before same apart seen =
@@ -54,9 +54,9 @@ returns-clause-seen g c before same apart seen =
     let S : Opened → Type 0 = IsOpenedSo spells (c.args.path.now, c.args.was.bytes.value) in
     let N : Opened → Type 0 = HasOwnNames (g.R.TreeReader.knows c.args.reader.now) in
     let unpacked = sym c.in_ok-opened.ensures in
-    c.find.ensures.seen (subst S unpacked (subst P c.requires seen.opened)) (subst N unpacked (seen_own grammars before c.args.was seen)) apart
+    c.see_opened.ensures.seen (subst S unpacked (subst P c.requires seen.opened)) (subst N unpacked (seen_own grammars before c.args.was seen)) apart
 
 pub returns-clause-kept : goal.returns-clause-kept
 returns-clause-kept g c before same needed =
-    looked_again c.args.running.now before c.args.was c.args.path.now c.args.bytes.now.value (map_of c.args.kept.now) c.args.steps.now c.find.result (map_of c.find.new.kept) c.find.new.steps
-    (sym c.has_bytes.ensures ∙ c.if-not-has_bytes.false) c.find.ensures.kept
+    looked_again c.args.running.now before c.args.was c.args.path.now c.args.bytes.now.value (map_of c.args.kept.now) c.args.steps.now c.see_opened.result (map_of c.see_opened.new.kept) c.see_opened.new.steps
+    (sym c.has_bytes.ensures ∙ c.if-not-has_bytes.false) c.see_opened.ensures.kept

@@ -11,12 +11,12 @@ use Rattle.seen_files.specs.Walk.{openings}
 use Rattle.seen_files.proofs.walk.see_file.Goals as goal
 
 pub returns-in-None-clause-seen : goal.returns-in-None-clause-seen
-returns-in-None-clause-seen g c before same apart seen = c.find_anew.ensures.seen apart
+returns-in-None-clause-seen g c before same apart seen = c.see_anew.ensures.seen apart
 
 pub returns-in-None-clause-kept : goal.returns-in-None-clause-kept
 returns-in-None-clause-kept g c before same needed =
-    let P : Option SeenFile → Type 0 = λ o. IfOk c.find_anew.result (λ s. Meets (IsNeededAt c.args.running.now s) (map_of c.args.kept.now) (c.args.steps.now + openings o c.args.bytes.now.value) (map_of c.find_anew.new.kept) c.find_anew.new.steps) in
-    subst P (sym c.in-None.is) c.find_anew.ensures.kept
+    let P : Option SeenFile → Type 0 = λ o. IfOk c.see_anew.result (λ s. Meets (IsNeededAt c.args.running.now s) (map_of c.args.kept.now) (c.args.steps.now + openings o c.args.bytes.now.value) (map_of c.see_anew.new.kept) c.see_anew.new.steps) in
+    subst P (sym c.in-None.is) c.see_anew.ensures.kept
 
 pub see_again-requires : goal.see_again-requires
 see_again-requires g c = let P : Option SeenFile → Type 0 = λ o. IfSome o (λ s. s.path ≡ c.args.path.now) in subst P c.in-Some.is c.requires
