@@ -10,6 +10,7 @@ pub mod Idle
 pub mod KnownNames
 pub mod Lowest
 pub mod NameCounts
+pub mod NamesOnce
 pub mod PointCounts
 pub mod Reaching
 pub mod Routes

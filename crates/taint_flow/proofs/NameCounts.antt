@@ -164,7 +164,7 @@ module _ (P : Node → Type 0) (root : Node) (at : ℕ) (f : Option Numbered →
 -- ---- names
 
 -- a node in the tree is a name with that text
-record Writes (n : Node) (name : List ℕ) : Type 0 where
+pub record Writes (n : Node) (name : List ℕ) : Type 0 where
   pub word : Node
   pub within : Among (pre_of n) word
   pub is : names_at word ≡ 1
@@ -334,7 +334,7 @@ module _ (root : Node) where
   parameters_write (s ∷ ss) all name (inl e) = let r = all s (inl refl) in record { word = s.node; within = r.0; is = one_id (kind_of s.node) r.1; text = e }
   parameters_write (s ∷ ss) all name (inr more) = parameters_write ss (λ t there. all t (inr there)) name more
 
-  unit_writes : (unit : ℕ) (name : List ℕ) → Among (names_of root unit) name → Writes root name
+  pub unit_writes : (unit : ℕ) (name : List ℕ) → Among (names_of root unit) name → Writes root name
   unit_writes unit name among =
       elim ((among_app (flat_map (point_names (pre_of root)) (points_of root unit)) (map (λ (s : Numbered). text_of s.node) (parameters_of (pre_of root) unit)) name).0 among) [
         | inl point ↦ let (p, there, is) = (among_flat (point_names (pre_of root)) (points_of root unit) name).0 point in point_writes p name is

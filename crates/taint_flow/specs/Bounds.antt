@@ -1,5 +1,5 @@
 -- How many points and names the units of a tree have at most, by the kinds of its nodes.
-use Rattle.std.specs.Prelude.{◌≡◌, ◌≤◌, ◌+◌, ℕ, if◌then◌else◌, List}
+use Rattle.std.specs.Prelude.{◌≡◌, ◌≤◌, ◌+◌, ℕ, if◌then◌else◌, List, [], ◌∷◌}
 use Rattle.std.specs.List.{sum_by}
 use Rattle.std.specs.Set.{distinct_count}
 use Rattle.std.specs.Str.{bytes_eq}
@@ -7,7 +7,8 @@ use Rattle.node_tree.specs.declared.kind.Kind.{Kind}
 use Rattle.node_tree.specs.declared.kind.Kind.TheVariants as kinds
 use Rattle.node_tree.specs.declared.node.Node.{Node}
 use Rattle.node_tree.specs.Kinds.{is_statement}
-use Rattle.node_tree.specs.Tree.{kind_of}
+use Rattle.node_tree.specs.Tree.{kind_of, text_of}
+use Rattle.unit_names.specs.Words.{Word, name_word}
 use Rattle.flow_graph.specs.Units.{points_of}
 use Rattle.taint_flow.specs.declared.sizes.Bounds.{Bounds}
 use Rattle.taint_flow.specs.Sizes.{same_point, names_of}
@@ -29,6 +30,15 @@ points_at n = own_points (kind_of n)
 
 abbrev pub names_at : Node → ℕ
 names_at n = own_names (kind_of n)
+
+-- the name that a node of that kind and text is, if it is one
+abbrev pub words_by : Kind → List ℕ → List Word
+words_by kinds.Name text = name_word text ∷ []
+words_by kinds.Id text = name_word text ∷ []
+words_by _ text = []
+
+abbrev pub words_at : Node → List Word
+words_at n = words_by (kind_of n) (text_of n)
 
 -- how many points these nodes have, and how many of them are names
 pub record AreCounted (nodes : List Node) (bounds : Bounds) : Type 0 where

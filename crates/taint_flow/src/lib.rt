@@ -2,6 +2,7 @@
 #![tactic(auto)]
 
 mod apart;
+mod different;
 mod fault;
 mod find;
 mod hit;
@@ -19,7 +20,7 @@ pub use fault::TaintFault;
 pub use find::{taint, taint_in};
 pub use hit::TaintHit;
 pub use moves::UnitMoves;
-pub use sizes::{Bounds, is_idle};
+pub use sizes::{Bounds, is_idle, lacks_one};
 pub use tables::SetTables;
 pub use taint_plan::Goal;
 pub use taint_tables::{Carry, TaintSets};

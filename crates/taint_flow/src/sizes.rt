@@ -1,13 +1,15 @@
 //! How large units are, and how large they can be at most by the kinds of the nodes of a tree.
 
-ghost use Rattle.std.specs.Prelude.{◌≡◌, ◌<◌, ◌+◌, ◌*◌, ◌↔◌, IsTrue, [], IfSome};
+ghost use Rattle.std.specs.Prelude.{◌≡◌, ◌<◌, ◌+◌, ◌*◌, ◌↔◌, IsTrue, [], IfOk, IfSome};
 ghost use Rattle.node_tree.specs.declared.node.Node.{Node as a_node};
 ghost use Rattle.node_tree.specs.Tree.{pre_of};
 ghost use Rattle.taint_flow.specs.Bounds.{AreBounds, AreCounted, own_points as points_spec, own_names as names_spec};
 ghost use Rattle.taint_flow.specs.Sizes.{NoneLarge};
 ghost use Rattle.taint_flow.specs.Taint.{AreHits};
 
-use node_tree::{Kind, Node};
+use crate::different::count_names;
+use node_tree::{Kind, Memory, Node};
+use std::alloc::Global;
 use taint_tables::TaintSets;
 
 // The most points times facts of a unit.
@@ -29,8 +31,8 @@ pub fn is_large(points: usize, names: usize, sources: usize) -> bool
     points * (pairs + 1) > MOST
 }
 
-/// How many points the nodes of a tree have, and how many of them are names. No unit of the tree has more names, or more points
-/// beside its entry and its exit.
+/// How many points the nodes of a tree have, and how many of them are names, or how many different names they are. No unit of the
+/// tree has more names, or more points beside its entry and its exit.
 #[derive(Clone, Copy)]
 pub struct Bounds {
     points: u32,
@@ -80,6 +82,24 @@ impl Bounds {
     {
         counted(root)
     }
+
+    /// The same with the number of different names, of which a large tree has far fewer.
+    pub fn closer(self, alloc: Global, root: &Node) -> Result<Bounds, Memory>
+        requires { AreBounds root.now self }
+        ensures { IfOk result (AreBounds root.now) }
+    {
+        Ok(Bounds {
+            points: self.points,
+            names: count_names(alloc, root)?,
+        })
+    }
+}
+
+/// Whether there are no sources or no sinks.
+pub fn lacks_one(sets: &TaintSets) -> bool
+    ensures { (root : a_node) → IsTrue result → AreHits root sets.now [] }
+{
+    sets.sources.len() == 0 || sets.sinks.len() == 0
 }
 
 /// Whether there is nothing to follow: no sources or no sinks, in a tree with these bounds, if any, by which no unit is too large.
@@ -88,12 +108,14 @@ pub fn is_idle(bounds: Option<Bounds>, sets: &TaintSets) -> bool
     ensures fits { (root : a_node) → IfSome bounds (AreBounds root) → IsTrue result →
         NoneLarge root sets.now }
 {
-    let sources = sets.sources.len();
-    if sources > 0 && sets.sinks.len() > 0 {
+    if !lacks_one(sets) {
         return false;
     }
     match bounds {
-        Some(most) => !is_large(most.points as usize + 2, most.names as usize, sources),
+        Some(most) => {
+            let sources = sets.sources.len();
+            !is_large(most.points as usize + 2, most.names as usize, sources)
+        }
         None => false,
     }
 }

@@ -12,7 +12,8 @@ pub record IsFlowOf (root : Node) (nodes : List Node) (units : List Scope) : Typ
   pub nodes_are : nodes ≡ pre_of root
   pub units_are : AreScopes root units
 
--- no unit of the tree is larger than the bounds say, if there are any, and what was made is of the tree
-pub record IsShared (root : Node) (bounds : Option Bounds) (made : Option Node) : Type 0 where
+-- no unit of the tree is larger than the bounds say, and the closer ones, if there are any, and what was made is of the tree
+pub record IsShared (root : Node) (bounds closer : Option Bounds) (made : Option Node) : Type 0 where
   pub bounds_are : IfSome bounds (AreBounds root)
+  pub closer_are : IfSome closer (AreBounds root)
   pub made_is : IfSome made (λ tree. tree ≡ root)

@@ -1,16 +1,16 @@
 //! Trees in which many rules follow data.
 
-ghost use Rattle.std.specs.Prelude.{◌≡◌, ℕ, IfOk, IfSome, Err};
+ghost use Rattle.std.specs.Prelude.{◌≡◌, ℕ, [], IfOk, IfSome, IsTrue, Err};
 ghost use Rattle.taint_flow.specs.declared.fault.TaintFault.TheVariants.{TooLarge};
 ghost use Rattle.taint_flow.specs.Bounds.{AreBounds};
 ghost use Rattle.taint_flow.specs.Taint.{AreHits};
 ghost use Rattle.taint_flow.specs.Sizes.{NoneLarge, FirstLarge};
 
 use crate::flow_tree::FlowTree;
-use node_tree::{List, Node};
+use node_tree::{List, Memory, Node};
 use std::alloc::Global;
 use std::marker::Model;
-use taint_flow::{Bounds, TaintFault, TaintHit, TaintSets, is_idle};
+use taint_flow::{Bounds, TaintFault, TaintHit, TaintSets, is_idle, lacks_one};
 
 /// A tree in which many rules follow data. What that takes is made for the first rule that needs it, and kept. Contracts see the
 /// tree.
@@ -18,6 +18,7 @@ use taint_flow::{Bounds, TaintFault, TaintHit, TaintSets, is_idle};
 pub struct SharedFlow<'t> {
     root: &'t Node,
     bounds: Option<Bounds>,
+    closer: Option<Bounds>,
     made: Option<FlowTree<'t>>,
 }
 
@@ -33,7 +34,7 @@ impl<'t> Model for SharedFlow<'t> {
 
     ghost view = { λ f. f.root.now };
 
-    ghost invariant = { λ f. IsShared f.root.now f.bounds f.made };
+    ghost invariant = { λ f. IsShared f.root.now f.bounds f.closer f.made };
 }
 
 // The bounds of the tree, which are counted once.
@@ -46,6 +47,26 @@ fn bounds_of(root: &Node, counted: &mut Option<Bounds>) -> Option<Bounds>
         *counted = Bounds::of(root);
     }
     *counted
+}
+
+// Closer bounds of the tree, if it has these, which are counted once.
+fn closer_of(
+    alloc: Global,
+    root: &Node,
+    bounds: Option<Bounds>,
+    counted: &mut Option<Bounds>,
+) -> Result<Option<Bounds>, Memory>
+    requires bounds { IfSome bounds (AreBounds root.now) }
+    requires counted { IfSome counted.old (AreBounds root.now) }
+    ensures bounds { IfOk result (λ closer. IfSome closer (AreBounds root.now)) }
+    ensures counted { IfSome counted.new (AreBounds root.now) }
+{
+    if counted.is_none() {
+        if let Some(most) = bounds {
+            *counted = Some(most.closer(alloc, root)?);
+        }
+    }
+    Ok(*counted)
 }
 
 // The sinks that are hit, each with the least source that hits it, by what was made for the tree, or else by what is made here
@@ -79,6 +100,7 @@ impl<'t> SharedFlow<'t> {
         SharedFlow {
             root,
             bounds: None,
+            closer: None,
             made: None,
         }
     }
@@ -93,6 +115,23 @@ impl<'t> SharedFlow<'t> {
         }
     }
 
+    // Whether nothing is hit, and no unit is too large, as the bounds tell, or else the closer ones.
+    fn is_idle(&mut self, alloc: Global, sets: &TaintSets) -> Result<bool, Memory>
+        ensures hits { IfOk result (λ idle. IsTrue idle → AreHits self.old sets.now []) }
+        ensures fits { IfOk result (λ idle. IsTrue idle → NoneLarge self.old sets.now) }
+        ensures kept { self.new ≡ self.old }
+    {
+        let bounds = bounds_of(self.root, &mut self.bounds);
+        if is_idle(bounds, sets) {
+            return Ok(true);
+        }
+        if !lacks_one(sets) {
+            return Ok(false);
+        }
+        let closer = closer_of(alloc, self.root, bounds, &mut self.closer)?;
+        Ok(is_idle(closer, sets))
+    }
+
     /// The sinks that are hit, each with the least source that hits it.
     pub fn hits(&mut self, alloc: Global, sets: &TaintSets) -> Result<List<TaintHit>, TaintFault>
         ensures hits { IfOk result (AreHits self.old sets.now) }
@@ -100,8 +139,7 @@ impl<'t> SharedFlow<'t> {
         ensures large { (at : ℕ) → result ≡ Err (TooLarge at) → FirstLarge self.old sets.now at }
         ensures kept { self.new ≡ self.old }
     {
-        let bounds = bounds_of(self.root, &mut self.bounds);
-        if is_idle(bounds, sets) {
+        if self.is_idle(alloc, sets)? {
             return Ok(List::new(alloc));
         }
         hits_by(alloc, self.root, &mut self.made, sets)

@@ -1,22 +1,10 @@
-use Rattle.std.proofs.Common.{List, sym, subst}
+use Rattle.std.proofs.Common.{◌∙◌, subst}
 use Rattle.std.specs.Prelude.{IfOk}
 use Rattle.node_tree.specs.declared.node.Node.{Node}
-use Rattle.taint_flow.specs.declared.hit.TaintHit.{TaintHit}
 use Rattle.taint_flow.specs.Sizes.{NoneLarge}
-use Rattle.taint_flow.specs.Taint.{AreHits}
 use Rattle.taint_judge.proofs.shared_flow.SharedFlow.hits.Goals as goal
-
-pub returns-then-is_idle-clause-hits : goal.returns-then-is_idle-clause-hits
-returns-then-is_idle-clause-hits c =
-    let P : List TaintHit → Type 0 = AreHits c.args.self.now c.args.sets.now in
-    subst P (sym c.new.ensures) (c.is_idle.ensures.hits c.args.self.now c.if-is_idle.true)
-
-pub returns-then-is_idle-clause-fits : goal.returns-then-is_idle-clause-fits
-returns-then-is_idle-clause-fits c =
-    let P : Node → Type 0 = λ root. NoneLarge root c.args.sets.now in
-    subst P c.self.view_is (c.is_idle.ensures.fits c.self.inside.root.now c.bounds_of-bounds.ensures.bounds c.if-is_idle.true)
 
 pub returns-clause-fits : goal.returns-clause-fits
 returns-clause-fits c =
     let P : Node → Type 0 = λ root. IfOk c.hits_by.result (λ _. NoneLarge root c.args.sets.now) in
-    subst P c.self.view_is c.hits_by.ensures.fits
+    subst P (c.self.view_is ∙ c.is_idle.ensures.kept) c.hits_by.ensures.fits
