@@ -5,19 +5,27 @@ import subprocess
 
 from .support import TOP, InFolder, get, put
 
-# A kit that proves all, and then makes the program, or fails to.
-PROVES = '#!/bin/sh\n[ "$1" = all ] && exit 0\nprintf \'#!/bin/sh\\necho "ran: $*"\\nexit 5\\n\' > out/semscan\nchmod +x out/semscan\n'
+# A kit that makes the program, unless it is given more than the program needs, and one that fails.
+PROVES = '''#!/bin/sh
+[ "$*" = ci ] && [ -e crates/low/src/lib.rt ] || exit 3
+[ -e crates/beside ] || [ -e crates/low/must-fail ] || [ -e crates/low/out ] && exit 3
+mkdir crates/semscan/out
+printf '#!/bin/sh\\necho "ran: $*"\\nexit 5\\n' > crates/semscan/out/semscan
+chmod +x crates/semscan/out/semscan
+'''
 FAILS = '#!/bin/sh\necho "said by rt $1"\nexit 3\n'
 
 
 class Build(InFolder):
-    """A copy of the script in a folder of its own, with a kit that proves nothing."""
+    """A copy of the script in a folder of its own, with crates of which the program needs one, and a kit that proves nothing."""
 
     def setUp(self):
         super().setUp()
         self.top = os.path.join(os.path.dirname(os.path.realpath(self.folder)), 'top')
-        put(self.top, 'crates.txt', 'semscan:\n')
-        os.makedirs(os.path.join(self.top, 'crates/semscan/out'))
+        put(self.top, 'crates.txt', 'low:\nbeside: low\nsemscan backend=rattle: low\n')
+        put(self.top, 'HANDLES', 'Handles allowed: none.\n')
+        for path in ('low/src/lib.rt', 'low/must-fail/wrong.edit', 'low/out/old', 'beside/src/lib.rt', 'semscan/src/main.rt'):
+            put(self.top, 'crates/' + path, '')
         shutil.copy(os.path.join(TOP, 'semscan'), self.top)
 
     def script(self, kit):
@@ -36,8 +44,8 @@ class Build(InFolder):
         for _ in range(2):
             status, printed, said = self.script(FAILS)
             self.assertEqual((status, printed), (70, b''), said)
-            self.assertRegex(said, rb'\nsaid by rt all\nsaid by rt run\nsemscan: the program was not built; all that was said stands in \S+\n$')
-            self.assertEqual(get(self.folder, said.split()[-1].decode()), b'said by rt all\nsaid by rt run\n')
+            self.assertRegex(said, rb'\nsaid by rt ci\nsemscan: the program was not built; all that was said stands in \S+\n$')
+            self.assertEqual(get(self.folder, said.split()[-1].decode()), b'said by rt ci\n')
 
     def test_a_build_that_does_not(self):
         """The status is that of the program then, which isn't built again."""
