@@ -1,5 +1,5 @@
--- Fixing a told folder ends in one way, where there is one way to read its rules.
-use Rattle.std.proofs.Common.{◌≡◌, ℕ, List, [], ◌∷◌, refl, sym, ap, ◌∙◌, subst}
+-- Scanning and fixing a told folder end in one way, where there is one way to read its rules.
+use Rattle.std.proofs.Common.{◌≡◌, ℕ, Bool, List, [], ◌∷◌, refl, sym, ap, ◌∙◌, subst}
 use Rattle.std.specs.Prelude.{Option, None, IsSome}
 use Rattle.std.specs.List.{concat}
 use Rattle.std.specs.Io.KnownBytes.{Appends}
@@ -16,12 +16,17 @@ use Rattle.stream_run.specs.Reports.{AreReadOnce}
 use Rattle.stream_run.specs.declared.reply.Reply.{Reply}
 use Rattle.stream_run.specs.declared.reply.Reply.TheVariants as replies
 use Rattle.stream_run.specs.Printed.{lines_of}
-use Rattle.stream_run.specs.Doing.{Setting, Shelves, Does, fix, fix_many, Passes, fix_over}
+use Rattle.stream_run.specs.Doing.{Setting, Shelves, Does, scan, scan_many, fix, fix_many, Passes, fix_over}
 use Rattle.stream_run.proofs.Synced.{syncs_once, sync_ends_once, fronts_once, front_or_none}
 use Rattle.stream_run.proofs.Settled.{Limit, limit, does_once, passes_once, apart, one_limit, none_or_some}
 use Rattle.folder_run.specs.Taking.{TakesNone, no_config, rules_over, files_over, RulesEndOnce}
-use Rattle.folder_run.specs.Ends.{TakesFor, FixEnds, none, too_many, over, fixed, FixPrints}
+use Rattle.folder_run.specs.Ends.{TakesFor, ScanEnds, FixEnds, none, too_many, reported, over, fixed, FixPrints, status_of}
 use Rattle.folder_run.proofs.Fixes.{nothing_written}
+
+-- the status of a scan that comes to this
+abbrev status_by : Bool → Reply → Status
+status_by flag (replies.Reported report) = status_of flag report.results
+status_by flag _ = statuses.Done
 
 module _ (s : Setting) (told : IsSome s.told) (task : Task) (rules_once : RulesEndOnce s.readings s.told task.config) where
   -- nothing is taken, and the run ends so
@@ -73,12 +78,38 @@ module _ (s : Setting) (told : IsSome s.told) (task : Task) (rules_once : RulesE
   pub one_taken : (x : Shelves) → TakesFor s task x → AreReadOnce s.readings.writes x.rules → (y : Shelves) → TakesFor s task y → AreReadOnce s.readings.writes y.rules
   one_taken x t once y u = subst (λ (z : Shelves). AreReadOnce s.readings.writes z.rules) (sym (takes_once x y t u)) once
 
-  -- ---- how fixing ends
+  -- ---- how a scan and fixing end
 
   module _ (read_once : (x : Shelves) → TakesFor s task x → AreReadOnce s.readings.writes x.rules) where
     -- a fix of what was taken does one thing, or passes one limit
     did_once : (x y a b : Shelves) (p q : Reply) → TakesFor s task x → TakesFor s task y → Does s x wires.Fix a p → Does s y wires.Fix b q → q ≡ p
     did_once x y a b p q t u h k = (does_once s x wires.Fix (λ _. told) (read_once x t) a b p q h (subst (λ (z : Shelves). Does s z wires.Fix b q) (takes_once x y t u) k)).1
+
+    -- and so does a scan
+    scanned_once : (x y a b : Shelves) (p q : Reply) → TakesFor s task x → TakesFor s task y → Does s x wires.Scan a p → Does s y wires.Scan b q → q ≡ p
+    scanned_once x y a b p q t u h k = (does_once s x wires.Scan (λ _. told) (read_once x t) a b p q h (subst (λ (z : Shelves). Does s z wires.Scan b q) (takes_once x y t u) k)).1
+
+    scans_once : (st other : Status) (ls os : List (List ℕ)) → ScanEnds s task st ls → ScanEnds s task other os → (other ≡ st) × (os ≡ ls)
+    scans_once _ _ _ _ (none st t) (none other u) = (none_once st other t u, refl)
+    scans_once _ _ _ _ (none st t) (too_many y u more) = absurd (none_or_takes st t y u)
+    scans_once _ _ _ _ (none st t) (reported y r u is few) = absurd (none_or_takes st t y u)
+    scans_once _ _ _ _ (too_many x t more) (none other u) = absurd (none_or_takes other u x t)
+    scans_once _ _ _ _ (too_many x t more) (too_many y u more') = (refl, refl)
+    scans_once _ _ _ _ (too_many x t more) (reported y r u is few) =
+        let e = scanned_once x y x y (replies.TooMany s.most) (replies.Reported r) t u (scan_many more) (scan r is few) in
+        absurd cc
+    scans_once _ _ _ _ (reported x r t is few) (none other u) = absurd (none_or_takes other u x t)
+    scans_once _ _ _ _ (reported x r t is few) (too_many y u more) =
+        let e = scanned_once y x y x (replies.TooMany s.most) (replies.Reported r) u t (scan_many more) (scan r is few) in
+        absurd cc
+    scans_once _ _ _ _ (reported x r t is few) (reported y q u is' few') =
+        let e = scanned_once x y x y (replies.Reported r) (replies.Reported q) t u (scan r is few) (scan q is' few') in
+        (ap (status_by task.flag) e, ap lines_of e)
+
+    pub only_scan : (written written_after : Option (List ℕ)) (status : Status) → Printed (ScanEnds s task) written written_after status → IsOnlyEnd (ScanEnds s task) written written_after status
+    only_scan written written_after status p other lines ends =
+        let same = scans_once status other p.lines lines p.ends ends in
+        (same.0, subst (λ (ls : List (List ℕ)). Appends written written_after (concat ls)) (sym same.1) p.printed)
 
     passed_once : (x y : Shelves) (k j : LimitKind) (n m : ℕ) → TakesFor s task x → TakesFor s task y → Passes s x k n wires.Fix → Passes s y j m wires.Fix → (j ≡ k) × (m ≡ n)
     passed_once x y k j n m t u h i = passes_once s x wires.Fix (λ _. told) (read_once x t) k j n m h (subst (λ (z : Shelves). Passes s z j m wires.Fix) (takes_once x y t u) i)
@@ -114,6 +145,10 @@ module _ (s : Setting) (told : IsSome s.told) (task : Task) (rules_once : RulesE
         (same.0, subst (λ (ls : List (List ℕ)). Appends written written_after (concat ls)) (sym same.1) p.printed)
 
   -- the only end where nothing was taken
+  pub none_scanned_only : (written : Option (List ℕ)) (status : Status) → HasNone status → IsOnlyEnd (ScanEnds s task) written written status
+  none_scanned_only written status taken =
+      only_scan (λ x t. absurd (none_or_takes status taken x t)) written written status (record { lines = []; ends = none status taken; printed = nothing_written written })
+
   pub only_none : (written : Option (List ℕ)) (status : Status) → HasNone status → IsOnlyEnd (FixPrints s task) written written status
   only_none written status taken =
       only_fix (λ x t. absurd (none_or_takes status taken x t)) written written status (record { lines = []; ends = ([], none status taken); printed = nothing_written written })

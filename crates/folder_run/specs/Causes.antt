@@ -2,7 +2,7 @@
 use Rattle.std.specs.Prelude.{◌≡◌, ℕ}
 use Rattle.scan_world.specs.Faults.{Rose}
 use Rattle.run_status.specs.declared.status.Status.{Status}
-use Rattle.run_status.specs.declared.status.Status.TheVariants.{Done, Memory, TreeFault, OutputFault, OverLimit, NoSuchPath}
+use Rattle.run_status.specs.declared.status.Status.TheVariants.{Done, Findings, Memory, TreeFault, OutputFault, OverLimit, TooMany, NoSuchPath}
 
 -- By a limit, by memory, by a fault that the tree counted, or by an absence that it counted. The counts are before and after.
 abbrev pub HasTakingCause : ℕ → ℕ → ℕ → ℕ → Status → Type 0
@@ -25,3 +25,16 @@ IsOfWriting Memory = Unit {0}
 IsOfWriting TreeFault = Unit {0}
 IsOfWriting OutputFault = Unit {0}
 IsOfWriting _ = ⊥
+
+-- how a run ends that has a report to print
+abbrev pub IsOfPrinting : Status → Type 0
+IsOfPrinting Done = Unit {0}
+IsOfPrinting Findings = Unit {0}
+IsOfPrinting Memory = Unit {0}
+IsOfPrinting OutputFault = Unit {0}
+IsOfPrinting _ = ⊥
+
+-- the same, where there may be too many findings for one
+abbrev pub IsOfReport : Status → Type 0
+IsOfReport (TooMany most) = Unit {0}
+IsOfReport status = IsOfPrinting status

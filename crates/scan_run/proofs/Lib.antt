@@ -1,10 +1,4 @@
 pub mod Streaming
-pub mod Paths
-pub mod Limits
-pub mod Files
-pub mod Rules
-pub mod Causes
-pub mod Scans
 pub mod Inputs
 pub mod Matches
 pub mod Checks

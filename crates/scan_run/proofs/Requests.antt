@@ -12,9 +12,8 @@ use Rattle.run_status.specs.declared.status.Status.TheVariants.{Usage}
 use Rattle.run_status.specs.Ways.{Ways, Printed, PrintedFront, PrintedSome, IsOnlyEnd}
 use Rattle.scan_run.specs.Matching.{Matches}
 use Rattle.scan_run.specs.Checking.{Checks}
-use Rattle.scan_run.specs.Scan.{Scans}
 use Rattle.stream_run.specs.Playing.{PrintsFirst, PrintsFront}
-use Rattle.scan_run.specs.Serving.{setting, Serves, Fixes, Drills}
+use Rattle.scan_run.specs.Serving.{setting, Serves, Scans, Fixes, Drills}
 use Rattle.scan_run.specs.Run.{Asks, AreOtherWords, Ends, usage, matched, checked, scanned, fixed, served, drilled, whole, commands, WritesFront, WritesSome, WritesCommands, IsTold, AreTold, AskToMatch, AskToRead, AskToServe, AskForNoScan, ScansNothing}
 use Rattle.scan_run.proofs.Streaming.{nothing_written}
 

@@ -1,28 +1,11 @@
 -- Which texts of regular expressions a run asks its builder for. The lists of a builder are before and after, where it tells them.
-use Rattle.std.specs.Prelude.{◌≡◌, ℕ, Bool, List, [], ◌∷◌, Option}
+use Rattle.std.specs.Prelude.{ℕ, Bool, List, Option}
 use Rattle.scan_world.specs.Files.{Files}
-use Rattle.running_rules.specs.Running.{stated, texts_of}
-use Rattle.wire_words.specs.Commands.{Task, Request, Scanning, Fixing, Serving, Drilling}
+use Rattle.wire_words.specs.Commands.{Request, Scanning, Fixing, Serving, Drilling}
 use Rattle.run_status.specs.declared.status.Status.{Status}
-use Rattle.run_status.specs.Ways.{Printed}
-use Rattle.stream_run.specs.Asking.{AsksOnce, FrontAsking}
-use Rattle.scan_run.specs.Scan.{Scans, no_rules, with_rules}
-use Rattle.scan_run.specs.Serving.{setting, ServesAsking, FixesAsking, DrillsAsking}
+use Rattle.stream_run.specs.Asking.{FrontAsking}
+use Rattle.scan_run.specs.Serving.{setting, ServesAsking, ScansAsking, FixesAsking, DrillsAsking}
 use Rattle.scan_run.specs.Run.{Asks}
-
-module _ {task : Task} {told : Option Files} {refused : List (List ℕ)} where
-  -- the texts that a scan goes by which ends so: none where its config is no rules, else those of the good rules, in order of entry
-  -- and place
-  abbrev pub ScanGoesBy : {status : Status} {lines : List (List ℕ)} → Scans task told refused status lines → List (List ℕ) → Type 0
-  ScanGoesBy (no_rules config status is ends) texts = texts ≡ []
-  ScanGoesBy (with_rules config rules files status lines is read are ends) texts = texts ≡ texts_of (stated (rules ∷ []))
-
--- the scan ended so, and the builder was asked once for each text that it went by
-pub record ScansAsking (task : Task) (told : Option Files) (refused : List (List ℕ)) (written written_after : Option (List ℕ)) (status : Status) (before after : Option (List (List ℕ))) : Type 0 where
-  pub prints : Printed (Scans task told refused) written written_after status
-  pub texts : List (List ℕ)
-  pub goes_by : ScanGoesBy prints.ends texts
-  pub asked : AsksOnce before after texts
 
 -- what a request gives to the builder, if it scans: it ended so, and each text that it went by was given once
 abbrev pub GivesFor : Request → Option (List ℕ) → Option Files → List (List ℕ) → Option (List ℕ) → Option (List ℕ) → Status → Option (List (List ℕ)) → Option (List (List ℕ)) → Type 0

@@ -4,10 +4,6 @@ pub mod Lines
 pub mod Reading
 pub mod Matching
 pub mod Checking
-pub mod Taking
-pub mod Config
-pub mod Scan
-pub mod Scanned
 pub mod Serving
 pub mod Steps
 pub mod Run

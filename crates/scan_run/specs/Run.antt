@@ -10,9 +10,8 @@ use Rattle.run_status.specs.declared.status.Status.TheVariants.{Usage}
 use Rattle.run_status.specs.Status.{IsFinished}
 use Rattle.scan_run.specs.Matching.{Matches}
 use Rattle.scan_run.specs.Checking.{Checks}
-use Rattle.scan_run.specs.Scan.{Scans}
 use Rattle.folder_run.specs.Written.{Wrote, Leaves}
-use Rattle.scan_run.specs.Serving.{setting, Serves, ServesFirst, ServesWhole, ServesToSync, Fixes, Drills, ServesAfter, FixesAfter, DrillsAfter}
+use Rattle.scan_run.specs.Serving.{setting, Serves, ServesFirst, ServesWhole, ServesToSync, Scans, Fixes, Drills, ServesAfter, ScansAfter, FixesAfter, DrillsAfter}
 use Rattle.scan_world.specs.Streams.{AppendsFront}
 use Rattle.run_status.specs.Ways.{AppendsSome}
 
@@ -96,9 +95,10 @@ AskToRead words = AskToMatch words ⊎ Asks words Checking
 abbrev pub AskToServe : List (List ℕ) → Type 0
 AskToServe words = (most : ℕ) × (trace : Bool) × Asks words (Serving most trace)
 
--- what a request costs in steps, if it is a session, a fix or a drill; the numbers are before and after
+-- what a request costs in steps, if it scans; the numbers are before and after
 abbrev pub TakesFor : Request → Option (List ℕ) → Option Files → List (List ℕ) → Option (List ℕ) → Option (List ℕ) → Status → ℕ → ℕ → Type 0
 TakesFor (Serving most trace) left told refused written written_after status before after = ServesAfter most trace told refused left written written_after status before after
+TakesFor (Scanning task) left told refused written written_after status before after = ScansAfter task told refused written written_after status before after
 TakesFor (Fixing task) left told refused written written_after status before after = FixesAfter task told refused written written_after status before after
 TakesFor (Drilling count) left told refused written written_after status before after = DrillsAfter count refused written written_after status before after
 TakesFor _ left told refused written written_after status before after = Unit {0}

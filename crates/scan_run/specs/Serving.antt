@@ -1,4 +1,4 @@
--- What `session`, `fix` and `drill` do, over the files that a tree tells and the texts of regular expressions that are refused.
+-- What `scan`, `fix`, `session` and `drill` do, over the files that a tree tells and the texts of regular expressions that are refused.
 use Rattle.std.specs.Prelude.{ℕ, Bool, false, List, Option, None}
 use Rattle.scan_world.specs.Files.{Files}
 use Rattle.fix_apply.specs.declared.fixed.FixedFile.{FixedFile}
@@ -11,9 +11,9 @@ use Rattle.stream_run.specs.Doing.{Setting}
 use Rattle.stream_run.specs.Playing.{SessionEnds, AreFirstLines, PrintsWhole, PrintsToSync}
 use Rattle.stream_run.specs.Costs.{EndsAfter}
 use Rattle.stream_run.specs.Asking.{EndsAsking}
-use Rattle.folder_run.specs.Ends.{FixEnds}
-use Rattle.folder_run.specs.Costs.{FixedAfter}
-use Rattle.folder_run.specs.Asking.{FixedAsking}
+use Rattle.folder_run.specs.Ends.{ScanEnds, FixEnds}
+use Rattle.folder_run.specs.Costs.{ScannedAfter, FixedAfter}
+use Rattle.folder_run.specs.Asking.{ScannedAsking, FixedAsking}
 use Rattle.drill_run.specs.Drilling.{DrillEnds}
 use Rattle.drill_run.specs.Costs.{DrilledAfter}
 use Rattle.drill_run.specs.Asking.{DrilledAsking}
@@ -42,6 +42,10 @@ ServesWhole most traced told refused left left_after written written_after = Pri
 abbrev pub ServesToSync : ℕ → Bool → Option Files → List (List ℕ) → Option (List ℕ) → Option (List ℕ) → Option (List ℕ) → Type 0
 ServesToSync most traced told refused left written written_after = PrintsToSync (setting most traced told refused) left written written_after
 
+-- how a scan of a folder ends
+abbrev pub Scans : Task → Option Files → List (List ℕ) → Status → List (List ℕ) → Type 0
+Scans task told refused status lines = ScanEnds (setting task.most task.trace told refused) task status lines
+
 -- how fixing a folder ends, and the files that it writes
 abbrev pub FixesWith : Task → Option Files → List (List ℕ) → Status → List (List ℕ) → List FixedFile → Type 0
 FixesWith task told refused status lines fixed = FixEnds (setting task.most task.trace told refused) task status lines fixed
@@ -59,6 +63,10 @@ Drills count refused status lines = DrillEnds (setting 50000 false None refused)
 abbrev pub ServesAfter : ℕ → Bool → Option Files → List (List ℕ) → Option (List ℕ) → Option (List ℕ) → Option (List ℕ) → Status → ℕ → ℕ → Type 0
 ServesAfter most traced told refused left written written_after status before after = EndsAfter (setting most traced told refused) left written written_after status before after
 
+-- the scan of the folder ended so, and took these steps
+abbrev pub ScansAfter : Task → Option Files → List (List ℕ) → Option (List ℕ) → Option (List ℕ) → Status → ℕ → ℕ → Type 0
+ScansAfter task told refused written written_after status before after = ScannedAfter (setting task.most task.trace told refused) task written written_after status before after
+
 -- fixing the folder ended so, and its one scan took these steps
 abbrev pub FixesAfter : Task → Option Files → List (List ℕ) → Option (List ℕ) → Option (List ℕ) → Status → ℕ → ℕ → Type 0
 FixesAfter task told refused written written_after status before after = FixedAfter (setting task.most task.trace told refused) task written written_after status before after
@@ -72,6 +80,10 @@ DrillsAfter count refused written written_after status before after = DrilledAft
 -- the session ended so, and the builder was asked once for each text that its commands went by
 abbrev pub ServesAsking : ℕ → Bool → Option Files → List (List ℕ) → Option (List ℕ) → Option (List ℕ) → Option (List ℕ) → Status → Option (List (List ℕ)) → Option (List (List ℕ)) → Type 0
 ServesAsking most traced told refused left written written_after status before after = EndsAsking (setting most traced told refused) left written written_after status before after
+
+-- the scan of the folder ended so, and the builder was asked once for each text that it went by
+abbrev pub ScansAsking : Task → Option Files → List (List ℕ) → Option (List ℕ) → Option (List ℕ) → Status → Option (List (List ℕ)) → Option (List (List ℕ)) → Type 0
+ScansAsking task told refused written written_after status before after = ScannedAsking (setting task.most task.trace told refused) task written written_after status before after
 
 -- fixing the folder ended so, and the builder was asked once for each text that it went by
 abbrev pub FixesAsking : Task → Option Files → List (List ℕ) → Option (List ℕ) → Option (List ℕ) → Status → Option (List (List ℕ)) → Option (List (List ℕ)) → Type 0

@@ -14,8 +14,7 @@ ghost use Rattle.scan_run.specs.Asking.{Gives, GivesFirst};
 
 use crate::checking::run_check;
 use crate::matching::run_match;
-use crate::scan::run_scan;
-use crate::serving::{run_drill, run_fix, run_session};
+use crate::serving::{run_drill, run_fix, run_scan, run_session};
 use node_tree::Steps;
 use run_status::Status;
 use rx_text::Patterns;
@@ -106,7 +105,7 @@ pub fn run<T: Tree, S: Source, K: Sink, P: Patterns, L: Ledger>(
     ensures work { AskToMatch (map string_bytes words.now.items) → TakesSteps result steps.old steps.new }
     ensures no_work { AskForNoSearch (map string_bytes words.now.items) → steps.new ≡ steps.old }
 
-    // A session, a fix and a drill take a step for each file that a scan of theirs opens, and one for each call of the matcher.
+    // A scan, a fix, a session and a drill take a step for each file that they open, and one for each call of the matcher.
     ensures session_work { IsAnswer result → Takes (map string_bytes words.now.items) (S.left input.old) (T.files tree.old) (gained (P.refusals patterns.old) (P.refusals patterns.new)) (K.written out.old) (K.written out.new) result steps.old steps.new }
 {
     match asked(words) {

@@ -2,14 +2,11 @@
 #![tactic(auto)]
 
 mod checking;
-mod config;
 mod entry;
 mod input;
 mod matching;
 mod output;
-mod scan;
 mod serving;
-mod taking;
 
 pub use entry::run;
 pub use run_status::{LimitKind, Status};

@@ -1,4 +1,4 @@
-//! The commands that work over a session of their own: `fix`, `session` and `drill`.
+//! The commands that scan: `scan`, `fix`, `session` and `drill`.
 
 ghost use Rattle.std.specs.Prelude.{◌≡◌, IsSome};
 ghost use Rattle.scan_world.specs.Faults.{Rose};
@@ -10,10 +10,10 @@ ghost use Rattle.run_status.specs.Ways.{Printed, PrintedFront, IsOnlyEnd};
 ghost use Rattle.folder_run.specs.Written.{Wrote, Leaves};
 ghost use Rattle.stream_run.specs.Playing.{PrintsFirst, PrintsFront};
 ghost use Rattle.stream_run.specs.Asking.{FrontAsking};
-ghost use Rattle.scan_run.specs.Serving.{setting, Serves, ServesWhole, ServesToSync, Fixes, Drills, ServesAfter, FixesAfter, DrillsAfter, ServesAsking, FixesAsking, DrillsAsking};
+ghost use Rattle.scan_run.specs.Serving.{setting, Serves, ServesWhole, ServesToSync, Scans, Fixes, Drills, ServesAfter, ScansAfter, FixesAfter, DrillsAfter, ServesAsking, ScansAsking, FixesAsking, DrillsAsking};
 
 use drill_run::drill;
-use folder_run::fix_folder;
+use folder_run::{fix_folder, scan_folder};
 use languages::Languages;
 use node_tree::Steps;
 use run_status::Status;
@@ -27,6 +27,34 @@ use wire_words::Job;
 
 // The most findings of a drill's reports.
 const MOST_FINDINGS: u64 = 50_000;
+
+/// Scans the files under the job's prefix by the rules of its config, as `specs/Serving.antt` says.
+pub fn run_scan<T: Tree, K: Sink, P: Patterns, L: Ledger>(
+    alloc: Global,
+    job: &Job<'_>,
+    tree: &mut T,
+    out: &mut K,
+    patterns: &mut P,
+    steps: &mut Steps<L>,
+) -> Status
+    ensures ends { IsAnswer result → Printed (Scans (task_of job.now) (T.files tree.old) (gained (P.refusals patterns.old) (P.refusals patterns.new))) (K.written out.old) (K.written out.new) result }
+    ensures only { IsAnswer result → IsSome (T.files tree.old) → IsOnlyEnd (Scans (task_of job.now) (T.files tree.old) (gained (P.refusals patterns.old) (P.refusals patterns.new))) (K.written out.old) (K.written out.new) result }
+    ensures work { IsAnswer result → ScansAfter (task_of job.now) (T.files tree.old) (gained (P.refusals patterns.old) (P.refusals patterns.new)) (K.written out.old) (K.written out.new) result steps.old steps.new }
+    ensures asked { IsAnswer result → ScansAsking (task_of job.now) (T.files tree.old) (gained (P.refusals patterns.old) (P.refusals patterns.new)) (K.written out.old) (K.written out.new) result (P.asked patterns.old) (P.asked patterns.new) }
+    ensures files_kept { KeepsFiles (T.files tree.old) (T.files tree.new) }
+    ensures tree_kept { IsAnswer result → T.faults tree.new ≡ T.faults tree.old }
+    ensures output_kept { IsAnswer result → K.faults out.new ≡ K.faults out.old }
+    ensures no_input { result ≡ Status.InputFault → ⊥ }
+    ensures tree_fault { result ≡ Status.TreeFault → Rose (T.faults tree.old) (T.faults tree.new) }
+    ensures absent { result ≡ Status.NoSuchPath → Rose (T.absences tree.old) (T.absences tree.new) }
+    ensures nothing_written { result ≡ Status.TreeFault → K.written out.new ≡ K.written out.old }
+    ensures unwritten { result ≡ Status.Memory → K.written out.new ≡ K.written out.old }
+    ensures output_fault { result ≡ Status.OutputFault → Rose (K.faults out.old) (K.faults out.new) }
+    ensures front_written { result ≡ Status.OutputFault → PrintedFront (Scans (task_of job.now) (T.files tree.old) (gained (P.refusals patterns.old) (P.refusals patterns.new))) (K.written out.old) (K.written out.new) }
+    ensures patterns_grow { Gains (P.refusals patterns.old) (P.refusals patterns.new) }
+{
+    scan_folder(alloc, job, &Languages, tree, out, patterns, steps)
+}
 
 /// Fixes the files under the job's prefix by the rules of its config, as `specs/Serving.antt` says.
 pub fn run_fix<T: Tree, K: Sink, P: Patterns, L: Ledger>(

@@ -118,10 +118,6 @@ module _ {R : Type 0} (grammars : Grammars) (refused : List (List ℕ)) (rule_fi
   pub passed_over : (more : List File) → s.most < length s.results → HasScanned grammars refused rule_files most (files ++ more) s
   passed_over more many = record { limit = h.limit; rules = h.rules; found = inr (still_more grammars (running refused rule_files) most files more s.results (over many)) }
 
-  -- the rules that run have ids of their own
-  pub apart : (rules : List Rule) → rules ≡ s.running.items → AreApart rules
-  apart rules e = let P : List Rule → Type 0 = AreApart in subst P (sym (e ∙ h.rules)) (are_apart refused (stated rule_files))
-
   pub found_more : (f : File) (rules : List Rule) (new : List Notice) (found results' : List Reported) → IsAscending file_cmp (files ++ f ∷ []) → rules ≡ s.running.items → (s.most < length s.results → ⊥)
       → IsExactly reported_cmp (IsResultIn grammars rules f) found → Adds s.notices.items new (IsNoticeIn grammars rules f) → results' ≡ s.results ++ found
       → AreAll grammars (running refused rule_files) (rule_notices refused rule_files) most (files ++ f ∷ []) results' new ⊎ AreTooMany grammars (running refused rule_files) most (files ++ f ∷ []) results'

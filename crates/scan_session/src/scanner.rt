@@ -22,14 +22,12 @@ use crate::fault::ScanFault;
 use code_reader::TreeReader;
 use comment_reader::CommentReader;
 use decided_texts::DecidedTexts;
-use file_results::scan_file;
-use node_tree::{Bytes, List, Memory, Steps};
+use node_tree::{List, Memory};
 use report_form::{Notice, Report, Reported};
 use rule_files::RuleFile;
 use running_rules::{Noted, Runner, in_order, take_files};
 use rx_text::Patterns;
 use std::alloc::Global;
-use std::sync::ledger::Ledger;
 
 // Adds the items at the end.
 fn append(results: &mut List<Reported>, mut more: List<Reported>) -> Result<(), Memory>
@@ -130,36 +128,6 @@ impl<'r, R: TreeReader + CommentReader> Scanner<'r, R> {
         }
         append_notices(&mut self.notices, notices)?;
         append(&mut self.results, results)
-    }
-
-    /// Scans the file at a path that comes after those of all files so far. It is opened in the language that the path's ending
-    /// names, or else in `Regex`. It is passed over where the files so far have too many findings already.
-    pub fn scan<L: Ledger>(
-        &mut self,
-        alloc: Global,
-        path: &str,
-        bytes: Bytes,
-        steps: &mut Steps<L>,
-    ) -> Result<(), Memory>
-        ensures scanned { OnOk result (Scans (grammars_of (R.spells self.old.reader.now) (R.knows self.old.reader.now) (R.comments self.old.reader.now) self.old.traced) ((path.now, bytes) ∷ []) self.old self.new) }
-        ensures same_reader { self.new.reader.now ≡ self.old.reader.now }
-        ensures same_traced { self.new.traced ≡ self.old.traced }
-    {
-        if self.is_over() {
-            return Ok(());
-        }
-        let running = self.running.as_slice();
-        let found = scan_file(
-            alloc,
-            self.reader,
-            path,
-            bytes,
-            running,
-            self.traced,
-            steps,
-            &mut self.notices,
-        )?;
-        append(&mut self.results, found)
     }
 
     /// What the rules find in the files, and what there is to be said of both: all findings that no comment quiets, in order of

@@ -12,5 +12,5 @@ mod scan_state;
 mod scanning;
 mod session;
 
-pub use one_fix::fix_once;
+pub use one_fix::{fix_once, scan_once};
 pub use session::Session;

@@ -60,9 +60,10 @@ fn scan_all<R: TreeReader + CommentReader, L: Ledger>(
     Ok(())
 }
 
-// What the rules find in the files, which are at most so many findings. Texts of regular expressions that aren't decided yet are
-// decided.
-fn scan_once<R: TreeReader + CommentReader + PatternReader, P: Patterns, L: Ledger>(
+/// What a scan of the files by the rules reports, where none was seen before. It is refused where there are more findings than
+/// `most`. It takes a step for each file, and one for each piece and pattern that the rules need. Texts of regular expressions that
+/// aren't decided yet are decided. Nothing is kept of a file but what was found in it.
+pub fn scan_once<R: TreeReader + CommentReader + PatternReader, P: Patterns, L: Ledger>(
     alloc: Global,
     rules: &RuleMap<'_, R>,
     files: &FileMap,

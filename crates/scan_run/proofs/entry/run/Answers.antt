@@ -201,7 +201,7 @@ returns-in-Some-Scan-clause-session_work g c a =
     let is = asks (map string_bytes c.args.words.now.items) _ _ c.in-Some-Scan.field-0-is c.in-Some-Scan.ensures.read in
     as_asked (map string_bytes c.args.words.now.items) (Scanning (task_of c.in-Some-Scan.job)) (only_asks (map string_bytes c.args.words.now.items) _ _ c.in-Some-Scan.field-0-is c.in-Some-Scan.ensures.only) is
     (λ (r : Request). TakesFor r (g.S.Source.left c.args.input.now) (g.T.Tree.files c.args.tree.now) (gained (g.P.Patterns.refusals c.args.patterns.now) (g.P.Patterns.refusals c.run_scan.new.patterns)) (g.K.Sink.written c.args.out.now) (g.K.Sink.written c.run_scan.new.out) c.run_scan.result c.args.steps.now c.run_scan.new.steps)
-    tt
+    (c.run_scan.ensures.work a)
 
 pub returns-in-Some-Scan-clause-texts_asked : goal.returns-in-Some-Scan-clause-texts_asked
 returns-in-Some-Scan-clause-texts_asked g c a =

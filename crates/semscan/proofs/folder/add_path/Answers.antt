@@ -1,4 +1,4 @@
-use Rattle.scan_run.proofs.Paths.{put_under}
+use Rattle.semscan.proofs.Paths.{put_under}
 use Rattle.semscan.proofs.folder.add_path.Goals as goal
 
 pub returns-clause-under : goal.returns-clause-under

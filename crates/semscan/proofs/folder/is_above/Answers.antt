@@ -1,6 +1,6 @@
 use Rattle.std.proofs.Common.{◌≡◌, ℕ, ◌-◌, List, length, get_or, sym, ap, ◌∙◌, arith}
 use Rattle.scan_world.specs.Files.{path_cmp}
-use Rattle.scan_run.proofs.Paths.{ascends_alone, ascends_last}
+use Rattle.semscan.proofs.Paths.{ascends_alone, ascends_last}
 use Rattle.semscan.proofs.folder.is_above.Goals as goal
 
 pub returns-then-count-eq0 : goal.returns-then-count-eq0

@@ -4,11 +4,9 @@ use Rattle.std.specs.declared.cmp.Ordering.TheVariants.{Less}
 use Rattle.std.specs.Prelude.{All}
 use Rattle.std.proofs.lemmas.List.Elements.{All-nil, All-cons, All-append}
 use Rattle.scan_world.specs.Files.{IsUnder, path_cmp, PathsAscend}
-use Rattle.stream_run.proofs.Paths.{Path, Below}
 
-pub ascends_on : (x : Path) (xs : List Path) → Below x xs → PathsAscend xs → PathsAscend (x ∷ xs)
-ascends_on x [] below up = tt
-ascends_on x (y ∷ ys) below up = (below.0, up)
+abbrev pub Path : Type 0
+Path = List ℕ
 
 pub ascends_alone : (xs : List Path) (x : Path) → length xs ≡ 0 → PathsAscend (xs ++ x ∷ [])
 ascends_alone [] x e = tt
