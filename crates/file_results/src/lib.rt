@@ -19,5 +19,5 @@ mod row;
 mod scanning;
 mod tracing;
 
-pub use needing::with_needed_names;
+pub use needing::{view_needs, with_needed_names};
 pub use scanning::{scan_file, scan_view};

@@ -84,9 +84,9 @@ pub fn rules_need<F: MayHave>(
     Ok(false)
 }
 
-// Whether the names that are known in a file may make a difference to one of the rules. The file is made ready only for rules that
-// may take names, and its imported names are looked up only where the words that stand there don't tell.
-fn view_needs(alloc: Global, view: &FileView, running: &[Runner<'_>]) -> Result<bool, Memory>
+/// Whether the names that are known in a file may make a difference to one of the rules. The file is made ready only for rules
+/// that may take names, and its imported names are looked up only where the words that stand there don't tell.
+pub fn view_needs(alloc: Global, view: &FileView, running: &[Runner<'_>]) -> Result<bool, Memory>
     ensures { IfOk result (λ need. IsTrue need ↔ RulesUseNames view.now.lang view.now.tree running.now) }
 {
     if !rules_need(alloc, &AnyFile, view.lang, running)? {
