@@ -20,8 +20,7 @@ use Rattle.file_parts.specs.Seen.{resolved_tree}
 use Rattle.file_parts.proofs.Once.{seen_once}
 use Rattle.file_search.specs.Whole.{HasNone}
 use Rattle.file_search.proofs.Joins.{none_in}
-use Rattle.import_names.specs.Resolved.{IsResolved, tree_in, known_in as names_in}
-use Rattle.file_open.specs.Naming.{Knows, IsNamed}
+use Rattle.file_open.specs.Naming.{Knows}
 use Rattle.graph_form.specs.declared.graph.Point.{Point}
 use Rattle.meta_bind.specs.declared.finding.Finding.{Finding}
 use Rattle.part_judge.specs.declared.outcome.Outcome.{Outcome}
@@ -34,7 +33,7 @@ use Rattle.file_results.specs.Looking.{AreLeaves, LooksAt, RuleFinds, named_leaf
 use Rattle.file_results.specs.Needing.{UsesNames, RulesUse, RulesUseNames, AreWanted, HasNoneOrAll, NeedsNoNames, RulesNeedNoNames, Serves, ServesRules}
 use Rattle.file_results.specs.Quieted.{Comments}
 use Rattle.file_results.specs.Shown.{IsFoundIn, IsShownIn, IsNotedIn}
-use Rattle.file_results.specs.Tracing.{PartHas, IsPartTrace, IsRuleTrace, IsTraced, HasTrace}
+use Rattle.file_results.specs.Tracing.{PartHas, IsPartTrace, IsRuleTrace, HasTrace}
 
 -- ---- one pattern
 
@@ -67,7 +66,7 @@ uses_none lang tree p true takes none = lacking lang tree p (none_in lang tree p
 uses_none lang tree p false takes none = unnamed lang tree p (leaves_alike p takes)
 
 -- nor do rules of which none may
-pub need_none : (lang : Lang) (tree : Node) (rules : List Rule) → (RulesUseNames lang tree rules → ⊥) → RulesNeedNoNames lang tree rules
+need_none : (lang : Lang) (tree : Node) (rules : List Rule) → (RulesUseNames lang tree rules → ⊥) → RulesNeedNoNames lang tree rules
 need_none lang tree rules none rule runs part has looks p a = uses_none lang tree p (uses_literals p) refl (λ uses. none (rule, runs, (part, has, (looks, (p, a, uses)))))
 
 -- ---- the names that are wanted
@@ -200,23 +199,6 @@ module _ (knows : Knows) (lang : Lang) (tree : Node) (known : List Known) where
       λ f. record { rule = f.rule; runs = f.runs; outcome = f.outcome; finds = (finds_served path text f.rule f.outcome f.runs).0 f.finds; told = f.told },
       λ f. record { rule = f.rule; runs = f.runs; outcome = f.outcome; finds = (finds_served path text f.rule f.outcome f.runs).1 f.finds; told = f.told },
     ))
-
--- ---- a file with the names that are known in it
-
-module _ (knows : Knows) (bare view : FileView) (named : IsNamed knows bare view) (rules : List Rule) (path : List ℕ) where
-  pub shown_named : (comments : Comments) (traced : Bool) (rs : List Reported) → IsExactly reported_cmp (IsShownIn (named_leaf view.known) comments traced rules path view.lang view.bytes view.tree) rs → IsExactly reported_cmp (IsShownIn (own_leaf knows) comments traced rules path bare.lang bare.bytes bare.tree) rs
-  shown_named comments traced rs h =
-      let L : Lang → Type 0 = λ l. IsExactly reported_cmp (IsShownIn (named_leaf view.known) comments traced rules path l view.bytes view.tree) rs in
-      let B : List ℕ → Type 0 = λ b. IsExactly reported_cmp (IsShownIn (named_leaf view.known) comments traced rules path bare.lang b view.tree) rs in
-      let T : Node → Type 0 = λ t. IsExactly reported_cmp (IsShownIn (named_leaf view.known) comments traced rules path bare.lang bare.bytes t) rs in
-      shown_served knows bare.lang bare.tree view.known rules (inl named.known) comments traced path bare.bytes rs (subst T named.tree_is (subst B named.bytes_are (subst L named.lang_is h)))
-
-  pub noted_named : (old new : List Notice) → Adds old new (IsNotedIn (named_leaf view.known) rules path view.lang view.bytes view.tree) → Adds old new (IsNotedIn (own_leaf knows) rules path bare.lang bare.bytes bare.tree)
-  noted_named old new h =
-      let L : Lang → Type 0 = λ l. Adds old new (IsNotedIn (named_leaf view.known) rules path l view.bytes view.tree) in
-      let B : List ℕ → Type 0 = λ b. Adds old new (IsNotedIn (named_leaf view.known) rules path bare.lang b view.tree) in
-      let T : Node → Type 0 = λ t. Adds old new (IsNotedIn (named_leaf view.known) rules path bare.lang bare.bytes t) in
-      noted_served knows bare.lang bare.tree view.known rules (inl named.known) path bare.bytes old new (subst T named.tree_is (subst B named.bytes_are (subst L named.lang_is h)))
 
 -- ---- answers
 

@@ -20,4 +20,4 @@ mod scanning;
 mod tracing;
 
 pub use needing::{view_needs, with_needed_names};
-pub use scanning::{scan_file, scan_view};
+pub use scanning::scan_view;

@@ -66,9 +66,9 @@ fn parts_need<F: MayHave>(
     Ok(false)
 }
 
-/// Whether the names that are known in a file of the language may make a difference to one of the rules, as far as the file tells
-/// which patterns may have members in it.
-pub fn rules_need<F: MayHave>(
+// Whether the names that are known in a file of the language may make a difference to one of the rules, as far as the file tells
+// which patterns may have members in it.
+fn rules_need<F: MayHave>(
     alloc: Global,
     file: &F,
     lang: Lang,

@@ -6,7 +6,6 @@ use Rattle.node_tree.specs.declared.view.FileView.{FileView}
 use Rattle.node_tree.specs.declared.view.Lang.{Lang}
 use Rattle.node_tree.specs.declared.view.Lang.TheVariants as langs
 use Rattle.node_tree.specs.declared.view.Pattern.{Pattern}
-use Rattle.tree_match.specs.declared.leaf.Leaf.{Leaf}
 use Rattle.tree_match.specs.declared.leaf.Leaf.TheVariants.{Full}
 use Rattle.tree_match.specs.Leaf.{IsLeaf}
 use Rattle.tree_match.specs.Members.{Member, KnownTree, IsMember, known_tree}
@@ -16,46 +15,19 @@ use Rattle.file_match.proofs.Marked.{member_may}
 use Rattle.place_join.specs.Joined.{IsJoined, Joined}
 use Rattle.import_names.specs.Resolved.{IsResolved, tree_in, known_in as names_in}
 use Rattle.file_parts.specs.Parts.{ResolvesToItself}
-use Rattle.file_parts.specs.Seen.{resolved_tree, seen_leaf}
+use Rattle.file_parts.specs.Seen.{resolved_tree}
 use Rattle.file_parts.proofs.Resolving.{tree_is}
-use Rattle.file_parts.proofs.Through.{python_seen, itself_seen}
 use Rattle.file_search.specs.Whole.{IsBeside, HasNone, MayHaveIn}
 
--- ---- by language
-
--- in any other language it is that in the tree
-plain_seen : (lang : Lang) (file : KnownTree) (pattern : Pattern) (leaf : Leaf) → (lang ≡ langs.Python → ⊥) → IsLeaf (IsMember pattern file) leaf → seen_leaf lang file pattern leaf
-plain_seen langs.Python file pattern leaf other x = absurd (other refl)
-plain_seen _ file pattern leaf other x = x
+-- ---- the file with its names resolved
 
 -- what a file has beside it, as it was seen
 pub beside_as : (view written : FileView) (o held : Option FileView) → written ≡ view → held ≡ o → IsBeside written held → IsBeside view o
 beside_as view written o held e f h = subst (IsBeside view) f (let P : FileView → Type 0 = λ v. IsBeside v held in subst P e h)
 
--- where no other tree stands beside that of the file it is that in the tree
-pub alone_seen : (view : FileView) (pattern : Pattern) (leaf : Leaf) → IsBeside view None → IsLeaf (IsMember pattern (known_tree view)) leaf → seen_leaf view.lang (known_tree view) pattern leaf
-alone_seen view pattern leaf (inl other) x = plain_seen view.lang (known_tree view) pattern leaf other x
-alone_seen view pattern leaf (inr itself) x = itself_seen view.lang (known_tree view) pattern leaf itself x
-
 -- the file with its names resolved is the file, where it has the same tree and the same known names
 pub resolves_to_itself : (view resolved : FileView) → IsResolved view resolved → known_tree resolved ≡ known_tree view → ResolvesToItself view
 resolves_to_itself view resolved is same = tree_is view resolved is ∙ same
-
--- ---- both trees
-
-module _ (view resolved : FileView) (pattern : Pattern) (python : view.lang ≡ langs.Python) (is : IsResolved view resolved) where
-  both_seen : (plain further leaf : Leaf) → IsLeaf (IsMember pattern (known_tree view)) plain → IsLeaf (IsMember pattern (known_tree resolved)) further → IsJoined plain further leaf
-      → seen_leaf view.lang (known_tree view) pattern leaf
-  both_seen plain further leaf x y joined =
-      let P : KnownTree → Type 0 = λ t. IsLeaf (IsMember pattern t) further in
-      python_seen view.lang (known_tree view) pattern leaf python (
-      record { plain = plain; further = further; plain_is = x; further_is = subst P (sym (tree_is view resolved is)) y; joined = joined })
-
-  -- the same of an answer
-  pub joined_seen : {E : Type 0} (plain further : Leaf) (r : Result Leaf E) → IsLeaf (IsMember pattern (known_tree view)) plain → IsLeaf (IsMember pattern (known_tree resolved)) further → IfOk r (IsJoined plain further)
-      → IfOk r (seen_leaf view.lang (known_tree view) pattern)
-  joined_seen plain further (Ok leaf) x y joined = both_seen plain further leaf x y joined
-  joined_seen plain further (Err e) x y joined = tt
 
 -- ---- no member
 

@@ -1,5 +1,5 @@
--- A file that is searched as a whole.
-use Rattle.std.specs.Prelude.{◌≡◌, ◌⊎◌, ◌+◌, ℕ, List, [], Option, None, Some}
+-- Whether a whole file may have members of a pattern.
+use Rattle.std.specs.Prelude.{◌≡◌, ◌⊎◌, List, [], Option, None, Some}
 use Rattle.node_tree.specs.declared.known.Known.{Known}
 use Rattle.node_tree.specs.declared.node.Node.{Node}
 use Rattle.node_tree.specs.declared.view.FileView.{FileView}
@@ -17,10 +17,6 @@ use Rattle.file_parts.specs.Seen.{seen_leaf}
 abbrev pub IsBeside : FileView → Option FileView → Type 0
 IsBeside view None = (view.lang ≡ langs.Python → ⊥) ⊎ ResolvesToItself view
 IsBeside view (Some resolved) = (view.lang ≡ langs.Python) × IsResolved view resolved
-
--- a step for the tree of the file, and one for that with names resolved, if that is searched
-abbrev pub TakesSteps : ℕ → ℕ → Type 0
-TakesSteps before after = (after ≡ before + 1) ⊎ (after ≡ before + 2)
 
 -- whatever names are known in the tree, the pattern has no member there
 abbrev pub HasNone : Lang → Node → Pattern → Type 0

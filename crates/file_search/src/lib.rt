@@ -1,7 +1,7 @@
 //! The search of one file for what patterns have in it, seen through the file's imports.
 //!
-//! Scans ask by the trait [`FileSearch`], so they hold for each way to answer: a search of the whole file, or the leaves of
-//! its pieces that are kept from one scan to the next.
+//! Scans ask by the trait [`FileSearch`], so they hold for each way to answer. A [`WholeFile`] only says whether a pattern may
+//! have members in the file.
 #![tactic(auto)]
 
 mod search;

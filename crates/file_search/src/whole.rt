@@ -1,24 +1,18 @@
-//! The search of a whole file.
+//! Whether a whole file may have members of a pattern.
 
-ghost use Rattle.std.specs.Prelude.{◌≡◌, ◌↔◌, false, IsTrue, IfOk, OnOk, MatchOption};
-ghost use Rattle.tree_match.specs.Members.{known_tree};
+ghost use Rattle.std.specs.Prelude.{◌≡◌, ◌↔◌, false, IsTrue, IfOk, MatchOption};
 ghost use Rattle.node_tree.specs.declared.view.Lang.TheVariants.{Python as python};
 ghost use Rattle.import_names.specs.Resolved.{IsResolved};
-ghost use Rattle.file_parts.specs.Seen.{seen_leaf};
-ghost use Rattle.file_search.specs.Whole.{IsBeside, TakesSteps, HasNone, MayHaveIn};
+ghost use Rattle.file_search.specs.Whole.{IsBeside, HasNone, MayHaveIn};
 
-use crate::search::FileSearch;
-use file_match::{ReadyFile, match_ready};
+use file_match::ReadyFile;
 use file_parts::same_tree;
-use node_tree::{FileView, Lang, Memory, Pattern, Steps};
-use place_join::join_by_place;
+use node_tree::{FileView, Lang, Memory, Pattern};
 use std::alloc::Global;
 use std::marker::Model;
-use std::sync::ledger::Ledger;
-use tree_match::Leaf;
 
-/// A file that is searched as a whole, and in Python a second time with its names resolved, where that changes it. Contracts see
-/// the file.
+/// A file as it is written, and in Python beside it the file with its names resolved, where that changes it. Contracts see the
+/// file.
 #[derive(Drop)]
 pub struct WholeFile<'v> {
     written: ReadyFile<'v>,
@@ -40,7 +34,7 @@ impl<'v> Model for WholeFile<'v> {
     ghost invariant = { λ f. IsBeside f.written f.resolved };
 }
 
-// The file in Python with its names resolved, ready for the search, unless it is the same.
+// The file in Python with its names resolved, made ready, unless it is the same.
 fn beside_python<'v>(
     alloc: Global,
     view: &FileView,
@@ -114,13 +108,6 @@ impl<'v> WholeFile<'v> {
         Ok(WholeFile { written, resolved })
     }
 
-    /// The file.
-    pub fn view(&self) -> &'v FileView
-        ensures { result.now ≡ self.now }
-    {
-        self.written.view()
-    }
-
     /// Whether the file may have members of the pattern: as it is written, or with its names resolved, it has each word that the
     /// pattern needs, whatever names are known to hold literals, or one that counts as that. Where not, the pattern has no member
     /// in it.
@@ -135,43 +122,5 @@ impl<'v> WholeFile<'v> {
             None => Ok(false),
             Some(resolved) => resolved.may_have(alloc, pattern),
         }
-    }
-
-    // The members of the pattern in the file, with a step for each tree that is searched.
-    fn members<L: Ledger>(
-        &self,
-        alloc: Global,
-        pattern: &Pattern,
-        steps: &mut Steps<L>,
-    ) -> Result<Leaf, Memory>
-        ensures exact { IfOk result (seen_leaf self.now.lang (known_tree self.now) pattern.now) }
-        ensures cost { OnOk result (TakesSteps steps.old steps.new) }
-    {
-        let plain = match_ready(alloc, &self.written, pattern, steps)?;
-        match &self.resolved {
-            None => Ok(plain),
-            Some(resolved) => {
-                let further = match_ready(alloc, resolved, pattern, steps)?;
-                join_by_place(&plain, &further)
-            }
-        }
-    }
-}
-
-impl<'v> FileSearch for WholeFile<'v> {
-    ghost use Rattle.std.specs.Prelude.{◌≡◌};
-    ghost use Rattle.file_search.specs.Whole.{TakesSteps};
-
-    ghost file = { λ f. f };
-
-    ghost asks = { λ p f s g t. (g ≡ f) × TakesSteps s t };
-
-    fn leaf<L: Ledger>(
-        &mut self,
-        alloc: Global,
-        pattern: &Pattern,
-        steps: &mut Steps<L>,
-    ) -> Result<Leaf, Memory> {
-        self.members(alloc, pattern, steps)
     }
 }
