@@ -1,5 +1,5 @@
 -- Parts that follow data, and their findings.
-use Rattle.std.proofs.Common.{◌≡◌, ◌⊎◌, inl, inr, ◌↔◌, ℕ, zero, suc, ◌+◌, ◌<◌, ◌≤◌, Bool, true, false, cond, List, [], ◌∷◌, ◌++◌, length, map, take, drop, reverse, refl, sym, ap, ◌∙◌, subst, arith, append_assoc}
+use Rattle.std.proofs.Common.{◌≡◌, ◌⊎◌, inl, inr, ◌↔◌, ℕ, zero, suc, ◌+◌, ◌<◌, ◌≤◌, Bool, true, false, cond, List, [], ◌∷◌, ◌++◌, length, map, take, drop, reverse, refl, sym, ap, ◌∙◌, subst, arith}
 use Rattle.std.specs.Prelude.{Option, None, Some, IsSome, IsTrue, MatchOption, ◌==◌, slice_get}
 use Rattle.std.specs.List.{list_any}
 use Rattle.std.specs.declared.cmp.Ordering.{Ordering}
@@ -46,7 +46,7 @@ use Rattle.file_results.specs.HitOrder.{hit_total, hit_apart}
 use Rattle.file_results.specs.Judging.{IsJudged, IsHit, AreReported}
 use Rattle.file_results.specs.Looking.{Allows, LeafOf, named_leaf}
 use Rattle.file_results.specs.Reports.{reported}
-use Rattle.file_results.specs.Tracing.{stops_of, with_stops, PartHas, HasTrace}
+use Rattle.file_results.specs.Tracing.{stops_of, with_stops, HasTrace}
 use Rattle.file_results.specs.Followed.{stops_among, IsFollowedBy, IsFollowedPart, AreFollowedParts, AreFollowedRules, AreTraced, LooksAndHas, HasStops, RuleHas, HasRuleStops, HasTraceBy, AreFoundHits, IsWanted, AreOfHits}
 use Rattle.file_results.proofs.Judged.{leaves_one}
 use Rattle.file_results.proofs.Traces.{none_some, all_traced}

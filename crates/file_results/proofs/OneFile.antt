@@ -1,5 +1,5 @@
 -- What a file shows that is opened so.
-use Rattle.std.proofs.Common.{◌≡◌, ◌⊎◌, inl, inr, ◌↔◌, ℕ, ◌<◌, List, [], ◌∷◌, ◌++◌, sym, ◌∙◌, subst}
+use Rattle.std.proofs.Common.{◌≡◌, ◌⊎◌, inl, inr, ◌↔◌, ℕ, List, [], ◌++◌, sym, subst}
 use Rattle.node_tree.specs.declared.view.Lang.{Lang}
 use Rattle.rule_form.specs.declared.rule.Rule.{Rule}
 use Rattle.node_match.specs.Sets.{Among, Adds}

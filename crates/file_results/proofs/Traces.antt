@@ -1,14 +1,12 @@
 -- A finding has one trace, and lists of findings with their traces.
-use Rattle.std.proofs.Common.{◌≡◌, ◌⊎◌, inl, inr, ◌↔◌, ℕ, Bool, true, false, List, [], ◌∷◌, ◌++◌, refl, sym, ap, ◌∙◌, subst, append_assoc, append-nil}
-use Rattle.std.specs.Prelude.{Option, None, Some, IsSome, slice_get}
-use Rattle.std.specs.declared.cmp.Ordering.{Ordering}
+use Rattle.std.proofs.Common.{◌≡◌, inl, inr, ℕ, Bool, true, false, List, [], ◌∷◌, ◌++◌, refl, sym, ap, ◌∙◌, subst, append_assoc, append-nil}
+use Rattle.std.specs.Prelude.{Option, None, Some, IsSome}
 use Rattle.std.specs.declared.cmp.Ordering.TheVariants.{Less}
 use Rattle.node_tree.specs.declared.node.Node.{Node}
 use Rattle.node_tree.specs.declared.view.Lang.{Lang}
 use Rattle.graph_form.specs.declared.graph.Point.{Point}
 use Rattle.graph_form.specs.declared.graph.Role.{Role}
 use Rattle.meta_bind.specs.declared.finding.Finding.{Finding}
-use Rattle.rule_form.specs.declared.rule.Body.{Body}
 use Rattle.rule_form.specs.declared.rule.Body.TheVariants.{Taint}
 use Rattle.rule_form.specs.declared.rule.Part.{Part}
 use Rattle.rule_form.specs.declared.rule.Rule.{Rule}
@@ -27,7 +25,7 @@ use Rattle.file_results.specs.Reports.{reported_cmp}
 use Rattle.file_results.specs.Looking.{LeafOf, LooksAt, named_leaf}
 use Rattle.file_results.specs.Shown.{IsFoundIn}
 use Rattle.file_results.specs.Tracing.{stops_of, with_stops, PartHas, IsPartTrace, IsRuleTrace, IsTraced, HasTrace}
-use Rattle.file_results.specs.Followed.{HasTraceBy, AreTraced, IsTracedIn}
+use Rattle.file_results.specs.Followed.{AreTraced, IsTracedIn}
 use Rattle.file_results.proofs.Judged.{leaves_one}
 
 -- ---- the first such item of a list

@@ -1,5 +1,5 @@
 -- What the code knows of parts that follow data, and of findings with their traces.
-use Rattle.std.specs.Prelude.{◌≡◌, ◌⊎◌, ℕ, Bool, List, [], ◌∷◌, Option, None, Some, slice_get, length, map, IsSome, MatchOption, true}
+use Rattle.std.specs.Prelude.{◌≡◌, ◌⊎◌, ℕ, Bool, List, [], ◌∷◌, Option, None, Some, slice_get, length, map, IsSome, MatchOption}
 use Rattle.node_tree.specs.declared.node.Node.{Node}
 use Rattle.node_tree.specs.declared.view.Lang.{Lang}
 use Rattle.graph_form.specs.declared.graph.Point.{Point}

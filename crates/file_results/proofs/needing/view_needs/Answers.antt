@@ -1,7 +1,6 @@
-use Rattle.std.proofs.Common.{◌≡◌, ◌↔◌, ◌∙◌, inl, false, true, refl, sym, IsTrue, subst}
+use Rattle.std.proofs.Common.{◌≡◌, ◌↔◌, ◌∙◌, inl, false, true, refl, IsTrue, subst}
 use Rattle.std.specs.Prelude.{IfOk}
 use Rattle.node_tree.specs.declared.view.FileView.{FileView}
-use Rattle.node_tree.specs.declared.view.Pattern.{Pattern}
 use Rattle.file_match.specs.Words.{MayHave}
 use Rattle.file_search.specs.Whole.{MayHaveIn}
 use Rattle.file_results.specs.Needing.{RulesUse}

@@ -1,4 +1,4 @@
-use Rattle.std.proofs.Common.{◌≡◌, true, false, inl, inr, List, sym, ◌∙◌, refl, subst, drop}
+use Rattle.std.proofs.Common.{◌≡◌, true, false, inl, inr, List, sym, ◌∙◌, refl, subst}
 use Rattle.std.proofs.lemmas.List.{drop_all}
 use Rattle.meta_bind.specs.declared.finding.Finding.{Finding}
 use Rattle.meta_bind.proofs.Lookups.{opened}

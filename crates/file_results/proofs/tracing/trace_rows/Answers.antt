@@ -1,4 +1,4 @@
-use Rattle.std.proofs.Common.{◌≡◌, ◌<◌, ◌+◌, ℕ, true, List, [], length, reverse, drop, refl, sym, ap, ◌∙◌, subst, arith, rules}
+use Rattle.std.proofs.Common.{◌≡◌, ◌<◌, ◌+◌, true, List, length, reverse, drop, refl, sym, ap, ◌∙◌, subst, arith, rules}
 use Rattle.std.specs.Prelude.{Option, IsSome, Some, slice_get}
 use Rattle.std.proofs.lemmas.List.{drop_all, reverse-reverse}
 use Rattle.std.proofs.lemmas.Option.{slice_get_read, slice_get_within}
