@@ -1,4 +1,5 @@
 pub mod Orders
+pub mod Worded
 pub mod Quieted
 pub mod Somes
 pub mod Views

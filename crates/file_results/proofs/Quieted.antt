@@ -20,12 +20,13 @@ use Rattle.file_results.specs.Sets.{IsExactly}
 use Rattle.file_results.specs.Reports.{reported_cmp}
 use Rattle.file_results.specs.HitOrder.{reported_total}
 use Rattle.file_results.specs.Looking.{LeafOf}
-use Rattle.file_results.specs.Quieted.{Comments, IsQuietedIn, is_quieted_by, AreQuiets, AreUnquieted, unmarked}
+use Rattle.file_results.specs.Quieted.{Comments, IsQuietedIn, is_quieted_by, HasWord, AreQuiets, AreUnquieted, unmarked}
 use Rattle.file_results.specs.Shown.{IsShownIn}
 use Rattle.file_results.specs.Tracing.{HasTrace}
 use Rattle.file_results.specs.Followed.{IsTracedIn}
 use Rattle.file_results.proofs.Traces.{same_but_stops}
 use Rattle.file_results.proofs.Orders.{tail_ascends, first_below}
+use Rattle.file_results.proofs.Worded.{quiets_none}
 
 -- ---- items that pass a test
 
@@ -159,6 +160,13 @@ module _ (comments : Comments) (lang : Lang) (text : List ℕ) where
   none_found found e =
       let P : List Reported → Type 0 = λ rs. AreUnquieted comments lang text rs rs in
       subst P (sym e) (record { exact = λ r. (λ k. absurd k, λ k. absurd k.0); ordered = λ up. up })
+
+  -- without the word that comments quiet by none is quieted
+  pub unworded : (found : List Reported) → (HasWord text → ⊥) → AreUnquieted comments lang text found found
+  unworded found none = record {
+    exact = λ r. (λ k. (k, λ q. let P : List Quiet → Type 0 = λ quiets. is_quieted_by quiets r ≡ true in false≢true (subst P (quiets_none text none q.0) q.2)), λ k. k.0);
+    ordered = λ up. up;
+  }
 
   -- what is found and not quieted is what is shown
   module _ (leaf_of : LeafOf) (traced : Bool) (rules : List Rule) (path : List ℕ) (tree : Node) where

@@ -8,9 +8,11 @@ use Rattle.tree_match.specs.Ascending.{IsAscending}
 use Rattle.file_open.specs.Reading.{Spells}
 use Rattle.file_open.specs.Naming.{Knows}
 use Rattle.quieting.specs.declared.quiet.Quiet.{Quiet}
+use Rattle.quieting.specs.Comments.{quieting_word}
 use Rattle.quieting.specs.Quieting.{quiets_of}
 use Rattle.quieting.specs.Lines.{is_quieted}
 use Rattle.report_form.specs.declared.report.Reported.{Reported}
+use Rattle.memchr.specs.Find.{OccursAt}
 use Rattle.file_results.specs.Looking.{LeafOf, own_leaf}
 use Rattle.file_results.specs.Reports.{reported_cmp}
 
@@ -46,6 +48,10 @@ abbrev pub IsQuietedIn : Comments → Lang → List ℕ → Reported → Type 0
 IsQuietedIn comments lang text r = (spans : List Span) × HasComments comments lang text spans × (is_quieted_by (quiets_of text spans) r ≡ true)
 
 -- ---- for private clauses
+
+-- the word that comments quiet by stands somewhere in the text
+abbrev pub HasWord : List ℕ → Type 0
+HasWord text = (at : ℕ) × OccursAt text quieting_word at
 
 -- the comments of the file quiet this
 pub record AreQuiets (comments : Comments) (lang : Lang) (text : List ℕ) (quiets : List Quiet) : Type 0 where

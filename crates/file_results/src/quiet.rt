@@ -1,13 +1,21 @@
 //! Findings that comments quiet.
 
-ghost use Rattle.std.specs.Prelude.{◌≡◌, map, IfOk};
-ghost use Rattle.file_results.specs.Quieted.{is_quieted_by, unmarked, AreQuiets, AreUnquieted};
+ghost use Rattle.std.specs.Prelude.{◌≡◌, ◌↔◌, map, IsTrue, IfOk};
+ghost use Rattle.file_results.specs.Quieted.{is_quieted_by, unmarked, HasWord, AreQuiets, AreUnquieted};
 
 use comment_reader::CommentReader;
+use memchr::memmem;
 use node_tree::{FileView, Lang, List, Memory};
 use quieting::{Quiet, is_quieted, quiet_lines, quiets};
 use report_form::Reported;
 use std::alloc::Global;
+
+// Whether the word that comments quiet by stands in the text.
+fn has_word(text: &[u8]) -> bool
+    ensures { IsTrue result ↔ HasWord text.now }
+{
+    memmem::find(text, b"nosemgrep").is_some()
+}
 
 // What the comments of the file quiet. Only a file in Python or C has comments.
 fn quiets_in<R: CommentReader>(
@@ -66,8 +74,8 @@ fn keep_unmarked(
     Ok(kept)
 }
 
-/// Those of the findings in the file that no comment there quiets, in the same order. Comments are not looked for without a
-/// finding.
+/// Those of the findings in the file that no comment there quiets, in the same order. Comments are looked for only where there
+/// is a finding, and where the text has the word that they quiet by.
 pub fn without_quieted<R: CommentReader>(
     alloc: Global,
     reader: &R,
@@ -76,7 +84,7 @@ pub fn without_quieted<R: CommentReader>(
 ) -> Result<List<Reported>, Memory>
     ensures { IfOk result (AreUnquieted (R.comments reader.now) view.now.lang view.now.bytes found) }
 {
-    if found.is_empty() {
+    if found.is_empty() || !has_word(view.bytes.as_slice()) {
         return Ok(found);
     }
     let quiets = quiets_in(alloc, reader, view)?;
