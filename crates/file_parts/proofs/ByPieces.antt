@@ -1,5 +1,5 @@
 -- The leaf of a file from those of its parts.
-use Rattle.std.proofs.Common.{◌≡◌, ℕ, ◌+◌, List, [], ◌∷◌, ◌++◌, ◌⊎◌, inl, inr, ◌↔◌, map, refl, sym, ap, subst, Bool, true, false}
+use Rattle.std.proofs.Common.{◌≡◌, ℕ, ◌+◌, List, [], ◌∷◌, ◌++◌, ◌⊎◌, inl, inr, ◌↔◌, map, refl, sym, ap, subst, arith, Bool, true, false}
 use Rattle.std.specs.Prelude.{not, ◌&&◌, ◌||◌, if◌then◌else◌}
 use Rattle.std.specs.List.{list_all}
 use Rattle.node_tree.specs.declared.node.Node.{Node}
@@ -15,10 +15,11 @@ use Rattle.node_match.specs.Sets.{Among}
 use Rattle.piece_form.specs.declared.piece.Placed.{Placed}
 use Rattle.piece_form.specs.Cut.{piece_at, pieces_from, pieces_of}
 use Rattle.tree_match.specs.declared.leaf.Leaf.{Leaf}
+use Rattle.tree_match.specs.declared.leaf.Leaf.TheVariants.{Full}
 use Rattle.tree_match.specs.Leaf.{IsLeaf}
 use Rattle.tree_match.specs.Members.{Member, IsMember, known_tree}
 use Rattle.piece_match.specs.declared.unite.PlacedLeaf.{PlacedLeaf}
-use Rattle.piece_match.specs.Moved.{Moved, moved_leaf}
+use Rattle.piece_match.specs.Moved.{Moved, moved_leaf, moved_member}
 use Rattle.piece_match.specs.Pieces.{is_root, stands_alone, falls_apart, is_cut, RootRun, MemberOfPiece, IsPieceMember, known_piece, IsMemberUnder}
 use Rattle.piece_match.specs.Union.{IsUnion, InAny, AreLeaves, moved_part}
 use Rattle.piece_match.proofs.Amongs.{among_first, among_second, among_either}
@@ -35,12 +36,11 @@ needs_whole pattern view = is_run pattern.shape || not (is_cut pattern view.tree
 abbrev pub parts_for : Pattern → FileView → List Placed
 parts_for pattern view = (if is_cut pattern view.tree then pieces_of view else []) ++ (if needs_whole pattern view then whole_part view ∷ [] else [])
 
--- these are the leaves of a pattern in those pieces, each with where its piece starts
-abbrev pub AreLeavesIn : Pattern → List Placed → List PlacedLeaf → Type 0
-AreLeavesIn pattern [] [] = Unit {0}
-AreLeavesIn pattern [] (l ∷ ls) = ⊥
-AreLeavesIn pattern (p ∷ ps) [] = ⊥
-AreLeavesIn pattern (p ∷ ps) (l ∷ ls) = (l.start ≡ p.start) × IsLeaf (IsPieceMember pattern (known_piece p.piece)) l.leaf.now × AreLeavesIn pattern ps ls
+-- these are the leaves of a pattern in those pieces, each with where its piece starts; pieces without members may be left out
+pub data AreLeavesIn (pattern : Pattern) : List Placed → List PlacedLeaf → Type 0 where
+  no_piece : AreLeavesIn pattern [] []
+  piece_less : {p : Placed} {ps : List Placed} {ls : List PlacedLeaf} → IsLeaf (IsPieceMember pattern (known_piece p.piece)) (Full []) → AreLeavesIn pattern ps ls → AreLeavesIn pattern (p ∷ ps) ls
+  piece_more : {p : Placed} {l : PlacedLeaf} {ps : List Placed} {ls : List PlacedLeaf} → l.start ≡ p.start → IsLeaf (IsPieceMember pattern (known_piece p.piece)) l.leaf.now → AreLeavesIn pattern ps ls → AreLeavesIn pattern (p ∷ ps) (l ∷ ls)
 
 -- the members of a part where it stands
 abbrev PartSet : Pattern → Placed → Member → Type 0
@@ -175,16 +175,54 @@ module _ (pattern : Pattern) (view : FileView) where
 
   -- ---- leaves
 
-  moved_leaves : (ps : List Placed) (ls : List PlacedLeaf) → AreLeavesIn pattern ps ls → AreLeaves (PartSet pattern) ps (map moved_part ls)
-  moved_leaves [] [] all = tt
-  moved_leaves [] (l ∷ ls) all = absurd all
-  moved_leaves (p ∷ ps) [] all = absurd all
-  moved_leaves (p ∷ ps) (l ∷ ls) (e, x, rest) =
+  -- those of the pieces that are not left out: these are their leaves, and they have all members
+  record NotLeftOut (ps : List Placed) (ls : List PlacedLeaf) : Type 0 where
+    some : List Placed
+    leaves : AreLeaves (PartSet pattern) some (map moved_part ls)
+    all : (m : Member) → InAny (PartSet pattern) some m ↔ InAny (PartSet pattern) ps m
+
+  -- a piece in front that has no member
+  less_in : (p : Placed) (some ps : List Placed) (m : Member) → IsLeaf (IsPieceMember pattern (known_piece p.piece)) (Full [])
+      → InAny (PartSet pattern) some m ↔ InAny (PartSet pattern) ps m → InAny (PartSet pattern) some m ↔ InAny (PartSet pattern) (p ∷ ps) m
+  less_in p some ps m none same = (
+    λ x. (let (k, a, y) = same.0 x in (k, inr a, y)),
+    λ (k, a, y). elim a [ inl e ↦ absurd (let P : Placed → Type 0 = λ q. PartSet pattern q m in let (z, f, w) = subst P (sym e) y in (none.0.exact z).1 w) | inr b ↦ same.1 (k, b, y) ],
+  )
+
+  -- one that is not left out
+  more_in : (p : Placed) (some ps : List Placed) (m : Member) → InAny (PartSet pattern) some m ↔ InAny (PartSet pattern) ps m → InAny (PartSet pattern) (p ∷ some) m ↔ InAny (PartSet pattern) (p ∷ ps) m
+  more_in p some ps m same = (
+    λ (k, a, y). elim a [ inl e ↦ (k, inl e, y) | inr b ↦ (let (l, c, z) = same.0 (k, b, y) in (l, inr c, z)) ],
+    λ (k, a, y). elim a [ inl e ↦ (k, inl e, y) | inr b ↦ (let (l, c, z) = same.1 (k, b, y) in (l, inr c, z)) ],
+  )
+
+  not_left_out : (ps : List Placed) (ls : List PlacedLeaf) → AreLeavesIn pattern ps ls → NotLeftOut ps ls
+  not_left_out _ _ no_piece = record { some = []; leaves = tt; all = λ m. (λ x. x, λ x. x) }
+  not_left_out _ ls (piece_less {p = p} {ps = ps} none are) =
+      let rest = not_left_out ps ls are in
+      record { some = rest.some; leaves = rest.leaves; all = λ m. less_in p rest.some ps m none (rest.all m) }
+  not_left_out _ _ (piece_more {p = p} {l = l} {ps = ps} {ls = ls} e x are) =
+      let rest = not_left_out ps ls are in
       let P : ℕ → Type 0 = λ by. IsLeaf (PartSet pattern p) (moved_leaf by l.leaf.now) in
-      (subst P (sym e) (leaf_moved p.start (IsPieceMember pattern (known_piece p.piece)) l.leaf.now x), moved_leaves ps ls rest)
+      record {
+        some = p ∷ rest.some;
+        leaves = (subst P (sym e) (leaf_moved p.start (IsPieceMember pattern (known_piece p.piece)) l.leaf.now x), rest.leaves);
+        all = λ m. more_in p rest.some ps m (rest.all m);
+      }
 
   -- the union of the leaves in the pieces is the leaf in the view
   pub union_is : (ls : List PlacedLeaf) (leaf : Leaf) → AreLeavesIn pattern (parts_for pattern view) ls → IsUnion (map moved_part ls) leaf → IsLeaf (IsMember pattern (known_tree view)) leaf
-  union_is ls leaf all is =
-      leaf_as (InAny (PartSet pattern) (parts_for pattern view)) (IsMember pattern (known_tree view)) leaf whole_set
-      (union_leaf (PartSet pattern) (parts_for pattern view) (map moved_part ls) leaf (moved_leaves (parts_for pattern view) ls all) is)
+  union_is ls leaf are is =
+      let rest = not_left_out (parts_for pattern view) ls are in
+      leaf_as (InAny (PartSet pattern) rest.some) (IsMember pattern (known_tree view)) leaf (λ m. (λ x. (whole_set m).0 ((rest.all m).0 x), λ x. (rest.all m).1 ((whole_set m).1 x)))
+      (union_leaf (PartSet pattern) rest.some (map moved_part ls) leaf rest.leaves is)
+
+  -- where the pattern has no member in the view, it has none in a piece that it is matched in
+  pub none_in_piece : ((m : Member) → IsMember pattern (known_tree view) m → ⊥) → (p : Placed) → Among (parts_for pattern view) p → IsLeaf (IsPieceMember pattern (known_piece p.piece)) (Full [])
+  none_in_piece none p a = (
+    record {
+      exact = λ m. (λ h. absurd h, λ x. none (moved_member p.start m) ((whole_set (moved_member p.start m)).0 (p, a, (m, refl, x))));
+      ordered = tt;
+    },
+    omega arith,
+  )

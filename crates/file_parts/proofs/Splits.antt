@@ -4,14 +4,16 @@ use Rattle.std.specs.Prelude.{if◌then◌else◌}
 use Rattle.std.proofs.lemmas.List.{append-nil}
 use Rattle.node_tree.specs.declared.view.FileView.{FileView}
 use Rattle.node_tree.specs.declared.view.Pattern.{Pattern}
+use Rattle.node_match.specs.Sets.{Among}
+use Rattle.tree_match.specs.Members.{Member, IsMember, known_tree}
 use Rattle.piece_form.specs.declared.piece.Placed.{Placed}
 use Rattle.piece_form.specs.Cut.{pieces_of}
 use Rattle.piece_match.specs.declared.unite.PlacedLeaf.{PlacedLeaf}
 use Rattle.piece_match.specs.Pieces.{falls_apart, is_cut}
 use Rattle.file_parts.specs.declared.joining.PartLeaf.{PartLeaf}
 use Rattle.file_parts.specs.Parts.{SeenPart, seen_part, is_needed, needed_of, whole_part, parts_in, AreFurther, ArePartsOf}
-use Rattle.file_parts.specs.Leaves.{AreLeavesOf, is_same, those_leaves}
-use Rattle.file_parts.proofs.ByPieces.{needs_whole, parts_for, AreLeavesIn}
+use Rattle.file_parts.specs.Leaves.{IsLeafIn, HasNoneIn, HasNoneWritten, AreLeavesOf, no_leaf, one_less, one_more, is_same, those_leaves}
+use Rattle.file_parts.proofs.ByPieces.{needs_whole, parts_for, AreLeavesIn, no_piece, piece_less, piece_more, none_in_piece}
 use Rattle.file_parts.proofs.Resolving.{python_resolved}
 
 -- ---- leaves
@@ -26,21 +28,39 @@ abbrev placed_leaf : PartLeaf → PlacedLeaf
 placed_leaf l = record { start = l.part.placed.now.start; leaf = l.leaf }
 
 module _ (pattern : Pattern) (b : Bool) where
-  leaf_more : (p : SeenPart) (l : PartLeaf) (ps : List SeenPart) (ls : List PartLeaf) (s t : Bool) → seen_part l.part ≡ p → t ≡ s → AreLeavesOf pattern (p ∷ []) (l ∷ []) → AreLeavesIn pattern (places ps) (map placed_leaf ls)
+  leaf_less : (p : SeenPart) (ps : List SeenPart) (ls : List PlacedLeaf) (s : Bool) → HasNoneIn pattern p → AreLeavesIn pattern (places ps) ls → AreLeavesIn pattern (places (cond s (p ∷ ps) ps)) ls
+  leaf_less p ps ls true none rest = piece_less none rest
+  leaf_less p ps ls false none rest = rest
+
+  leaf_more : (p : SeenPart) (l : PartLeaf) (ps : List SeenPart) (ls : List PartLeaf) (s t : Bool) → seen_part l.part ≡ p → t ≡ s → IsLeafIn pattern p l.leaf.now → AreLeavesIn pattern (places ps) (map placed_leaf ls)
       → AreLeavesIn pattern (places (cond s (p ∷ ps) ps)) (map placed_leaf (cond t (l ∷ ls) ls))
-  leaf_more p l ps ls true true e same (is, x, end) rest = (ap (λ (q : SeenPart). q.placed.start) e, x, rest)
-  leaf_more p l ps ls false false e same one rest = rest
-  leaf_more p l ps ls true false e same one rest = absurd (let f : false ≡ true = same in cc)
-  leaf_more p l ps ls false true e same one rest = absurd (let f : true ≡ false = same in cc)
+  leaf_more p l ps ls true true e same x rest = piece_more (ap (λ (q : SeenPart). q.placed.start) e) x rest
+  leaf_more p l ps ls false false e same x rest = rest
+  leaf_more p l ps ls true false e same x rest = absurd (let f : false ≡ true = same in cc)
+  leaf_more p l ps ls false true e same x rest = absurd (let f : true ≡ false = same in cc)
 
   pub leaves_split : (ps : List SeenPart) (ls : List PartLeaf) → AreLeavesOf pattern ps ls → AreLeavesIn pattern (places (those_parts b ps)) (those_leaves b ls)
-  leaves_split [] [] all = tt
-  leaves_split [] (l ∷ ls) all = absurd all
-  leaves_split (p ∷ ps) [] all = absurd all
-  leaves_split (p ∷ ps) (l ∷ ls) (e, x, rest) =
-      leaf_more p l (those_parts b ps) (filter (λ (l : PartLeaf). is_same b l.part.resolved) ls) (is_same b p.resolved) (is_same b l.part.resolved) e (ap (λ (q : SeenPart). is_same b q.resolved) e) (e, x, tt) (leaves_split ps ls rest)
+  leaves_split _ _ no_leaf = no_piece
+  leaves_split _ ls (one_less {p = p} {ps = ps} none rest) = leaf_less p (those_parts b ps) (those_leaves b ls) (is_same b p.resolved) none (leaves_split ps ls rest)
+  leaves_split _ _ (one_more {p = p} {l = l} {ps = ps} {ls = ls} e x rest) =
+      leaf_more p l (those_parts b ps) (filter (λ (l : PartLeaf). is_same b l.part.resolved) ls) (is_same b p.resolved) (is_same b l.part.resolved) e (ap (λ (q : SeenPart). is_same b q.resolved) e) x (leaves_split ps ls rest)
 
 -- ---- parts
+
+among_left : (T : SeenPart → Bool) (ps : List SeenPart) (p : SeenPart) → T p ≡ true → Among ps p → Among (filter T ps) p
+among_left T [] p e a = absurd a
+among_left T (q ∷ qs) p e a = by (T q) refl a (among_left T qs p e)
+  where
+    by : (b : Bool) → T q ≡ b → Among (q ∷ qs) p → (Among qs p → Among (filter T qs) p) → Among (cond b (q ∷ filter T qs) (filter T qs)) p
+    by true f (inl same) rest = inl same
+    by true f (inr more) rest = inr (rest more)
+    by false f (inl same) rest = absurd (let g : true ≡ false = sym e ∙ sym (ap T same) ∙ f in cc)
+    by false f (inr more) rest = rest more
+
+among_placed : (ps : List SeenPart) (p : SeenPart) → Among ps p → Among (places ps) p.placed
+among_placed [] p a = absurd a
+among_placed (q ∷ qs) p (inl same) = inl (ap (λ (r : SeenPart). r.placed) same)
+among_placed (q ∷ qs) p (inr more) = inr (among_placed qs p more)
 
 module _ (N T : SeenPart → Bool) where
   abbrev chosen : List SeenPart → List Placed
@@ -140,6 +160,14 @@ module _ (pattern : Pattern) where
     pub no_parts : are.further ≡ [] → of_view true all ≡ []
     no_parts e = resolved_parts ∙ ap (of_view true) e
 
+    -- where the pattern has no member in the file, it has none in the parts of the file as it is written
+    pub none_written : ((m : Member) → IsMember pattern (known_tree view) m → ⊥) → HasNoneWritten pattern all
+    none_written none p a plain needs =
+        let P : List Placed → Type 0 = λ ps. Among ps p.placed in
+        let T : SeenPart → Bool = λ q. is_same false q.resolved in
+        let left = among_left T (needed_of pattern all) p (ap (is_same false) plain) (among_left (is_needed pattern) all p needs a) in
+        none_in_piece pattern view none p.placed (subst P written_parts (among_placed (those_parts false (needed_of pattern all)) p left))
+
     module _ (ls : List PartLeaf) (leaves : AreLeavesOf pattern (needed_of pattern all) ls) where
       pub written_leaves : AreLeavesIn pattern (parts_for pattern view) (those_leaves false ls)
       written_leaves = let P : List Placed → Type 0 = λ ps. AreLeavesIn pattern ps (those_leaves false ls) in subst P written_parts (leaves_split pattern false (needed_of pattern all) ls leaves)
@@ -150,8 +178,9 @@ module _ (pattern : Pattern) where
       pub no_leaves : are.further ≡ [] → those_leaves true ls ≡ []
       no_leaves e =
           let P : List Placed → Type 0 = λ ps. AreLeavesIn pattern ps (those_leaves true ls) in
-          none (those_leaves true ls) (subst P (no_parts e) (leaves_split pattern true (needed_of pattern all) ls leaves))
+          none _ _ refl (subst P (no_parts e) (leaves_split pattern true (needed_of pattern all) ls leaves))
         where
-          none : (ls : List PlacedLeaf) → AreLeavesIn pattern [] ls → ls ≡ []
-          none [] all = refl
-          none (l ∷ ls) all = absurd all
+          none : (ps : List Placed) (ls : List PlacedLeaf) → ps ≡ [] → AreLeavesIn pattern ps ls → ls ≡ []
+          none _ _ e no_piece = refl
+          none _ _ e (piece_less x rest) = absurd cc
+          none _ _ e (piece_more f x rest) = absurd cc

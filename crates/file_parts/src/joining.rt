@@ -44,8 +44,8 @@ fn those<'l>(
 }
 
 /// What a pattern has in a file, seen through its imports, from what it has in the parts that it needs: of whichever file and
-/// pattern these are the leaves, in order of the parts. It takes no step. In a file no place passes the largest `u32`, so there
-/// `Memory` is want of memory alone.
+/// pattern these are the leaves, in order of the parts. Parts in which the pattern has no member may be left out. It takes no step.
+/// In a file no place passes the largest `u32`, so there `Memory` is want of memory alone.
 pub fn join(alloc: Global, leaves: &[PartLeaf<'_>]) -> Result<Leaf, Memory>
     ensures exact { (pattern : a_pattern) (view : a_view) (all : list SeenPart) →
         ArePartsOf view all → AreLeavesOf pattern (needed_of pattern all) leaves.now →

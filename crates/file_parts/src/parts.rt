@@ -111,6 +111,13 @@ pub fn parts_of(view: &FileView) -> Result<Parts<'_>, Memory>
 }
 
 impl<'v> Parts<'v> {
+    /// The file.
+    pub fn view(&self) -> &'v FileView
+        ensures { result.now ≡ self.now }
+    {
+        self.view
+    }
+
     /// The parts in order: the statements and the whole of the file as it is written, then of a file in Python the same with
     /// its names resolved, unless that changes nothing.
     pub fn all(&self, alloc: Global) -> Result<List<Part<'_>>, Memory>
