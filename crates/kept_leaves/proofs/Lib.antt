@@ -7,3 +7,4 @@ pub mod Growing
 pub mod Meeting
 pub mod Asking
 pub mod Places
+pub mod Finding

@@ -1,26 +1,15 @@
 -- The parts that a pattern needs, one after the other.
 use Rattle.std.proofs.Common.{◌≡◌, ◌∙◌, ℕ, ◌+◌, ◌<◌, List, [], ◌∷◌, ◌++◌, ◌⊎◌, inl, inr, ◌↔◌, length, take, map, get_or, sym, ap, subst, Bool, true, false, cond}
 use Rattle.std.specs.Prelude.{Option, None, Some, option_map}
-use Rattle.std.proofs.lemmas.List.{append-nil, map-append, take_more, get_or_default}
+use Rattle.std.proofs.lemmas.List.{map-append, take_more, get_or_default}
 use Rattle.std.proofs.lemmas.List.Elements.{filter-append}
 use Rattle.node_tree.specs.declared.view.Pattern.{Pattern}
-use Rattle.tree_match.specs.Leaf.{IsLeaf}
-use Rattle.piece_match.specs.Pieces.{IsPieceMember, known_piece}
-use Rattle.file_parts.specs.declared.joining.PartLeaf.{PartLeaf}
-use Rattle.file_parts.specs.Parts.{SeenPart, seen_part, is_needed, needed_of}
-use Rattle.file_parts.specs.Leaves.{AreLeavesOf}
+use Rattle.file_parts.specs.Parts.{SeenPart, is_needed, needed_of}
 use Rattle.kept_leaves.specs.declared.leaf.KeptLeaf.{KeptLeaf}
 use Rattle.kept_leaves.specs.Pairs.{Pair, IsSamePair, IsOneOf}
 use Rattle.kept_leaves.specs.Ready.{pair_of, pairs_of}
 use Rattle.kept_leaves.proofs.Laws.{some_pair}
 use Rattle.kept_leaves.proofs.Pairs.{alone, one_alone, one_first, one_second, one_either}
-
-leaves_last : (pattern : Pattern) (ps : List SeenPart) (ls : List PartLeaf) (p : SeenPart) (l : PartLeaf) → AreLeavesOf pattern ps ls
-    → seen_part l.part ≡ p → IsLeaf (IsPieceMember pattern (known_piece p.placed.piece)) l.leaf.now → AreLeavesOf pattern (ps ++ p ∷ []) (ls ++ l ∷ [])
-leaves_last pattern [] [] p l are e leaf = (e, leaf, tt)
-leaves_last pattern [] (m ∷ ms) p l are e leaf = absurd are
-leaves_last pattern (q ∷ qs) [] p l are e leaf = absurd are
-leaves_last pattern (q ∷ qs) (m ∷ ms) p l (f, k, rest) e leaf = (f, k, leaves_last pattern qs ms p l rest e leaf)
 
 -- the parts of one part that a pattern needs: it, or none
 module _ (pattern : Pattern) (p : SeenPart) where
@@ -42,18 +31,6 @@ module _ (pattern : Pattern) (p : SeenPart) where
     pair_out e x =
         let P : List Pair → Type 0 = λ ps. ⊥ ↔ IsOneOf ps x in
         subst P (sym (ap (map (pair_of path pattern)) (needed_out e))) (λ h. absurd h, λ (y, a, same). absurd a)
-
-  -- its leaf is added
-  pub leaf_here : (ps : List SeenPart) (ls : List PartLeaf) (l : PartLeaf) → is_needed pattern p ≡ true → seen_part l.part ≡ p → IsLeaf (IsPieceMember pattern (known_piece p.placed.piece)) l.leaf.now
-      → AreLeavesOf pattern ps ls → AreLeavesOf pattern (ps ++ needed_of pattern (p ∷ [])) (ls ++ l ∷ [])
-  leaf_here ps ls l e same leaf are =
-      let P : List SeenPart → Type 0 = λ qs. AreLeavesOf pattern (ps ++ qs) (ls ++ l ∷ []) in
-      subst P (sym (needed_here e)) (leaves_last pattern ps ls p l are same leaf)
-
-  pub leaf_out : (ps : List SeenPart) (ls : List PartLeaf) → is_needed pattern p ≡ false → AreLeavesOf pattern ps ls → AreLeavesOf pattern (ps ++ needed_of pattern (p ∷ [])) ls
-  leaf_out ps ls e are =
-      let P : List SeenPart → Type 0 = λ qs. AreLeavesOf pattern qs ls in
-      subst P (sym (ap (λ (qs : List SeenPart). ps ++ qs) (needed_out e) ∙ append-nil ps)) are
 
 -- what is read of a list is read of an equal one
 pub read_again : (parts now : List SeenPart) (i : ℕ) (d : SeenPart) → now ≡ parts → i < length parts → get_or now i d ≡ get_or parts i (get_or now i d)

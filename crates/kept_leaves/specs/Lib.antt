@@ -4,3 +4,4 @@ pub mod Growth
 pub mod Ready
 pub mod Opened
 pub mod Asking
+pub mod Found

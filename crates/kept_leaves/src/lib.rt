@@ -5,6 +5,7 @@
 #![tactic(auto)]
 
 mod asked;
+mod found;
 mod kept;
 mod leaf;
 mod matching;

@@ -62,6 +62,13 @@ impl<'p> ReadyPart<'p> {
         self.part.is_needed(pattern)
     }
 
+    /// Whether the part is one of the file with its names resolved.
+    pub fn is_resolved(&self) -> bool
+        ensures { result ≡ self.now.resolved }
+    {
+        self.part.resolved
+    }
+
     /// What a pattern has in the part's piece. It is one step.
     pub fn match_in<L: Ledger>(
         &mut self,

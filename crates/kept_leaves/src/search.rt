@@ -11,6 +11,7 @@ use crate::leaf::{KeptPairs, OpenLeaves};
 use crate::matching::ask;
 use crate::opening::open_parts;
 use crate::part::ReadyPart;
+use file_match::ReadyFile;
 use file_parts::Parts;
 use file_search::FileSearch;
 use node_tree::{Memory, Pattern, Steps, Text};
@@ -21,11 +22,13 @@ use std::sync::ledger::Ledger;
 use tree_match::Leaf;
 
 /// A search of one file that answers by what is kept, and keeps what it matches. What is kept of the file's pieces is in hand, so a
-/// question costs no search for the path and the pieces. Contracts see the file with its parts, and what is kept.
+/// question costs no search for the path and the pieces. The file is ready, so a pattern that needs a word which it lacks is matched in
+/// no piece of the file as it is written. Contracts see the file with its parts, and what is kept.
 #[derive(Drop)]
 pub struct KeptSearch<'p> {
     leaves: OpenLeaves,
     file: &'p Parts<'p>,
+    ready: ReadyFile<'p>,
     parts: Vec<ReadyPart<'p>>,
     places: Vec<usize>,
 }
@@ -38,6 +41,7 @@ impl<'p> Model for KeptSearch<'p> {
     ghost use Rattle.node_tree.specs.contracts.view.FileView as file_views;
     ghost use Rattle.piece_form.specs.contracts.piece.Placed as placeds;
     ghost use Rattle.std.specs.Coded.{codes};
+    ghost use Rattle.std.specs.Prelude.{◌≡◌};
 
     ghost Value = { Search };
 
@@ -45,7 +49,7 @@ impl<'p> Model for KeptSearch<'p> {
 
     ghost view = { λ s. record { leaves = s.leaves; view = s.file.now; parts = s.parts.items } };
 
-    ghost invariant = { λ s. IsOpenLeaves s.leaves × ArePartsOf s.file.now s.parts.items × ArePlacesOf (pieces_in s.leaves) s.places.items s.parts.items };
+    ghost invariant = { λ s. IsOpenLeaves s.leaves × (s.ready ≡ s.file.now) × ArePartsOf s.file.now s.parts.items × ArePlacesOf (pieces_in s.leaves) s.places.items s.parts.items };
 }
 
 impl<'p> KeptSearch<'p> {
@@ -65,9 +69,11 @@ impl<'p> KeptSearch<'p> {
             store: OpenStore::of(alloc, kept.pairs.store, Text::from_str(alloc, path)?),
         };
         let (parts, places) = open_parts(alloc, &mut leaves, file)?;
+        let ready = ReadyFile::of(alloc, file.view())?;
         Ok(KeptSearch {
             leaves,
             file,
+            ready,
             parts,
             places,
         })
@@ -95,6 +101,7 @@ impl<'p> FileSearch for KeptSearch<'p> {
         pattern: &Pattern,
         steps: &mut Steps<L>,
     ) -> Result<Leaf, Memory> {
+        let absent = !self.ready.may_have(alloc, pattern)?;
         let places = self.places.as_slice();
         ask(
             alloc,
@@ -102,6 +109,7 @@ impl<'p> FileSearch for KeptSearch<'p> {
             &mut self.parts,
             places,
             pattern,
+            absent,
             steps,
         )
     }

@@ -3,12 +3,13 @@ use Rattle.node_tree.specs.declared.view.Pattern.{Pattern}
 use Rattle.piece_form.specs.declared.key.PatternKey.{PatternKey}
 use Rattle.file_parts.specs.declared.joining.PartLeaf.{PartLeaf}
 use Rattle.file_parts.specs.Leaves.{AreLeavesOf}
-use Rattle.file_parts.specs.Parts.{SeenPart, needed_of}
+use Rattle.file_parts.specs.Parts.{needed_of}
 use Rattle.kept_leaves.specs.declared.leaf.OpenLeaves.{OpenLeaves}
 use Rattle.kept_leaves.specs.Growth.{Meets}
-use Rattle.kept_leaves.specs.Opened.{open_map, IsNumberOf}
+use Rattle.kept_leaves.specs.Opened.{open_map, pieces_in, IsNumberOf}
 use Rattle.kept_leaves.specs.Pairs.{IsOneOf}
 use Rattle.kept_leaves.specs.Ready.{pairs_of}
+use Rattle.kept_leaves.proofs.Finding.{found_as}
 use Rattle.kept_leaves.proofs.Growing.{meets_between}
 use Rattle.kept_leaves.proofs.Laws.{right_as}
 use Rattle.kept_leaves.proofs.Meeting.{on_ok_of}
@@ -44,21 +45,39 @@ leaves_of-requires-clause-number g c =
       of_pattern = ap (λ (k : PatternKey). k.code.items) c.in_ok-key.ensures.ok ∙ c.in_ok-of.ensures;
       found = c.in_ok-number.ensures.number;
     } in
-    number_stays mid c.meet_needed.new.leaves c.in_ok-meet_needed.ensures.stays c.in_ok-number.number c.args.pattern.now numbered
+    number_stays mid c.meet_needed.new.leaves c.in_ok-found.ensures.stays c.in_ok-number.number c.args.pattern.now numbered
+
+pub leaves_of-requires-clause-found : goal.leaves_of-requires-clause-found
+leaves_of-requires-clause-found g c =
+    let mid : OpenLeaves = record { store = c.number.new.self } in
+    let new = c.meet_needed.new.leaves in
+    let pattern = c.args.pattern.now in
+    let parts = c.args.parts.now in
+    let stays = c.in_ok-found.ensures.stays in
+    let found = found_as c.of-asked.result pattern (pieces_in mid) (pieces_in new) parts c.in_ok-found.found c.as_slice.result.now c.of-asked.ensures (sym stays.pieces) (sym c.as_slice.ensures) c.in_ok-found.ensures.found in
+    (needed_of pattern parts, found)
 
 pub returns-clause-exact : goal.returns-clause-exact
 returns-clause-exact g c view are =
+    let mid : OpenLeaves = record { store = c.number.new.self } in
+    let new = c.meet_needed.new.leaves in
     let pattern = c.args.pattern.now in
-    let P : List SeenPart → Type 0 = λ ps. AreLeavesOf pattern (needed_of pattern ps) c.in_ok-all.all in
-    let Q : List PartLeaf → Type 0 = λ ls. AreLeavesOf pattern (needed_of pattern c.args.parts.now) ls in
-    c.join.ensures.exact pattern view c.args.parts.now are (subst Q (sym c.as_slice.ensures) (subst P c.in_ok-meet_needed.ensures.same c.in_ok-all.ensures))
+    let parts = c.args.parts.now in
+    let stays = c.in_ok-found.ensures.stays in
+    let found = found_as c.of-asked.result pattern (pieces_in mid) (pieces_in new) parts c.in_ok-found.found c.as_slice.result.now c.of-asked.ensures (sym stays.pieces) (sym c.as_slice.ensures) c.in_ok-found.ensures.found in
+    let Q : List PartLeaf → Type 0 = λ ls. AreLeavesOf pattern (needed_of pattern parts) ls in
+    c.join.ensures.exact pattern view parts are (subst Q (sym c.as_slice-2.ensures) (c.in_ok-all.ensures (needed_of pattern parts) found))
 
 pub returns-clause-placed : goal.returns-clause-placed
 returns-clause-placed g c view are =
+    let mid : OpenLeaves = record { store = c.number.new.self } in
+    let new = c.meet_needed.new.leaves in
     let pattern = c.args.pattern.now in
-    let P : List SeenPart → Type 0 = λ ps. AreLeavesOf pattern (needed_of pattern ps) c.in_ok-all.all in
-    let Q : List PartLeaf → Type 0 = λ ls. AreLeavesOf pattern (needed_of pattern c.args.parts.now) ls in
-    c.join.ensures.placed pattern view c.args.parts.now are (subst Q (sym c.as_slice.ensures) (subst P c.in_ok-meet_needed.ensures.same c.in_ok-all.ensures))
+    let parts = c.args.parts.now in
+    let stays = c.in_ok-found.ensures.stays in
+    let found = found_as c.of-asked.result pattern (pieces_in mid) (pieces_in new) parts c.in_ok-found.found c.as_slice.result.now c.of-asked.ensures (sym stays.pieces) (sym c.as_slice.ensures) c.in_ok-found.ensures.found in
+    let Q : List PartLeaf → Type 0 = λ ls. AreLeavesOf pattern (needed_of pattern parts) ls in
+    c.join.ensures.placed pattern view parts are (subst Q (sym c.as_slice-2.ensures) (c.in_ok-all.ensures (needed_of pattern parts) found))
 
 pub returns-clause-kept : goal.returns-clause-kept
 returns-clause-kept g c =
@@ -69,4 +88,4 @@ returns-clause-kept g c =
     let By : Pattern → Type 0 = λ q. N old.store.path q in
     let Of : List ℕ → Type 0 = λ path. N path c.of-asked.result in
     on_ok_of _ c.join.result (meets_between (IsOneOf (pairs_of old.store.path c.args.pattern.now c.args.parts.now)) (open_map old) (open_map mid) (open_map new) (open_map new) c.args.steps.now c.meet_needed.new.steps
-    c.number.ensures.same (λ path a b. refl) (subst By c.of-asked.ensures (subst Of c.number.ensures.path c.in_ok-meet_needed.ensures.kept)))
+    c.number.ensures.same (λ path a b. refl) (subst By c.of-asked.ensures (subst Of c.number.ensures.path c.in_ok-found.ensures.kept)))

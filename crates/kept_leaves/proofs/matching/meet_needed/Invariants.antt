@@ -1,6 +1,8 @@
 use Rattle.std.proofs.Common.{◌≡◌, take}
+use Rattle.file_parts.specs.Parts.{needed_of}
+use Rattle.kept_leaves.specs.Found.{AreFound}
 use Rattle.kept_leaves.specs.Growth.{Meets}
-use Rattle.kept_leaves.specs.Opened.{open_map, StaysOpen, IsOpenLeaves}
+use Rattle.kept_leaves.specs.Opened.{open_map, pieces_in, StaysOpen, IsOpenLeaves}
 use Rattle.kept_leaves.specs.Pairs.{IsOneOf}
 use Rattle.kept_leaves.specs.Ready.{pairs_of}
 use Rattle.kept_leaves.proofs.matching.meet_needed.Given as goal
@@ -12,3 +14,4 @@ invariant-loop-i g l =
     × (l.parts ≡ l.initial.parts)
     × (l.pattern ≡ l.initial.pattern)
     × Meets (IsOneOf (pairs_of l.initial.leaves.store.path l.initial.pattern (take l.i l.initial.parts))) (open_map l.initial.leaves) l.initial.steps (open_map l.leaves) l.steps
+    × AreFound l.initial.pattern (pieces_in l.initial.leaves) (needed_of l.initial.pattern (take l.i l.initial.parts)) l.found
