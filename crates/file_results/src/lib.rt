@@ -20,4 +20,5 @@ mod scanning;
 mod tracing;
 
 pub use needing::{view_needs, with_needed_names};
+pub use row::order_results;
 pub use scanning::scan_view;

@@ -6,10 +6,12 @@ ghost use Rattle.std.specs.Option.{option_cmp};
 ghost use Rattle.node_tree.specs.Span.{span_cmp};
 ghost use Rattle.file_results.specs.Hits.{Hit};
 ghost use Rattle.file_results.specs.Judging.{IsHit, AreNumbered, IsHitOf};
+ghost use Rattle.file_results.specs.Reports.{reported_cmp};
 
 use crate::looking::Judged;
 use meta_bind::{Finding, Trail};
 use node_tree::{Memory, Span};
+use report_form::Reported;
 use running_rules::{Runner, rule_at};
 use sorted_sets::Ordered;
 use std::alloc::Global;
@@ -110,6 +112,20 @@ impl<'r, 'f> Row<'r, 'f> {
     {
         self.finding
     }
+}
+
+/// Which of two results comes first in a report.
+pub fn order_results(a: &Reported, b: &Reported) -> Result<Ordering, Memory>
+    ensures { IfOk result (λ order. order ≡ reported_cmp a.now b.now) }
+{
+    match a.path.as_str().cmp(b.path.as_str()) {
+        Ordering::Less => return Ok(Ordering::Less),
+        Ordering::Greater => return Ok(Ordering::Greater),
+        Ordering::Equal => {}
+    }
+    let one = Row::of(0, a.id.as_str(), &a.finding)?;
+    let other = Row::of(0, b.id.as_str(), &b.finding)?;
+    Ok(one.order(&other))
 }
 
 // Adds the findings of the rule with that number and id.
