@@ -118,7 +118,9 @@ pub fn run_session<T: Tree, S: Source, K: Sink, P: Patterns, L: Ledger>(
 {
     let languages = Languages;
     let mut session = Session::new(alloc, &languages, most, traced);
-    serve(alloc, &mut session, tree, input, out, patterns, steps)
+    let status = serve(alloc, &mut session, tree, input, out, patterns, steps);
+    let_go(session);
+    status
 }
 
 /// Does the session that is made from the number, and prints its line, as `specs/Serving.antt` says.
@@ -148,5 +150,10 @@ pub fn run_drill<T: Tree, K: Sink, P: Patterns, L: Ledger>(
 {
     let languages = Languages;
     let mut session = Session::new(alloc, &languages, MOST_FINDINGS, false);
-    drill(alloc, count, &mut session, tree, out, patterns, steps)
+    let status = drill(alloc, count, &mut session, tree, out, patterns, steps);
+    let_go(session);
+    status
 }
+
+// Lets a value go.
+fn let_go<W: Drop>(_value: W) {}

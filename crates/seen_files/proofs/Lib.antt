@@ -5,3 +5,6 @@ pub mod Counting
 pub mod Walking
 pub mod Once
 pub mod Fresh
+pub mod Merges
+pub mod More
+pub mod Added

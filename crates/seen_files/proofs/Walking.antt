@@ -168,15 +168,15 @@ module _ {X : Type 0} (f : X → File) (items : List X) (i : ℕ) (x d : X) (lt 
     done : map f (take i items) ++ (path, bytes) ∷ [] ≡ map f (take (i + 1) items)
     done = ap (λ (g : File). map f (take i items) ++ g ∷ []) (sym here) ∙ sym one_more
 
-    module _ (same : Bool) (rules_are : same ≡ true → rules ≡ known) (apart : AreApart rules) (s : SeenFile) (file_is : file_of s ≡ (path, bytes))
-        (sees : (b : List Rule) → (same ≡ true → rules ≡ b) → AreApart rules → IfSome taken (IsSeen grammars b) → IsSeen grammars rules s) (has' : Map) (steps' : ℕ)
-        (meets : (b : List Rule) → (same ≡ true → rules ≡ b) → IfSome taken (λ u. (y : Pair) → ((path ≡ y.path) × IsKept has y) ↔ IsNeededAt b u y) → Meets (IsNeededAt rules s) has (steps + openings taken bytes) has' steps')
+    module _ (Since : List Rule → Type 0) (since : Since known) (apart : AreApart rules) (s : SeenFile) (file_is : file_of s ≡ (path, bytes))
+        (sees : (b : List Rule) → Since b → AreApart rules → IfSome taken (IsSeen grammars b) → IsSeen grammars rules s) (has' : Map) (steps' : ℕ)
+        (meets : (b : List Rule) → Since b → IfSome taken (λ u. (y : Pair) → ((path ≡ y.path) × IsKept has y) ↔ IsNeededAt b u y) → Meets (IsNeededAt rules s) has (steps + openings taken bytes) has' steps')
         (seen' : List SeenFile) (pushed : seen' ≡ seen ++ s ∷ []) where
       pub steps_on : HasWalked grammars rules old (map f (take (i + 1) items)) (map_of kept) before has' steps' seen' × HasPassed (map f (take (i + 1) items)) stack new
       steps_on =
           let far = map f (take i items) in
-          let is_seen = sees known rules_are apart (taken_seen grammars rules known old stack kept seen_before far path bytes next before has steps seen left w p taken new t) in
-          let m = meets known rules_are (taken_pairs grammars rules known old stack kept seen_before far path bytes next before has steps seen left w p taken new t) in
+          let is_seen = sees known since apart (taken_seen grammars rules known old stack kept seen_before far path bytes next before has steps seen left w p taken new t) in
+          let m = meets known since (taken_pairs grammars rules known old stack kept seen_before far path bytes next before has steps seen left w p taken new t) in
           let walked = walk_on grammars rules known old stack kept seen_before far path bytes next before has steps seen left w p taken new t s file_is is_seen has' steps' m in
           let passed = pass_on grammars rules known old stack kept seen_before far path bytes next before has steps seen left w p taken new t in
           let P : List File → Type 0 = λ fs. HasWalked grammars rules old fs (map_of kept) before has' steps' (seen ++ s ∷ []) in
@@ -239,7 +239,7 @@ nothing_seen grammars rules seen h =
 
 -- ---- one file, seen again
 
-module _ (rules known : List Rule) (was : SeenFile) (path bytes : List ℕ) (has : Map) (before : ℕ) where
+module _ (rules : List Rule) (was : SeenFile) (bytes : List ℕ) (has : Map) (before : ℕ) where
   -- opened again
   pub opened_again : {E : Type 0} (r : Result SeenFile E) (has' : Map) (after : ℕ) → bytes_eq was.bytes.value bytes ≡ false → IfOk r (λ s. Meets (IsNeededAt rules s) has (before + 1) has' after)
       → IfOk r (λ s. Meets (IsNeededAt rules s) has (before + openings (Some was) bytes) has' after)
@@ -255,14 +255,3 @@ module _ (rules known : List Rule) (was : SeenFile) (path bytes : List ℕ) (has
       let Q : ℕ → Type 0 = λ n. IfOk r (λ s. Meets (IsNeededAt rules s) has n has' after) in
       let same : before ≡ before + 0 = omega arith in
       subst P (sym e) (subst Q same h)
-
-  -- or as it was
-  pub stays_seen : (has' : Map) → bytes_eq was.bytes.value bytes ≡ true → rules ≡ known → ((x : Pair) → ((path ≡ x.path) × IsKept has x) ↔ IsNeededAt known was x) → Grows has has' (λ x. (path ≡ x.path) × IsKept has x) []
-      → Meets (IsNeededAt rules was) has (before + openings (Some was) bytes) has' before
-  stays_seen has' e rules_are needed g =
-      let P : Bool → Type 0 = λ b. Meets (IsNeededAt rules was) has (before + (if b then 0 else 1)) has' before in
-      let Q : ℕ → Type 0 = λ n. Meets (IsNeededAt rules was) has n has' before in
-      let R : List Rule → Type 0 = λ rs. Meets (IsNeededAt rs was) has before has' before in
-      let same : before ≡ before + 0 = omega arith in
-      let m : Meets (λ x. (path ≡ x.path) × IsKept has x) has before has' before = ([], g, same) in
-      subst P (sym e) (subst Q same (subst R (sym rules_are) (meets_as (λ x. (path ≡ x.path) × IsKept has x) (IsNeededAt known was) has before has' before needed m)))

@@ -5,3 +5,5 @@ pub mod Spends
 pub mod Once
 pub mod Fresh
 pub mod Walk
+pub mod More
+pub mod Merging

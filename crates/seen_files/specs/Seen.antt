@@ -1,5 +1,5 @@
 -- What a session has seen of its files at its last scan.
-use Rattle.std.specs.Prelude.{◌≡◌, ◌↔◌, Bool, true, List, [], map}
+use Rattle.std.specs.Prelude.{◌≡◌, ◌↔◌, List, [], map}
 use Rattle.node_tree.specs.declared.view.FileView.{FileView}
 use Rattle.node_match.specs.Sets.{Among}
 use Rattle.tree_match.specs.Ascending.{IsAscending}
@@ -77,11 +77,9 @@ pub record HasSeenNone (seen : SeenFiles) : Type 0 where
   pub files_are : seen.files ≡ []
   pub kept : IsEmpty (map_of seen.kept)
 
--- It holds of whichever rules and files were seen before: of the same rules, where it says so. No two of the rules that run now
--- have one id.
-abbrev pub AfterSeen : Grammars → Bool → List Rule → SeenFiles → (List Rule → List File → Type 0) → Type 0
-AfterSeen grammars same_rules running seen P =
-    (before : List Rule) (old : List File) → HasSeen grammars before old seen → (same_rules ≡ true → running ≡ before) → AreApart running → P before old
+-- It holds of whichever files were seen before by those rules. No two of the rules that run now have one id.
+abbrev pub AfterSeen : Grammars → List Rule → List Rule → SeenFiles → (List File → Type 0) → Type 0
+AfterSeen grammars before running seen P = (old : List File) → HasSeen grammars before old seen → AreApart running → P old
 
 -- each leaf that is kept has the members of its pattern in its piece
 abbrev pub HasRightLeaves : SeenFiles → Type 0

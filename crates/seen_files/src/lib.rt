@@ -5,9 +5,12 @@
 //! (`specs/Spends.antt`). Trees are kept as bytes, and become trees again only where other rules look at their files.
 #![tactic(auto)]
 
+mod adding;
 mod finding;
 mod found_file;
 mod looking;
+mod merging;
+mod more_rules;
 mod one_scan;
 mod packing;
 mod seeing;

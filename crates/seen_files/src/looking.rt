@@ -25,8 +25,8 @@ use std::alloc::Global;
 use std::mem;
 use std::sync::ledger::Ledger;
 
-// What the rules find by the names that are known in the file. The notices are added. Where memory runs out nothing may be kept.
-fn look<R: CommentReader, L: Ledger>(
+/// What the rules find by the names that are known in the file. The notices are added. Where memory runs out nothing may be kept.
+pub fn look<R: CommentReader, L: Ledger>(
     alloc: Global,
     reader: &R,
     path: &str,

@@ -1,6 +1,6 @@
 //! The walk over the files that there are now and those that were seen, both in order of path.
 
-ghost use Rattle.std.specs.Prelude.{◌≡◌, ◌↔◌, ◌+◌, List as list, Bool, true, map, Some, IfOk, IfSome};
+ghost use Rattle.std.specs.Prelude.{◌≡◌, ◌↔◌, ◌+◌, List as list, Some, IfOk, IfSome};
 ghost use Rattle.std.specs.Str.{bytes_eq};
 ghost use Rattle.rule_form.specs.declared.rule.Rule.{Rule as a_rule};
 ghost use Rattle.kept_leaves.specs.Pairs.{Pair as a_pair};
@@ -8,10 +8,12 @@ ghost use Rattle.kept_leaves.specs.Growth.{Meets};
 ghost use Rattle.kept_leaves.specs.Kept.{map_of, IsKept};
 ghost use Rattle.running_rules.specs.Running.{AreApart};
 ghost use Rattle.file_results.specs.Quieted.{grammars_of};
+ghost use Rattle.seen_files.specs.More.{IsMore};
 ghost use Rattle.seen_files.specs.Needs.{IsNeededAt};
 ghost use Rattle.seen_files.specs.Seen.{file_of, IsSeen};
 ghost use Rattle.seen_files.specs.Walk.{openings, Takes};
 
+use crate::adding::see_more;
 use crate::packing::{see_anew, see_opened};
 use crate::seen::SeenFile;
 use code_reader::TreeReader;
@@ -48,7 +50,8 @@ fn has_bytes(was: &SeenFile, bytes: &Rc<Bytes>) -> bool
     was.bytes() == Rc::as_ref(bytes).as_slice()
 }
 
-// Sees the file at a path again. With the same bytes it isn't opened again, and what the same rules found in it stays.
+// Sees the file at a path again. With the same bytes it isn't opened again, and what the rules before found in it stays, if these
+// were added alone.
 fn see_again<R: TreeReader + CommentReader, L: Ledger>(
     alloc: Global,
     reader: &R,
@@ -56,31 +59,34 @@ fn see_again<R: TreeReader + CommentReader, L: Ledger>(
     bytes: &Rc<Bytes>,
     was: SeenFile,
     running: &[Runner<'_>],
-    same_rules: bool,
+    added: &Option<List<Runner<'_>>>,
     traced: bool,
     kept: &mut KeptLeaves,
     steps: &mut Steps<L>,
 ) -> Result<SeenFile, Memory>
     requires { was.path ≡ path.now }
     ensures file { IfOk result (λ s. file_of s ≡ (path.now, bytes.now.value)) }
-    ensures seen { (before : list a_rule) → (same_rules ≡ true → running.now ≡ before) → AreApart running.now
+    ensures seen { (before : list a_rule) → IsMore before running.now added.now → AreApart running.now
         → IsSeen (grammars_of (R.spells reader.now) (R.knows reader.now) (R.comments reader.now) traced) before was
         → IfOk result (IsSeen (grammars_of (R.spells reader.now) (R.knows reader.now) (R.comments reader.now) traced) running.now) }
-    ensures kept { (before : list a_rule) → (same_rules ≡ true → running.now ≡ before)
+    ensures kept { (before : list a_rule) → IsMore before running.now added.now
         → ((x : a_pair) → ((path.now ≡ x.path) × IsKept (map_of kept.old) x) ↔ IsNeededAt before was x)
         → IfOk result (λ s. Meets (IsNeededAt running.now s) (map_of kept.old) (steps.old + openings (Some was) bytes.now.value) (map_of kept.new) steps.new) }
 {
     if !has_bytes(&was, bytes) {
         return see_anew(alloc, reader, path, bytes, running, traced, kept, steps);
     }
-    if same_rules {
-        kept.keep_path(path);
-        return Ok(was);
+    match added {
+        Some(added) => see_more(
+            alloc, reader, path, was, running, added, traced, kept, steps,
+        ),
+        None => {
+            let opened = was.opened.opened(alloc)?;
+            see_opened(
+                alloc, reader, path, was.bytes, opened, running, traced, kept, steps,
+            )
+        }
     }
-    let opened = was.opened.opened(alloc)?;
-    see_opened(
-        alloc, reader, path, was.bytes, opened, running, traced, kept, steps,
-    )
 }
 
 /// Sees the file at a path, which may have been seen before.
@@ -91,24 +97,24 @@ pub fn see_file<R: TreeReader + CommentReader, L: Ledger>(
     bytes: &Rc<Bytes>,
     was: Option<SeenFile>,
     running: &[Runner<'_>],
-    same_rules: bool,
+    added: &Option<List<Runner<'_>>>,
     traced: bool,
     kept: &mut KeptLeaves,
     steps: &mut Steps<L>,
 ) -> Result<SeenFile, Memory>
     requires { IfSome was (λ s. s.path ≡ path.now) }
     ensures file { IfOk result (λ s. file_of s ≡ (path.now, bytes.now.value)) }
-    ensures seen { (before : list a_rule) → (same_rules ≡ true → running.now ≡ before) → AreApart running.now
+    ensures seen { (before : list a_rule) → IsMore before running.now added.now → AreApart running.now
         → IfSome was (IsSeen (grammars_of (R.spells reader.now) (R.knows reader.now) (R.comments reader.now) traced) before)
         → IfOk result (IsSeen (grammars_of (R.spells reader.now) (R.knows reader.now) (R.comments reader.now) traced) running.now) }
-    ensures kept { (before : list a_rule) → (same_rules ≡ true → running.now ≡ before)
+    ensures kept { (before : list a_rule) → IsMore before running.now added.now
         → IfSome was (λ s. (x : a_pair) → ((path.now ≡ x.path) × IsKept (map_of kept.old) x) ↔ IsNeededAt before s x)
         → IfOk result (λ s. Meets (IsNeededAt running.now s) (map_of kept.old) (steps.old + openings was bytes.now.value) (map_of kept.new) steps.new) }
 {
     match was {
         None => see_anew(alloc, reader, path, bytes, running, traced, kept, steps),
         Some(was) => see_again(
-            alloc, reader, path, bytes, was, running, same_rules, traced, kept, steps,
+            alloc, reader, path, bytes, was, running, added, traced, kept, steps,
         ),
     }
 }

@@ -29,57 +29,24 @@ use Rattle.workspace.specs.Work.{Works}
 use Rattle.session.specs.Reporting.{TellsReport}
 use Rattle.session.specs.ScanState.{IsUpToDate}
 
--- ---- where nothing is said of the rules
+-- ---- no scan
 
 -- nothing was seen
-pub none_seen : (grammars : Grammars) (writes : Writes) (rules : Files) (decided : Decisions) (seen : SeenFiles) (same : Bool) → same ≡ false → HasSeenNone seen → IsUpToDate grammars writes rules decided seen same
-none_seen grammars writes rules decided seen same e h = record {
-  rules_before = [];
-  files_before = [];
-  has_seen = nothing_seen grammars [] seen h;
-  same = λ t. absurd (not_both same e t);
-}
-  where
-    not_both : (b : Bool) → b ≡ false → b ≡ true → ⊥
-    not_both b f t = absurd cc
+pub none_seen : (grammars : Grammars) (rules : List Rule) (seen : SeenFiles) → HasSeenNone seen → IsUpToDate grammars rules seen
+none_seen grammars rules seen h = record { files_before = []; has_seen = nothing_seen grammars rules seen h }
 
--- other rules, or other decisions
-pub changed_rules : {R : Type 0} (grammars : R → Grammars) (writes : R → Writes) (was is : R) → is ≡ was → (rules rules' : Files) (decided decided' : Decisions) (seen seen' : SeenFiles) (same same' : Bool) → seen' ≡ seen → same' ≡ false
-    → IsUpToDate (grammars was) (writes was) rules decided seen same → IsUpToDate (grammars is) (writes is) rules' decided' seen' same'
-changed_rules {R} grammars writes was is reader rules rules' decided decided' seen seen' same same' stays e h =
-    let P : R → Type 0 = λ r. HasSeen (grammars r) h.rules_before h.files_before seen' in
-    let Q : SeenFiles → Type 0 = λ s. HasSeen (grammars was) h.rules_before h.files_before s in
-    record {
-      rules_before = h.rules_before;
-      files_before = h.files_before;
-      has_seen = subst P (sym reader) (subst Q (sym stays) h.has_seen);
-      same = λ t. absurd (not_both same' e t);
-    }
-  where
-    not_both : (b : Bool) → b ≡ false → b ≡ true → ⊥
-    not_both b f t = absurd cc
+-- the same was seen by the same reader
+pub same_seen : {R : Type 0} (grammars : R → Grammars) (was is : R) → is ≡ was → (rules : List Rule) (seen : SeenFiles) → IsUpToDate (grammars was) rules seen → IsUpToDate (grammars is) rules seen
+same_seen {R} grammars was is reader rules seen h = let P : R → Type 0 = λ r. IsUpToDate (grammars r) rules seen in subst P (sym reader) h
 
 -- ---- a scan
 
--- the texts that are refused first are some of those that the builder's list gained
-first_undecided : (old new : Decisions) (gained : List (List ℕ)) (g : Grows old new gained) → AreUndecided old gained → AreUndecided old g.first
-first_undecided old new gained g undecided text a =
-    let P : List (List ℕ) → Type 0 = λ ts. Among ts text in
-    undecided text (subst P (sym g.parts) (among_left g.first g.rest text a))
-
 module _ {R : Type 0} (grammars : R → Bool → Grammars) (traced : Bool) (writes : R → Writes) (used reader : R) (same : used ≡ reader)
     (rules : Files) (contents : List RuleFile) (are : AreRuleFiles (writes reader) rules contents) (one : (others : List RuleFile) → AreRuleFiles (writes reader) rules others → others ≡ contents)
-    (old new : Decisions) (gained : List (List ℕ)) (grows : Grows old new gained) (undecided : AreUndecided old gained) (decided : AreDecided new (texts_of (stated contents)))
-    (same_rules : Bool) (was : SeenFiles) (up : IsUpToDate (grammars reader traced) (writes reader) rules old was same_rules)
+    (new : Decisions) (decided : AreDecided new (texts_of (stated contents))) (before : List Rule) (was : SeenFiles) (up : IsUpToDate (grammars reader traced) before was)
     (most : ℕ) (scanner : Scanner R) (begun : HasScanned (grammars used traced) new.refused contents most [] scanner) (running : List Rule) (running_is : running ≡ scanner.running.items) where
   rules_are : running ≡ rules_of new.refused contents
   rules_are = running_is ∙ begun.rules
-
-  -- where the rules were the same, later refusals change nothing
-  still : same_rules ≡ true → running ≡ up.rules_before
-  still e =
-      let (rules_were, all) = up.same e contents are in
-      rules_are ∙ ap (λ (r : List (List ℕ)). rules_of r contents) grows.refused ∙ same_running old grows.first contents (first_undecided old new gained grows undecided) all ∙ rules_were
 
   apart : AreApart running
   apart = let P : List Rule → Type 0 = AreApart in subst P (sym rules_are) (are_apart new.refused (stated contents))
@@ -87,34 +54,31 @@ module _ {R : Type 0} (grammars : R → Bool → Grammars) (traced : Bool) (writ
   pub all_decided : AreAllDecided (writes reader) rules new
   all_decided others text they among = let P : List RuleFile → Type 0 = λ cs. Among (texts_of (stated cs)) text in decided text (subst P (one others they) among)
 
-  module _ (files : Files) (seen : SeenFiles) (sees : AfterSeen (grammars used traced) same_rules running was (λ before files_before. HasSeen (grammars used traced) running files seen)) where
+  module _ (files : Files) (seen : SeenFiles) (sees : AfterSeen (grammars used traced) before running was (λ files_before. HasSeen (grammars used traced) running files seen)) where
     has_seen : HasSeen (grammars reader traced) (rules_of new.refused contents) files seen
     has_seen =
-        let F : R → Type 0 = λ r. AfterSeen (grammars r traced) same_rules running was (λ before files_before. HasSeen (grammars r traced) running files seen) in
+        let F : R → Type 0 = λ r. AfterSeen (grammars r traced) before running was (λ files_before. HasSeen (grammars r traced) running files seen) in
         let P : List Rule → Type 0 = λ rs. HasSeen (grammars reader traced) rs files seen in
-        subst P rules_are (subst F same sees up.rules_before up.files_before up.has_seen still apart)
+        subst P rules_are (subst F same sees up.files_before up.has_seen apart)
 
-    pub up_to_date : (seen' : SeenFiles) → seen' ≡ seen → IsUpToDate (grammars reader traced) (writes reader) rules new seen' true
-    up_to_date seen' e = record {
-      rules_before = rules_of new.refused contents;
-      files_before = files;
-      has_seen = let F : SeenFiles → Type 0 = λ s. HasSeen (grammars reader traced) (rules_of new.refused contents) files s in subst F (sym e) has_seen;
-      same = λ t others they. (ap (rules_of new.refused) (one others they), let P : List RuleFile → Type 0 = λ cs. AreDecided new (texts_of (stated cs)) in subst P (sym (one others they)) decided);
-    }
+    pub up_to_date : (rules_by : List Rule) → rules_by ≡ running → IsUpToDate (grammars reader traced) rules_by seen
+    up_to_date rules_by e =
+        let P : List Rule → Type 0 = λ rs. HasSeen (grammars reader traced) rs files seen in
+        record { files_before = files; has_seen = subst P (sym (e ∙ rules_are)) has_seen }
 
-    pub works : (before after : ℕ) → AfterSeen (grammars used traced) same_rules running was (λ rules_before files_before. Spends files_before files (IsNeeded rules_before was.files) (IsNeeded running seen.files) before after)
-        → Works (record { grammars = grammars reader traced; writes = writes reader }) new.refused files rules was seen before after
-    works before after spent =
-        let F : R → Type 0 = λ r. AfterSeen (grammars r traced) same_rules running was (λ rules_before files_before. Spends files_before files (IsNeeded rules_before was.files) (IsNeeded running seen.files) before after) in
-        let P : List Rule → Type 0 = λ rs. Spends up.files_before files (IsNeeded up.rules_before was.files) (IsNeeded rs seen.files) before after in
+    pub works : (start end : ℕ) → AfterSeen (grammars used traced) before running was (λ files_before. Spends files_before files (IsNeeded before was.files) (IsNeeded running seen.files) start end)
+        → Works (record { grammars = grammars reader traced; writes = writes reader }) new.refused files rules was seen start end
+    works start end spent =
+        let F : R → Type 0 = λ r. AfterSeen (grammars r traced) before running was (λ files_before. Spends files_before files (IsNeeded before was.files) (IsNeeded running seen.files) start end) in
+        let P : List Rule → Type 0 = λ rs. Spends up.files_before files (IsNeeded before was.files) (IsNeeded rs seen.files) start end in
         record {
           contents = contents;
           are = are;
           seen = has_seen;
-          rules_before = up.rules_before;
+          rules_before = before;
           files_before = up.files_before;
           was = up.has_seen;
-          spends = subst P rules_are (subst F same spent up.rules_before up.files_before up.has_seen still apart);
+          spends = subst P rules_are (subst F same spent up.files_before up.has_seen apart);
         }
 
     -- whatever is said of the report by the scan's reader and its flag is said by those of the rules

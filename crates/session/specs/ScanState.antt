@@ -1,13 +1,10 @@
 -- What a session knows of its rules and of what the last scan saw.
-use Rattle.std.specs.Prelude.{◌≡◌, ℕ, Bool, true, List, refl}
+use Rattle.std.specs.Prelude.{Bool, List, refl}
 use Rattle.std.specs.Coded.{Coded, code_by, coded×, coded_bool}
 use Rattle.scan_world.specs.Files.{Files}
 use Rattle.rule_form.specs.declared.rule.Rule.{Rule}
-use Rattle.rule_entries.specs.Finds.{Writes}
-use Rattle.rule_files.specs.declared.rule_file.RuleFile.{RuleFile}
-use Rattle.rule_map.specs.RuleMap.{RuleTexts, rule_texts_code, AreRuleFiles}
-use Rattle.decided_texts.specs.Decided.{Decisions, AreDecided}
-use Rattle.running_rules.specs.Running.{running, stated, texts_of}
+use Rattle.rule_map.specs.RuleMap.{RuleTexts, rule_texts_code}
+use Rattle.decided_texts.specs.Decided.{Decisions}
 use Rattle.scan_session.specs.Quieted.{Grammars}
 use Rattle.seen_files.specs.declared.seen.SeenFiles.{SeenFiles}
 use Rattle.seen_files.specs.Seen.{HasSeen}
@@ -20,13 +17,10 @@ pub record Scanned (R : Type 0) : Type 0 where
   pub decided : Decisions
   pub seen : SeenFiles
 
--- The files were seen by some rules. Where it is said that they are still the same, those are the rules that run now, and all
--- their texts are decided.
-pub record IsUpToDate (grammars : Grammars) (writes : Writes) (rules : Files) (decided : Decisions) (seen : SeenFiles) (same_rules : Bool) : Type 0 where
-  pub rules_before : List Rule
+-- some files were seen by those rules
+pub record IsUpToDate (grammars : Grammars) (rules : List Rule) (seen : SeenFiles) : Type 0 where
   pub files_before : Files
-  pub has_seen : HasSeen grammars rules_before files_before seen
-  pub same : same_rules ≡ true → (contents : List RuleFile) → AreRuleFiles writes rules contents → (running decided.refused contents ≡ rules_before) × AreDecided decided (texts_of (stated contents))
+  pub has_seen : HasSeen grammars rules files_before seen
 
 abbrev pub scanned_code : {R : Type 0} → Coded R → Coded Decisions → Coded SeenFiles → Coded (Scanned R)
 scanned_code {R} reader decided seen =

@@ -22,8 +22,9 @@ use code_reader::{PatternReader, TreeReader};
 use comment_reader::CommentReader;
 use decided_texts::DecidedTexts;
 use file_map::{FileMap, PutFault};
-use node_tree::{Memory, Steps};
+use node_tree::{List, Memory, Steps};
 use report_form::Report;
+use rule_form::Rule;
 use rule_map::RuleMap;
 use rx_text::Patterns;
 use scan_session::{ScanFault, Scanner};
@@ -40,8 +41,8 @@ pub struct ScanState<'r, R: TreeReader + CommentReader + PatternReader> {
     traced: bool,
     decided: DecidedTexts,
     seen: SeenFiles,
-    // Whether the rules that run are those by which the files were seen.
-    same_rules: bool,
+    // The rules by which the files were seen.
+    seen_by: List<Rule>,
 }
 
 impl<'r, R: TreeReader + CommentReader + PatternReader> Model for ScanState<'r, R> {
@@ -56,7 +57,7 @@ impl<'r, R: TreeReader + CommentReader + PatternReader> Model for ScanState<'r, 
 
     ghost view = { λ s. record { rules = s.rules; traced = s.traced; decided = s.decided; seen = s.seen } };
 
-    ghost invariant = { λ s. IsUpToDate (grammars_of (R.spells s.rules.reader) (R.knows s.rules.reader) (R.comments s.rules.reader) s.traced) (R.writes s.rules.reader) s.rules.files s.decided s.seen s.same_rules };
+    ghost invariant = { λ s. IsUpToDate (grammars_of (R.spells s.rules.reader) (R.knows s.rules.reader) (R.comments s.rules.reader) s.traced) s.seen_by s.seen };
 }
 
 impl<'r, R: TreeReader + CommentReader + PatternReader> ScanState<'r, R> {
@@ -73,7 +74,7 @@ impl<'r, R: TreeReader + CommentReader + PatternReader> ScanState<'r, R> {
             traced,
             decided: DecidedTexts::new(alloc),
             seen: SeenFiles::new(alloc),
-            same_rules: false,
+            seen_by: List::new(alloc),
         }
     }
 
@@ -88,7 +89,6 @@ impl<'r, R: TreeReader + CommentReader + PatternReader> ScanState<'r, R> {
         ensures decided { self.new.decided ≡ self.old.decided }
         ensures seen { self.new.seen ≡ self.old.seen }
     {
-        self.same_rules = false;
         self.rules.put(name, bytes)
     }
 
@@ -101,7 +101,6 @@ impl<'r, R: TreeReader + CommentReader + PatternReader> ScanState<'r, R> {
         ensures decided { self.new.decided ≡ self.old.decided }
         ensures seen { self.new.seen ≡ self.old.seen }
     {
-        self.same_rules = false;
         self.rules.del(name)
     }
 
@@ -130,8 +129,6 @@ impl<'r, R: TreeReader + CommentReader + PatternReader> ScanState<'r, R> {
         ensures decided { (result ≡ Err faults.Memory → ⊥) → AreAllDecided (R.writes self.old.rules.reader) self.old.rules.files self.new.decided }
         ensures settled { (result ≡ Err faults.Memory → ⊥) → SettlesRules (R.writes self.old.rules.reader) self.old.rules.files self.old.decided self.new.decided (P.asked patterns.old) (P.asked patterns.new) }
     {
-        let same_rules = self.same_rules;
-        self.same_rules = false;
         let reader = self.rules.reader();
         let rules = self.rules.contents();
         let scanner = Scanner::of(
@@ -147,8 +144,8 @@ impl<'r, R: TreeReader + CommentReader + PatternReader> ScanState<'r, R> {
             alloc,
             reader,
             files,
+            &mut self.seen_by,
             scanner.running(),
-            same_rules,
             self.traced,
             steps,
         )?;
@@ -158,7 +155,6 @@ impl<'r, R: TreeReader + CommentReader + PatternReader> ScanState<'r, R> {
             return Err(ScanFault::Memory);
         }
         self.seen.are_leaves_right();
-        self.same_rules = true;
         report
     }
 }

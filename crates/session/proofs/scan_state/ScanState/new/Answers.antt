@@ -1,4 +1,3 @@
-use Rattle.std.proofs.Common.{refl, false}
 use Rattle.scan_session.specs.Quieted.{grammars_of}
 use Rattle.session.proofs.Keeping.{none_seen}
 use Rattle.session.proofs.scan_state.ScanState.new.Goals as goal
@@ -6,4 +5,4 @@ use Rattle.session.proofs.scan_state.ScanState.new.Goals as goal
 pub invariant_of-result : goal.invariant_of-result
 invariant_of-result g c =
     let r = c.new.result.reader in
-    none_seen (grammars_of (g.R.TreeReader.spells r) (g.R.TreeReader.knows r) (g.R.CommentReader.comments r) c.args.traced) (g.R.PatternReader.writes r) c.new.result.files c.new-2.result c.new-3.result false refl c.new-3.ensures
+    none_seen (grammars_of (g.R.TreeReader.spells r) (g.R.TreeReader.knows r) (g.R.CommentReader.comments r) c.args.traced) _ c.new-3.result c.new-3.ensures

@@ -1,4 +1,3 @@
-use Rattle.std.proofs.Common.{false, refl}
 use Rattle.scan_session.specs.Quieted.{grammars_of}
 use Rattle.workspace.specs.Reports.{SettlesRules}
 use Rattle.session.proofs.Reports.{read_once}
@@ -8,35 +7,35 @@ use Rattle.session.proofs.scan_state.ScanState.scan.Goals as goal
 pub invariant_of-self-in_err-see : goal.invariant_of-self-in_err-see
 invariant_of-self-in_err-see g c =
     let r = c.self.inside.rules.reader in
-    none_seen (grammars_of (g.R.TreeReader.spells r) (g.R.TreeReader.knows r) (g.R.CommentReader.comments r) c.self.inside.traced) (g.R.PatternReader.writes r) c.self.inside.rules.files c.of.new.decided c.see.new.self false refl c.in_err-see.ensures.forgotten
+    none_seen (grammars_of (g.R.TreeReader.spells r) (g.R.TreeReader.knows r) (g.R.CommentReader.comments r) c.self.inside.traced) c.see.new.rules c.see.new.self c.in_err-see.ensures.forgotten
 
 pub invariant_of-self-in-Err-Memory : goal.invariant_of-self-in-Err-Memory
 invariant_of-self-in-Err-Memory g c =
     let r = c.self.inside.rules.reader in
-    none_seen (grammars_of (g.R.TreeReader.spells r) (g.R.TreeReader.knows r) (g.R.CommentReader.comments r) c.self.inside.traced) (g.R.PatternReader.writes r) c.self.inside.rules.files c.of.new.decided c.new.result false refl c.new.ensures
+    none_seen (grammars_of (g.R.TreeReader.spells r) (g.R.TreeReader.knows r) (g.R.CommentReader.comments r) c.self.inside.traced) c.see.new.rules c.new.result c.new.ensures
 
 pub invariant_of-self-2 : goal.invariant_of-self-2
 invariant_of-self-2 g c =
     up_to_date (λ r traced. grammars_of (g.R.TreeReader.spells r) (g.R.TreeReader.knows r) (g.R.CommentReader.comments r) traced) c.self.inside.traced (λ r. g.R.PatternReader.writes r) c.reader-reader.result.now c.self.inside.rules.reader c.reader-reader.ensures c.self.inside.rules.files c.contents-rules.result.now c.contents-rules.ensures.contents c.contents-rules.ensures.only
-    c.self.inside.decided c.of.new.decided _ c.of.ensures.kept c.of.ensures.undecided c.in_ok-scanner.ensures.decided c.self.inside.same_rules c.self.inside.seen c.self.invariant
-    c.args.most c.in_ok-scanner.scanner c.in_ok-scanner.ensures.begun c.running.result.now c.running.ensures c.args.files.now c.see.new.self c.in_ok-see.ensures.seen c.see.new.self refl
+    c.of.new.decided c.in_ok-scanner.ensures.decided c.self.inside.seen_by c.self.inside.seen c.self.invariant
+    c.args.most c.in_ok-scanner.scanner c.in_ok-scanner.ensures.begun c.running.result.now c.running.ensures c.args.files.now c.see.new.self c.in_ok-see.ensures.seen c.see.new.rules c.in_ok-see.ensures.rules
 
 pub returns-clause-report : goal.returns-clause-report
 returns-clause-report g c =
     rw (← c.self.view_is) (answers (λ r traced. grammars_of (g.R.TreeReader.spells r) (g.R.TreeReader.knows r) (g.R.CommentReader.comments r) traced) c.self.inside.traced (λ r. g.R.PatternReader.writes r) c.reader-reader.result.now c.self.inside.rules.reader c.reader-reader.ensures c.self.inside.rules.files c.contents-rules.result.now c.contents-rules.ensures.contents c.contents-rules.ensures.only
-    c.self.inside.decided c.of.new.decided _ c.of.ensures.kept c.of.ensures.undecided c.in_ok-scanner.ensures.decided c.self.inside.same_rules c.self.inside.seen c.self.invariant
+    c.of.new.decided c.in_ok-scanner.ensures.decided c.self.inside.seen_by c.self.inside.seen c.self.invariant
     c.args.most c.in_ok-scanner.scanner c.in_ok-scanner.ensures.begun c.running.result.now c.running.ensures c.args.files.now c.see.new.self c.in_ok-see.ensures.seen c.report_of-report.result c.in_ok-scanner.ensures.same_reader c.in_ok-scanner.ensures.traced c.report_of-report.ensures.report)
 
 pub returns-clause-work : goal.returns-clause-work
 returns-clause-work g c =
     rw (← c.self.view_is) (λ remembered. works (λ r traced. grammars_of (g.R.TreeReader.spells r) (g.R.TreeReader.knows r) (g.R.CommentReader.comments r) traced) c.self.inside.traced (λ r. g.R.PatternReader.writes r) c.reader-reader.result.now c.self.inside.rules.reader c.reader-reader.ensures c.self.inside.rules.files c.contents-rules.result.now c.contents-rules.ensures.contents c.contents-rules.ensures.only
-    c.self.inside.decided c.of.new.decided _ c.of.ensures.kept c.of.ensures.undecided c.in_ok-scanner.ensures.decided c.self.inside.same_rules c.self.inside.seen c.self.invariant
+    c.of.new.decided c.in_ok-scanner.ensures.decided c.self.inside.seen_by c.self.inside.seen c.self.invariant
     c.args.most c.in_ok-scanner.scanner c.in_ok-scanner.ensures.begun c.running.result.now c.running.ensures c.args.files.now c.see.new.self c.in_ok-see.ensures.seen c.args.steps.now c.see.new.steps c.in_ok-see.ensures.spent)
 
 pub returns-clause-decided : goal.returns-clause-decided
 returns-clause-decided g c =
     rw (← c.self.view_is) (λ remembered. all_decided (λ r traced. grammars_of (g.R.TreeReader.spells r) (g.R.TreeReader.knows r) (g.R.CommentReader.comments r) traced) c.self.inside.traced (λ r. g.R.PatternReader.writes r) c.reader-reader.result.now c.self.inside.rules.reader c.reader-reader.ensures c.self.inside.rules.files c.contents-rules.result.now c.contents-rules.ensures.contents c.contents-rules.ensures.only
-    c.self.inside.decided c.of.new.decided _ c.of.ensures.kept c.of.ensures.undecided c.in_ok-scanner.ensures.decided c.self.inside.same_rules c.self.inside.seen c.self.invariant
+    c.of.new.decided c.in_ok-scanner.ensures.decided c.self.inside.seen_by c.self.inside.seen c.self.invariant
     c.args.most c.in_ok-scanner.scanner c.in_ok-scanner.ensures.begun c.running.result.now c.running.ensures)
 
 pub returns-clause-settled : goal.returns-clause-settled
