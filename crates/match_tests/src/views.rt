@@ -108,6 +108,8 @@ fn matches_names_that_hold_literals(rt: HostRuntime) -> Result<(), Fail> {
         ("f(\"...\")", "\"b\"", "8..12 "),
         ("f(\"...\")", "1", ""),
         ("\"a\"", "\"a\"", "4..7 10..11 "),
+        ("<... \"b\" ...>", "\"b\"", "8..12 10..11 "),
+        ("<... <... \"b\" ...> ...>", "\"b\"", "8..12 10..11 "),
     ];
     for (pattern, literal, wanted) in rows {
         let found = matched(rt.alloc(), pattern, literal)?;

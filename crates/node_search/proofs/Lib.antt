@@ -4,3 +4,4 @@ pub mod Counted
 pub mod Lines
 pub mod Going
 pub mod Steps
+pub mod DotsInDots

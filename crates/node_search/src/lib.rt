@@ -3,6 +3,7 @@
 
 mod choice;
 mod holder;
+mod innermost;
 mod list;
 mod search;
 mod state;
@@ -10,6 +11,6 @@ mod steady;
 mod taken;
 
 pub use holder::Holder;
-pub use list::{alone, count_kids, finish, part_of, place, span_of_run};
+pub use list::{alone, count_kids, finish, part_of, place, put, span_of_run};
 pub use search::{choose_kids, relate, step_at};
 pub use state::State;

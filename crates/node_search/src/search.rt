@@ -21,6 +21,7 @@ ghost use Rattle.node_pool.specs.Spots.{all_seen};
 
 use crate::choice::Choice;
 use crate::holder::Holder;
+use crate::innermost::innermost;
 use crate::list::{bound_run, enter, finish, float, put_trail, runs, skip, start};
 use crate::state::State;
 use crate::steady::{are_steady, is_settled};
@@ -171,7 +172,7 @@ fn deep<'t>(
     if !spot.node.kind.is_expression() {
         return Ok(());
     }
-    let inner = pattern.kids.as_slice();
+    let inner = innermost(pattern).kids.as_slice();
     if inner.len() != 1 {
         return Ok(());
     }

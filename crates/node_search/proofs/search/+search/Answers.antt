@@ -160,11 +160,12 @@ pub deep-returns : goal.deep-returns
 deep-returns t c b =
     let C = c.args.known.names.now in
     let s = seen c.args.spot in
-    let one = one_kid (kids_of c.args.pattern.now) (ap length (sym c.as_slice-inner.ensures) ∙ c.if-inner-ne1.false) in
+    let last = c.innermost.result.now in
+    let one = one_kid (kids_of last) (ap length (sym c.as_slice-inner.ensures) ∙ c.if-inner-ne1.false) in
     let q = one.0 in
     let done : drop c.loop-further.further (pre_at s) ≡ [] = drop_all c.loop-further.further (pre_at s) (omega (arith, pre_many s, c.size-further-end.ensures.size, c.loop-further-test.false)) in
     plus_as _ _ _ _ (gathered_all _ _ _ (nowhere C q _ c.args.trail.now b done) (c.loop-further.invariant q b (c.as_slice-inner.ensures ∙ one.1)))
-    (deep_in C c.args.pattern.now s c.args.trail.now c.requires.role q one.1 (sym c.is_expression.ensures ∙ c.if-not-is_expression.false) b)
+    (chain _ _ _ (deep_in C last s c.args.trail.now c.innermost.ensures.role q one.1 (sym c.is_expression.ensures ∙ c.if-not-is_expression.false) b) (c.innermost.ensures.same C s c.args.trail.now b))
 
 pub deep-loop-further-preserved : goal.deep-loop-further-preserved
 deep-loop-further-preserved t c q b e =
@@ -376,8 +377,8 @@ go_on-returns-clause-added t c =
 
 pub deep-relate-requires : goal.deep-relate-requires
 deep-relate-requires t c =
-    let fewer = count_kid c.args.pattern.now c.as_slice-inner.result.now 0 c.index-inner-0.result c.as_slice-inner.ensures (omega (arith, c.if-inner-ne1.false)) c.index-inner-0.is in
-    (omega (arith, c.decreases, fewer), tt)
+    let fewer = count_kid c.innermost.result.now c.as_slice-inner.result.now 0 c.index-inner-0.result c.as_slice-inner.ensures (omega (arith, c.if-inner-ne1.false)) c.index-inner-0.is in
+    (omega (arith, c.decreases, fewer, c.innermost.ensures.within), tt)
 
 pub step_at-step-requires : goal.step_at-step-requires
 step_at-step-requires t c =
