@@ -18,4 +18,4 @@ pub use free::{is_free, is_text_free, part_at};
 pub use known::{holds_same, holds_string};
 pub use named::kids_that;
 pub use order::Order;
-pub use refusal::{LOOK, are_kids_refused, is_front_refused};
+pub use refusal::{LOOK, are_kids_refused, is_front_refused, is_kid_refused};

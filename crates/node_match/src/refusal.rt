@@ -123,9 +123,9 @@ fn is_none(pattern: &Node, nodes: &[Node], levels: u32) -> bool
     true
 }
 
-// Whether a match of a kid of a holder of that kind is ruled out by the kid itself and so many levels below it.
+/// Whether a match of a kid of a holder of that kind is ruled out by the kid itself and so many levels below it.
 #[cycle(refusal)]
-fn is_kid_refused(holder: Kind, pattern: &Node, node: &Node, levels: u32) -> bool
+pub fn is_kid_refused(holder: Kind, pattern: &Node, node: &Node, levels: u32) -> bool
     ensures { IsTrue result → IsKidRefused holder pattern.now node.now }
 {
     if is_arguments(holder, pattern) {

@@ -1,6 +1,6 @@
 -- The members inside the last kid of a list.
-use Rattle.std.proofs.Common.{◌≡◌, ◌⊎◌, inl, inr, ◌↔◌, ℕ, ◌+◌, List, [], ◌∷◌, length, drop, refl, sym, ap, ◌∙◌, subst, Bool, true, false, not, cond}
-use Rattle.std.specs.Prelude.{None, Some, ◌||◌}
+use Rattle.std.proofs.Common.{◌≡◌, ◌↔◌, List, [], ◌∷◌, drop, refl, sym, ap, ◌∙◌, subst, Bool, true, false, cond}
+use Rattle.std.specs.Prelude.{Some, ◌||◌}
 use Rattle.node_tree.specs.declared.node.Node.{Node}
 use Rattle.node_tree.specs.declared.kind.Kind.{Kind}
 use Rattle.node_tree.specs.declared.known.Known.{Known}
@@ -16,8 +16,8 @@ use Rattle.node_search.specs.declared.state.State.{State}
 use Rattle.node_match.specs.Kinds.{role_of, IsOne}
 use Rattle.node_match.specs.Free.{Part, parts_of, HasText}
 use Rattle.node_match.specs.Orders.{order_of, some_is, has_dots, is_list, is_named, is_arguments, named_of, unnamed_of, named_at, unnamed_at, all_asked}
-use Rattle.node_match.specs.Relation.{Matches, MatchesKid, MatchesArguments, MatchesChoice, MatchesList, no_choice, both_empty, head_and_rest, dots, named_dots, nodes_of}
-use Rattle.node_match.specs.Fronts.{End, Leads, MatchesFront}
+use Rattle.node_match.specs.Relation.{MatchesKid, MatchesChoice, MatchesList, no_choice, both_empty, head_and_rest, dots, named_dots, nodes_of}
+use Rattle.node_match.specs.Fronts.{MatchesFront}
 use Rattle.node_match.specs.Choices.{Chosen}
 use Rattle.node_match.proofs.Sets.{chain}
 use Rattle.node_match.proofs.Numbering.{kids_nodes}

@@ -1,4 +1,4 @@
-use Rattle.std.proofs.Common.{◌∙◌, ◌∷◌, [], ◌+◌, List, sym, ap, arith, drop}
+use Rattle.std.proofs.Common.{◌∙◌, ◌∷◌, ◌+◌, List, ap, arith, drop}
 use Rattle.std.specs.Prelude.{Option, Some}
 use Rattle.std.specs.Borrow.{Bor}
 use Rattle.std.specs.Option.{option_copied}
