@@ -1,14 +1,14 @@
 -- Rules that came to others, gathered one after the other.
-use Rattle.std.proofs.Common.{◌≡◌, ◌⊎◌, inl, inr, ◌↔◌, ℕ, zero, suc, ◌+◌, ◌<◌, ◌≤◌, List, [], ◌∷◌, ◌++◌, length, take, get_or, refl, sym, ap, ◌∙◌, subst, arith}
+use Rattle.std.proofs.Common.{◌≡◌, ◌⊎◌, inl, inr, ◌↔◌, ℕ, zero, suc, ◌+◌, ◌<◌, ◌≤◌, List, [], ◌∷◌, ◌++◌, length, take, drop, drop_of_length-le, get_or, refl, sym, ap, ◌∙◌, subst, arith}
 use Rattle.std.specs.Prelude.{Some, slice_get}
-use Rattle.std.proofs.lemmas.List.{take_more, take_all}
+use Rattle.std.proofs.lemmas.List.{take_more, drop_more, length-drop}
 use Rattle.std.proofs.lemmas.Option.{slice_get-get_or}
 use Rattle.node_match.specs.Sets.{Among}
 use Rattle.node_match.proofs.Sets.{among_more}
 use Rattle.rule_form.specs.declared.rule.Rule.{Rule}
 use Rattle.running_rules.specs.Running.{AreApart}
 use Rattle.running_rules.proofs.Members.{among_get, get_among}
-use Rattle.seen_files.specs.More.{AreAdded}
+use Rattle.seen_files.specs.More.{StillRun, AreAdded}
 
 -- ---- items by their places
 
@@ -114,11 +114,34 @@ module _ (bs rs ns : List Rule) (r : Rule) (so_far : AreAdded bs rs ns) where
       some_last [] e = absurd cc
       some_last (x ∷ xs) e = absurd cc
 
+-- ---- whether those before still run
+
+-- then all but the first of them do
+less_run : (b : Rule) (before running : List Rule) → StillRun (b ∷ before) running → StillRun before running
+less_run b before [] h = absurd h
+less_run b [] (r ∷ running) h = tt
+less_run b (c ∷ before) (r ∷ running) h = elim h [ inl x ↦ inr x.1 | inr y ↦ inr (less_run b (c ∷ before) running y) ]
+
+-- the first one of them is the first one that runs: no later one that is the same serves better
+first_same : (r : Rule) (before running : List Rule) → StillRun (r ∷ before) (r ∷ running) ↔ StillRun before running
+first_same r before running = (λ h. elim h [ inl x ↦ x.1 | inr y ↦ less_run r before running y ], λ h. inl (refl, h))
+
+-- another one runs first
+first_other : (r : Rule) (before running : List Rule) → (slice_get before 0 ≡ Some r → ⊥) → StillRun before (r ∷ running) ↔ StillRun before running
+first_other r [] running other = (λ h. tt, λ h. tt)
+first_other r (b ∷ before) running other = (λ h. elim h [ inl x ↦ absurd (other (ap (λ (z : Rule). Some z) x.0)) | inr y ↦ y ], λ h. inr h)
+
+-- no rule runs
+none_run : (before : List Rule) → 0 < length before → StillRun before [] → ⊥
+none_run [] some h = absurd (omega (arith, some))
+none_run (b ∷ before) some h = h
+
 -- ---- the walk over the rules that run
 
--- so many of the rules before were found among the first ones that run
+-- So many of the rules before were found among the first ones that run. The rest of them run in the rest just where all of them still
+-- run.
 abbrev pub Walked : List Rule → List Rule → ℕ → ℕ → List Rule → Type 0
-Walked before running next i added = AreAdded (take next before) (take i running) added × (next ≤ length before)
+Walked before running next i added = AreAdded (take next before) (take i running) added × (next ≤ length before) × (StillRun (drop next before) (drop i running) ↔ StillRun before running)
 
 take_got : (xs : List Rule) (i : ℕ) (x : Rule) → slice_get xs i ≡ Some x → take (i + 1) xs ≡ take i xs ++ x ∷ []
 take_got xs i x e =
@@ -127,9 +150,27 @@ take_got xs i x e =
     let same : get_or xs i x ≡ x = cc in
     take_more xs i x inside ∙ ap (λ (y : Rule). take i xs ++ y ∷ []) same
 
+drop_got : (xs : List Rule) (i : ℕ) (x : Rule) → slice_get xs i ≡ Some x → drop i xs ≡ x ∷ drop (i + 1) xs
+drop_got xs i x e =
+    let inside = get_inside xs i x e in
+    let read : Some (get_or xs i x) ≡ Some x = sym (slice_get-get_or xs i x inside) ∙ e in
+    let same : get_or xs i x ≡ x = cc in
+    drop_more xs i x inside ∙ ap (λ (y : Rule). y ∷ drop (i + 1) xs) same
+
+drop_first : (xs : List Rule) (i : ℕ) → slice_get (drop i xs) 0 ≡ slice_get xs i
+drop_first xs zero = refl
+drop_first [] (suc i) = refl
+drop_first (x ∷ xs) (suc i) = drop_first xs i
+
 module _ (before running : List Rule) (next i : ℕ) (added : List Rule) (r d : Rule) (lt : i < length running) (is : r ≡ get_or running i d) (far : Walked before running next i added) where
   one_more : take (i + 1) running ≡ take i running ++ r ∷ []
   one_more = take_more running i d lt ∙ ap (λ (x : Rule). take i running ++ x ∷ []) (sym is)
+
+  one_less : drop i running ≡ r ∷ drop (i + 1) running
+  one_less = drop_more running i d lt ∙ ap (λ (x : Rule). x ∷ drop (i + 1) running) (sym is)
+
+  left : StillRun (drop next before) (r ∷ drop (i + 1) running) ↔ StillRun before running
+  left = let P : List Rule → Type 0 = λ rs. StillRun (drop next before) rs ↔ StillRun before running in subst P one_less far.2
 
   -- it is the next one of those before
   pub walked_same : slice_get before next ≡ Some r → Walked before running (next + 1) (i + 1) added
@@ -137,23 +178,31 @@ module _ (before running : List Rule) (next i : ℕ) (added : List Rule) (r d : 
       let inside = get_inside before next r there in
       let P : List Rule → Type 0 = λ bs. AreAdded bs (take (i + 1) running) added in
       let Q : List Rule → Type 0 = λ rs. AreAdded (take next before ++ r ∷ []) rs added in
-      (subst P (sym (take_got before next r there)) (subst Q (sym one_more) (added_same (take next before) (take i running) added r far.0)), omega (arith, inside))
+      let R : List Rule → Type 0 = λ bs. StillRun bs (r ∷ drop (i + 1) running) ↔ StillRun before running in
+      let rest = subst R (drop_got before next r there) left in
+      let same = first_same r (drop (next + 1) before) (drop (i + 1) running) in (
+        subst P (sym (take_got before next r there)) (subst Q (sym one_more) (added_same (take next before) (take i running) added r far.0)),
+        omega (arith, inside),
+        (λ h. rest.0 (same.1 h), λ all. same.0 (rest.1 all)),
+      )
 
   -- it is another one
-  pub walked_new : (added' : List Rule) → added' ≡ added ++ r ∷ [] → Walked before running next (i + 1) added'
-  walked_new added' push =
+  pub walked_new : (slice_get before next ≡ Some r → ⊥) → (added' : List Rule) → added' ≡ added ++ r ∷ [] → Walked before running next (i + 1) added'
+  walked_new other added' push =
       let P : List Rule → Type 0 = λ rs. AreAdded (take next before) rs added' in
       let Q : List Rule → Type 0 = λ ns. AreAdded (take next before) (take i running ++ r ∷ []) ns in
-      (subst P (sym one_more) (subst Q (sym push) (added_new (take next before) (take i running) added r far.0)), far.1)
+      let same = first_other r (drop next before) (drop (i + 1) running) (λ e. other (sym (drop_first before next) ∙ e)) in (
+        subst P (sym one_more) (subst Q (sym push) (added_new (take next before) (take i running) added r far.0)),
+        far.1,
+        (λ h. left.0 (same.1 h), λ all. same.0 (left.1 all)),
+      )
 
-pub walked_none : (before running added : List Rule) → added ≡ [] → Walked before running 0 0 added
-walked_none before running added e = let P : List Rule → Type 0 = λ ns. AreAdded [] [] ns in (subst P (sym e) added_none, omega arith)
-
-pub walked_all : (before running : List Rule) (next i : ℕ) (added : List Rule) → length before ≤ next → length running ≤ i → Walked before running next i added → AreAdded before running added
-walked_all before running next i added all end far =
-    let P : List Rule → Type 0 = λ bs. AreAdded bs running added in
-    let Q : List Rule → Type 0 = λ rs. AreAdded (take next before) rs added in
-    subst P (take_all next before all) (subst Q (take_all i running end) far.0)
+-- at the end some of those before weren't found
+pub some_gone : (before running : List Rule) (next i : ℕ) (added : List Rule) → next < length before → length running ≤ i → Walked before running next i added → StillRun before running → ⊥
+some_gone before running next i added some end far all =
+    let P : List Rule → Type 0 = λ rs. StillRun (drop next before) rs in
+    let left = length-drop next before in
+    none_run (drop next before) (omega (arith, some, left)) (subst P (drop_of_length-le running end) (far.2.1 all))
 
 -- ---- one step of the loop
 
@@ -164,5 +213,5 @@ module _ (before running : List Rule) (next next' i : ℕ) (added added' : List 
       let Q : List Rule → Type 0 = λ xs. Walked before running (next + 1) (i + 1) xs in
       subst P (sym on) (subst Q (sym stays) (walked_same before running next i added r d lt is far (there ∙ ap (λ (y : Rule). Some y) same)))
 
-  pub step_new : next' ≡ next → added' ≡ added ++ r ∷ [] → Walked before running next' (i + 1) added'
-  step_new stays push = let P : ℕ → Type 0 = λ n. Walked before running n (i + 1) added' in subst P (sym stays) (walked_new before running next i added r d lt is far added' push)
+  pub step_new : (slice_get before next ≡ Some r → ⊥) → next' ≡ next → added' ≡ added ++ r ∷ [] → Walked before running next' (i + 1) added'
+  step_new other stays push = let P : ℕ → Type 0 = λ n. Walked before running n (i + 1) added' in subst P (sym stays) (walked_new before running next i added r d lt is far other added' push)

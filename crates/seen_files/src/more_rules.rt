@@ -1,7 +1,7 @@
 //! Which rules came to those by which files were seen.
 
-ghost use Rattle.std.specs.Prelude.{◌≡◌, ◌↔◌, Some, slice_get, IsTrue, IfOk};
-ghost use Rattle.seen_files.specs.More.{IsMore};
+ghost use Rattle.std.specs.Prelude.{◌≡◌, ◌↔◌, Some, slice_get, IsTrue, IsSome, IfOk};
+ghost use Rattle.seen_files.specs.More.{StillRun, IsMore};
 
 use node_tree::{List, Memory, Twin};
 use rule_form::Rule;
@@ -18,13 +18,14 @@ fn is_at(rules: &[Rule], number: usize, rule: &Rule) -> bool
     rule.same_rule(&rules[number])
 }
 
-/// The rules that run besides those before, if each of those still runs, and in their order. None if others run.
+/// The rules that run besides those before, if each of those still runs, and in their order. None just where they don't.
 pub fn rules_added<'r>(
     alloc: Global,
     before: &[Rule],
     running: &[Runner<'r>],
 ) -> Result<Option<List<Runner<'r>>>, Memory>
-    ensures { IfOk result (IsMore before.now running.now) }
+    ensures those { IfOk result (IsMore before.now running.now) }
+    ensures exact { IfOk result (λ added. IsSome added ↔ StillRun before.now running.now) }
 {
     let mut added = List::new(alloc);
     let mut next: usize = 0;
