@@ -1,15 +1,11 @@
--- Files that are ready for the search.
-use Rattle.std.specs.Prelude.{◌≡◌, ℕ, List}
+-- Files that tell which patterns they may have.
+use Rattle.std.specs.Prelude.{◌≡◌}
 use Rattle.node_tree.specs.declared.node.Node.{Node}
 use Rattle.node_tree.specs.Tree.{pre_of}
-use Rattle.node_tree.specs.Numbers.{root_of}
-use Rattle.tree_match.specs.Starts.{kinds_at}
 use Rattle.file_match.specs.declared.words.Words.{Words}
 use Rattle.file_match.specs.Words.{Covers}
 
--- a pool has the nodes of the tree and nothing else, and these are their kinds and the marks of their words among all places
-pub record IsReady (tree : Node) (nodes : List Node) (kinds : List ℕ) (words : Words) : Type 0 where
-  pub placed : nodes ≡ pre_of tree
-  pub kinds_are : kinds ≡ kinds_at (root_of tree)
+-- these are the marks of the words of the tree's nodes among all places
+pub record IsReady (tree : Node) (words : Words) : Type 0 where
   pub all : words.count ≡ 65536
   pub words_are : Covers words.count words.marks.items (pre_of tree)

@@ -7,14 +7,13 @@ ghost use Rattle.tree_match.specs.Leaf.{IsLeaf};
 ghost use Rattle.tree_match.specs.Starts.{kinds_at};
 ghost use Rattle.tree_match.specs.Placed.{IsLeafPlaced};
 
-use crate::ready::{ReadyFile, pool_of, root_in};
-use crate::words::{may_match, wanted_of};
+use crate::ready::{pool_of, root_in};
 use node_match::Constants;
 use node_pool::Spot;
 use node_tree::{FileView, Memory, Node, Pattern, Shape, Steps};
 use std::alloc::Global;
 use std::sync::ledger::Ledger;
-use tree_match::{Leaf, LeafSet, keep_all, kinds_of, members_of};
+use tree_match::{Leaf, keep_all, kinds_of, members_of};
 
 /// The members below a node for a pattern of this shape. The kinds are those of the nodes.
 pub fn leaf_under<'t>(
@@ -48,25 +47,6 @@ fn leaf_of(
     let root = root_in(&pool);
     let kinds = kinds_of(alloc, root)?;
     let leaf = leaf_under(alloc, known, shape, pattern, root, kinds.as_slice())?;
-    Ok(leaf)
-}
-
-// The same in a file that is ready. Where the file lacks a word that the pattern needs, nothing is searched.
-fn leaf_in(
-    alloc: Global,
-    known: Constants<'_>,
-    shape: Shape,
-    pattern: &Node,
-    file: &ReadyFile<'_>,
-) -> Result<Leaf, Memory>
-    ensures { IfOk result (λ leaf. IsLeaf (MemberOf known.entry.names.now shape pattern.now file.now.tree) leaf) }
-{
-    let wanted = wanted_of(alloc, known.names.is_empty(), shape, pattern)?;
-    if !may_match(&file.words, &wanted) {
-        return Ok(Leaf::Full(LeafSet::empty(alloc)));
-    }
-    let root = root_in(&file.pool);
-    let leaf = leaf_under(alloc, known, shape, pattern, root, file.kinds.as_slice())?;
     Ok(leaf)
 }
 
@@ -107,20 +87,4 @@ pub fn match_leaf<L: Ledger>(
     steps.tick();
     let known = known_to(pattern, constants_of(view));
     leaf_of(alloc, known, pattern.shape, &pattern.tree, &view.tree)
-}
-
-/// The same in a file that was made ready for many patterns.
-pub fn match_ready<L: Ledger>(
-    alloc: Global,
-    file: &ReadyFile<'_>,
-    pattern: &Pattern,
-    steps: &mut Steps<L>,
-) -> Result<Leaf, Memory>
-    ensures exact { IfOk result (λ leaf. IsLeaf (IsMember pattern.now (known_tree file.now)) leaf) }
-    ensures placed { IfOk result (λ leaf. IsLeafPlaced file.now.bytes leaf) }
-    ensures cost { steps.new ≡ steps.old + 1 }
-{
-    steps.tick();
-    let known = known_to(pattern, constants_of(file.view()));
-    leaf_in(alloc, known, pattern.shape, &pattern.tree, file)
 }

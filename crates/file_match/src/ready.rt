@@ -1,4 +1,4 @@
-//! Files that are ready for the search.
+//! Files that tell which patterns they may have, and the pools in which trees are searched.
 
 ghost use Rattle.std.specs.Prelude.{◌≡◌, ◌↔◌, ◌++◌, ◌<◌, List as list, IsTrue, false, length, IfOk};
 ghost use Rattle.node_tree.specs.declared.known.Known.{Known as known_value};
@@ -15,16 +15,12 @@ use node_pool::{NodePool, Spot, spot_at};
 use node_tree::{FileView, Memory, Node, Pattern};
 use std::alloc::Global;
 use std::marker::Model;
-use tree_match::kinds_of;
 
-/// A file that is ready for the search of many patterns: its nodes in a pool, their kinds, and its words. Contracts see the
-/// file.
+/// A file that is ready to be asked for many patterns: with its words. Contracts see the file.
 #[derive(Drop)]
 pub struct ReadyFile<'v> {
-    pub view: &'v FileView,
-    pub pool: NodePool<'v>,
-    pub kinds: Vec<u8>,
-    pub words: Words,
+    view: &'v FileView,
+    words: Words,
 }
 
 impl<'v> Model for ReadyFile<'v> {
@@ -39,7 +35,7 @@ impl<'v> Model for ReadyFile<'v> {
 
     ghost view = { λ f. f.view.now };
 
-    ghost invariant = { λ f. IsReady f.view.now.tree f.pool.nodes f.kinds.items f.words };
+    ghost invariant = { λ f. IsReady f.view.now.tree f.words };
 }
 
 impl<'v> ReadyFile<'v> {
@@ -47,15 +43,8 @@ impl<'v> ReadyFile<'v> {
     pub fn of(alloc: Global, view: &'v FileView) -> Result<ReadyFile<'v>, Memory>
         ensures { IfOk result (λ file. file ≡ view.now) }
     {
-        let pool = pool_of(alloc, &view.tree)?;
-        let kinds = kinds_of(alloc, root_in(&pool))?;
         let words = words_of(alloc, &view.tree, ALL_PLACES)?;
-        Ok(ReadyFile {
-            view,
-            pool,
-            kinds,
-            words,
-        })
+        Ok(ReadyFile { view, words })
     }
 
     /// The file.

@@ -12,16 +12,13 @@ use Rattle.node_tree.specs.Shifts.{shifted}
 use Rattle.node_tree.specs.Tree.{kids_of, span_of}
 use Rattle.piece_form.specs.declared.piece.Placed.{Placed}
 use Rattle.piece_form.specs.Cut.{known_between, piece_at, pieces_from, pieces_of}
-use Rattle.piece_match.specs.Pieces.{falls_apart}
 use Rattle.tree_match.specs.Members.{KnownTree, known_tree}
 use Rattle.import_names.specs.Claims.{claims_of, meaning}
 use Rattle.import_names.specs.Resolved.{replaced, kept, tree_in, known_in, IsResolved}
 use Rattle.import_names.proofs.Placing.{replaced_lies}
 use Rattle.import_names.proofs.Renumbering.{are_names, are_in_order}
-use Rattle.file_parts.specs.declared.cut.Cut.{Cut}
 use Rattle.file_parts.specs.Seen.{resolved_tree}
-use Rattle.file_parts.specs.Parts.{whole_part, ResolvesToItself}
-use Rattle.file_parts.specs.Held.{IsCut}
+use Rattle.file_parts.specs.Parts.{whole_part}
 
 -- ---- the resolved view
 
@@ -59,9 +56,6 @@ tree_is view r is =
     let make : Node → List Known → KnownTree = λ t ks. record { tree = t; known = ks } in
     sym (ap (λ (t : Node). make t r.known) is.tree ∙ ap (make (tree_in view.lang view.tree)) is.known)
 
-pub to_itself : (view r : FileView) → IsResolved view r → known_tree r ≡ known_tree view → ResolvesToItself view
-to_itself view r is same = tree_is view r is ∙ same
-
 -- ---- two views that agree are cut alike
 
 module _ (a b : FileView) (lang : a.lang ≡ b.lang) (bytes : a.bytes ≡ b.bytes) (tree : a.tree ≡ b.tree) (known : a.known ≡ b.known) where
@@ -92,16 +86,3 @@ module _ (a b : FileView) (lang : a.lang ≡ b.lang) (bytes : a.bytes ≡ b.byte
       let make : Lang → List ℕ → Node → List Known → Placed = λ l bs t ks. record { start = 0; piece = record { lang = l; bytes = bs; tree = t; known = ks } } in
       ap (λ (l : Lang). make l a.bytes a.tree a.known) lang ∙ ap (λ (bs : List ℕ). make b.lang bs a.tree a.known) bytes ∙ ap (λ (t : Node). make b.lang b.bytes t a.known) tree
       ∙ ap (make b.lang b.bytes b.tree) known
-
--- whichever the resolved view is, it is cut alike
-pub cut_alike : (view a b : FileView) (c : Cut) → IsResolved view a → IsResolved view b → IsCut a c → IsCut b c
-cut_alike view a b c x y is =
-    let lang = x.lang ∙ sym y.lang in
-    let bytes = x.bytes ∙ sym y.bytes in
-    let tree = x.tree ∙ sym y.tree in
-    let known = x.known ∙ sym y.known in
-    record {
-      statements = is.statements ∙ all_alike a b lang bytes tree known;
-      whole = is.whole ∙ whole_alike a b lang bytes tree known;
-      apart = is.apart ∙ ap falls_apart tree;
-    }

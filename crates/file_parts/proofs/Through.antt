@@ -60,12 +60,12 @@ union_none = (
 -- ---- by language
 
 -- in Python it is the joined one
-pub python_seen : (lang : Lang) (file : KnownTree) (pattern : Pattern) (leaf : Leaf) → lang ≡ langs.Python → IsJoinedLeaf file (resolved_tree lang file) pattern leaf → seen_leaf lang file pattern leaf
+python_seen : (lang : Lang) (file : KnownTree) (pattern : Pattern) (leaf : Leaf) → lang ≡ langs.Python → IsJoinedLeaf file (resolved_tree lang file) pattern leaf → seen_leaf lang file pattern leaf
 python_seen langs.Python file pattern leaf e x = x
 python_seen _ file pattern leaf e x = absurd cc
 
 -- where nothing is resolved it is that of the file
-pub itself_seen : (lang : Lang) (file : KnownTree) (pattern : Pattern) (leaf : Leaf) → resolved_tree lang file ≡ file → IsLeaf (IsMember pattern file) leaf → seen_leaf lang file pattern leaf
+itself_seen : (lang : Lang) (file : KnownTree) (pattern : Pattern) (leaf : Leaf) → resolved_tree lang file ≡ file → IsLeaf (IsMember pattern file) leaf → seen_leaf lang file pattern leaf
 itself_seen langs.Python file pattern leaf same x =
     let P : KnownTree → Type 0 = λ t. IsLeaf (IsMember pattern t) leaf in
     record { plain = leaf; further = leaf; plain_is = x; further_is = subst P (sym same) x; joined = join_same (IsMember pattern file) leaf x }

@@ -81,21 +81,8 @@ fn beside<'v>(
 }
 
 impl<'v> WholeFile<'v> {
-    /// Makes a file ready, of which the other is the file with its names resolved. None says that the file resolves to itself, and
-    /// costs nothing. In another language than Python the other isn't looked at.
-    pub fn of(
-        alloc: Global,
-        view: &'v FileView,
-        resolved: &'v Option<FileView>,
-    ) -> Result<WholeFile<'v>, Memory>
-        requires { MatchOption resolved.now (IsResolved view.now view.now) (IsResolved view.now) }
-        ensures { IfOk result (λ file. file ≡ view.now) }
-    {
-        let written = ReadyFile::of(alloc, view)?;
-        WholeFile::with(alloc, written, resolved)
-    }
-
-    /// The same of a file that is ready already, as it is written.
+    /// The whole of a file that is ready as it is written. The other is the file with its names resolved, where None says that it
+    /// resolves to itself, and costs nothing. In another language than Python the other isn't looked at.
     pub fn with(
         alloc: Global,
         written: ReadyFile<'v>,

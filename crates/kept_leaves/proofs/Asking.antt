@@ -66,9 +66,6 @@ asked_meets (p ∷ ps) old before new after (next, steps, (same, m), rest) =
     (λ x. (needs_first old p ps x, needs_which old p ps x)) both
 
 module _ (Set : Pattern → Type 0) (old : Search) (before : ℕ) (new : Search) (after : ℕ) (a : AsksFor AsksKept Set old before new after) where
-  pub asks_for_file : StaysIn old new
-  asks_for_file = asked_file a.patterns old before new after a.asked
-
   -- the pairs that the set needs are met
   pub asks_for_meets : Meets (IsNeededBy old Set) (kept_by old) before (kept_by new) after
   asks_for_meets =

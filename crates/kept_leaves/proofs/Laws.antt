@@ -4,10 +4,10 @@ use Rattle.std.specs.Prelude.{Option, Some, unwrap_or}
 use Rattle.tree_match.specs.declared.leaf.Leaf.{Leaf}
 use Rattle.kept_leaves.specs.declared.leaf.KeptLeaf.{KeptLeaf}
 use Rattle.kept_leaves.specs.Kept.{PieceRef, PatternRef, Map, AreKeys, Keeps, IsKept, IsMet, AreRight}
-use Rattle.kept_leaves.specs.Growth.{Stays, Grows}
+use Rattle.kept_leaves.specs.Growth.{Grows}
 use Rattle.kept_leaves.specs.Pairs.{Pair, IsSamePair}
 use Rattle.kept_leaves.proofs.Keyed.{IsAlike, keys_of_same, tied}
-use Rattle.kept_leaves.proofs.Pairs.{same_itself, one_first, one_second, one_either, apart_append}
+use Rattle.kept_leaves.proofs.Pairs.{one_first, one_second, one_either, apart_append}
 
 -- ---- pairs that count as one
 
@@ -19,9 +19,6 @@ module _ (map : Map) (x y : Pair) (same : IsSamePair x y) where
 
   pub kept_same : IsKept map x → IsKept map y
   kept_same (leaf, met, k) = (leaf, met, keeps_same leaf met k)
-
-  pub met_same : IsMet map x → IsMet map y
-  met_same (leaf, k) = (leaf, keeps_same leaf true k)
 
 -- what is kept for a pair is found by each keys of it
 pub found_by : (map : Map) → IsAlike map → (x y : Pair) (a : PieceRef) (b : PatternRef) (leaf : Leaf) (met : Bool) → IsSamePair x y → AreKeys y a b → Keeps map x leaf met
@@ -40,10 +37,6 @@ one_answer l m b c e =
     let f : Option (KeptLeaf × Bool) → KeptLeaf × Bool = λ o. unwrap_or o x in
     let pair : x ≡ (record { leaf = m }, c) = ap f e in
     (ap (λ (p : KeptLeaf × Bool). p.0.leaf) pair, ap (λ (p : KeptLeaf × Bool). p.1) pair)
-
--- one leaf is kept for a pair
-pub kept_once : (map : Map) → IsAlike map → (x : Pair) (l m : Leaf) (b c : Bool) → Keeps map x l b → Keeps map x m c → (l ≡ m) × (b ≡ c)
-kept_once map alike x l m b c k j = one_answer l m b c (sym (found_by map alike x x j.piece j.pattern l b (same_itself x) j.are_keys k) ∙ j.found)
 
 -- ---- what is kept of it may be seen otherwise
 
@@ -101,15 +94,6 @@ grows_then old mid new N M ns ms g h = record {
   gained = λ x o. elim (one_either ns ms x o) [ inl p ↦ still_met mid new ms h x (g.gained x p) | inr q ↦ h.gained x q ];
   once = apart_append ns ms g.once h.once (λ x p q. let (leaf, k) = g.gained x p in h.fresh x q (leaf, true, k));
 }
-
-pub stays_then : (old mid new : Map) → Stays old mid → Stays mid new → Stays old new
-stays_then old mid new g h x leaf met k =
-    let (m, j, f) = g x leaf met k in
-    let (now, i, e) = h x leaf m j in
-    (now, i, λ is. e (f is))
-
-pub stays_as : (old new : Map) → ((path : List ℕ) (a : PieceRef) (b : PatternRef) → new path a b ≡ old path a b) → Stays old new
-stays_as old new same x leaf met k = (met, keeps_as old new same x leaf met k, λ e. e)
 
 pub right_as : (old new : Map) → ((path : List ℕ) (a : PieceRef) (b : PatternRef) → new path a b ≡ old path a b) → AreRight old → AreRight new
 right_as old new same right x leaf met k = right x leaf met (keeps_as new old (λ path a b. sym (same path a b)) x leaf met k)

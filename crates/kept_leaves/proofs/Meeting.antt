@@ -1,6 +1,6 @@
 -- One pair is met: marked where it is kept, and else matched and kept.
 use Rattle.std.proofs.Common.{◌≡◌, ◌∙◌, ℕ, ◌+◌, List, [], ◌∷◌, ◌⊎◌, inl, inr, refl, sym, ap, subst, Bool, true, false, arith}
-use Rattle.std.specs.Prelude.{Option, None, Some, is_some, Result, Ok, Err, OnOk, OnErr}
+use Rattle.std.specs.Prelude.{Option, None, Some, is_some, Result, Ok, Err, OnOk}
 use Rattle.node_tree.specs.declared.view.Pattern.{Pattern}
 use Rattle.piece_form.specs.declared.piece.Piece.{Piece}
 use Rattle.file_parts.specs.Parts.{SeenPart, is_needed}
@@ -12,11 +12,11 @@ use Rattle.tree_match.specs.Leaf.{IsLeaf}
 use Rattle.piece_match.specs.Pieces.{IsPieceMember, known_piece}
 use Rattle.kept_leaves.specs.declared.leaf.KeptLeaf.{KeptLeaf}
 use Rattle.kept_leaves.specs.Kept.{PieceRef, PatternRef, Map, piece_cmp, pattern_cmp, AreKeys, AreRight}
-use Rattle.kept_leaves.specs.Growth.{Stays, Grows, Meets}
+use Rattle.kept_leaves.specs.Growth.{Grows, Meets}
 use Rattle.kept_leaves.specs.Pairs.{Pair, IsSamePair, IsOneOf}
 use Rattle.kept_leaves.specs.Ready.{pair_of, pairs_of}
 use Rattle.kept_leaves.proofs.Keyed.{IsAlike, tied}
-use Rattle.kept_leaves.proofs.Laws.{some_pair, grows_none, grows_then, grows_as, stays_as, right_as}
+use Rattle.kept_leaves.proofs.Laws.{some_pair, grows_none, grows_then, grows_as, right_as}
 use Rattle.kept_leaves.proofs.Growing.{meets_none, meets_as}
 use Rattle.kept_leaves.proofs.Needs.{pair_here, pair_out}
 use Rattle.kept_leaves.proofs.Pairs.{same_itself}
@@ -49,9 +49,6 @@ module _ (old mid : Map) (alike : IsAlike old) (x : Pair) (a : PieceRef) (b : Pa
     as_before : (path : List ℕ) (p : PieceRef) (q : PatternRef) → mid path p q ≡ old path p q
     as_before = same_none old mid alike x a b keys (marked (old x.path a b)) mark none (ap marked none)
 
-    pub unmarked_stays : Stays old mid
-    unmarked_stays = stays_as old mid as_before
-
     pub unmarked_right : AreRight old → AreRight mid
     unmarked_right right = right_as old mid as_before right
 
@@ -75,27 +72,14 @@ module _ (old mid : Map) (alike : IsAlike old) (x : Pair) (a : PieceRef) (b : Pa
           let P : Pattern → Type 0 = λ q. IsLeaf (IsPieceMember q (known_piece y.piece)) leaf in
           subst P same.pattern (exact y.piece same.piece)) (unmarked_right right)
 
--- what holds after both outcomes
-pub either_way : {X E : Type 0} (A B C : Type 0) (r : Result X E) → (A → C) → (B → C) → OnOk r A → OnErr r B → C
-either_way A B C (Ok x) f g a b = f a
-either_way A B C (Err e) f g a b = g b
-
 -- what holds after one outcome
 pub on_ok_to : {X E : Type 0} (A C : Type 0) (r : Result X E) → (A → C) → OnOk r A → OnOk r C
 on_ok_to A C (Ok x) f a = f a
 on_ok_to A C (Err e) f a = tt
 
-pub on_err_to : {X E : Type 0} (A C : Type 0) (r : Result X E) → (A → C) → OnErr r A → OnErr r C
-on_err_to A C (Ok x) f a = tt
-on_err_to A C (Err e) f a = f a
-
 pub on_ok_of : {X E : Type 0} (P : Type 0) (r : Result X E) → P → OnOk r P
 on_ok_of P (Ok x) p = p
 on_ok_of P (Err e) p = tt
-
-pub on_err_of : {X E : Type 0} (P : Type 0) (r : Result X E) → P → OnErr r P
-on_err_of P (Ok x) p = tt
-on_err_of P (Err e) p = p
 
 -- one part and one pattern
 module _ (path : List ℕ) (part : SeenPart) (pattern : Pattern) where

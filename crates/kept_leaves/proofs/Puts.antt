@@ -41,10 +41,6 @@ all_three a b c e f g = ap (λ (x : Bool). x && (b && c)) e ∙ ap (λ (x : Bool
 none_some : (leaf : Leaf) (met : Bool) (o : Answer) → o ≡ None → o ≡ answer leaf met → ⊥
 none_some leaf met o e f = let g : None ≡ answer leaf met = sym e ∙ f in cc
 
--- an answer that is marked is met
-marked_answer : (leaf : Leaf) (met : Bool) (o : Answer) → o ≡ answer leaf met → marked o ≡ answer leaf true
-marked_answer leaf met o e = ap marked e
-
 -- a marked answer was there
 was_answer : (leaf : Leaf) (met : Bool) (o : Answer) → marked o ≡ answer leaf met → (was : Bool) × (o ≡ answer leaf was) × (met ≡ true)
 was_answer leaf met None e = absurd (none_some leaf met None refl e)

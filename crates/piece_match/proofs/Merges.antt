@@ -1,5 +1,5 @@
 -- Lists of members in order that become one.
-use Rattle.std.proofs.Common.{◌≡◌, ◌⊎◌, inl, inr, ◌↔◌, ℕ, ◌+◌, ◌-◌, ◌<◌, List, [], ◌∷◌, ◌++◌, length, length-append, get_or, reverse, refl, sym, ap, ◌∙◌, subst, arith}
+use Rattle.std.proofs.Common.{◌≡◌, ◌⊎◌, inl, inr, ◌↔◌, ◌+◌, ◌-◌, ◌<◌, List, [], ◌∷◌, ◌++◌, length, length-append, get_or, reverse, refl, sym, ap, ◌∙◌, subst, arith}
 use Rattle.std.specs.Prelude.{Option, None, Some, MatchOption, Result, Ok, Err, IfOk}
 use Rattle.std.specs.Ordering.{MatchOrdering, ordering_reverse}
 use Rattle.std.specs.declared.cmp.Ordering.{Ordering}
@@ -242,15 +242,6 @@ go_same done left right left' right' done' x t e W m all =
         | inr k ↦ elim ((t.same m).0 k) [ inl f ↦ inl (subst Q f (among_end done x)) | inr r ↦ inr r ]
       ],
     )
-
-pub go_end : (done left right : List Member) (W : Type 0) (m : Member) → (left ≡ []) × (right ≡ []) → ((Among done m ⊎ (Among left m ⊎ Among right m)) ↔ W) → (W ↔ Among done m)
-go_end done left right W m (l, r) all = (
-  λ w. elim (all.1 w) [
-    | inl a ↦ a
-    | inr k ↦ absurd (elim k [ inl a ↦ (let P : List Member → Type 0 = λ xs. Among xs m in subst P l a) | inr b ↦ (let P : List Member → Type 0 = λ xs. Among xs m in subst P r b) ])
-  ],
-  λ a. all.0 (inl a),
-)
 
 -- ---- starting
 

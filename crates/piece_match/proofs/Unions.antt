@@ -4,16 +4,15 @@ use Rattle.std.proofs.lemmas.List.{drop_all}
 use Rattle.std.specs.Prelude.{All}
 use Rattle.std.proofs.lemmas.List.Elements.{All-head, All-tail}
 use Rattle.meta_bind.specs.declared.bound.Bound.{Bound}
-use Rattle.meta_bind.specs.Bounds.{seen, NamesAscend}
+use Rattle.meta_bind.specs.Bounds.{NamesAscend}
 use Rattle.tree_match.specs.declared.leaf.Leaf.{Leaf}
 use Rattle.tree_match.specs.declared.leaf.Leaf.TheVariants.{Full, Crowded}
 use Rattle.node_match.specs.Sets.{Among}
-use Rattle.tree_match.specs.Ascending.{IsAscending}
-use Rattle.tree_match.specs.Members.{Member, member_cmp}
+use Rattle.tree_match.specs.Members.{Member}
 use Rattle.std.proofs.lemmas.List.{length-map, get_or-map, take_more}
-use Rattle.node_match.proofs.Sets.{gathered, gathered_all, among_at}
+use Rattle.node_match.proofs.Sets.{gathered, among_at}
 use Rattle.piece_match.specs.declared.unite.PlacedLeaf.{PlacedLeaf}
-use Rattle.piece_match.specs.Union.{InSome, IsUnion, moved_part}
+use Rattle.piece_match.specs.Union.{InSome, moved_part}
 use Rattle.piece_match.specs.Moved.{moved_binding, moved_members, moved_leaf}
 
 module _ {X : Type 0} where
@@ -70,17 +69,6 @@ next_some parts i part set m lt is full = (
 
 pub none_some : (parts : List Leaf) (i : ℕ) (m : Member) → length parts ≤ i → InSome (drop i parts) m → ⊥
 none_some parts i m le (members, a, h) = none_behind parts i (Full members) le a
-
--- all parts are looked at
-pub all_united : (parts : List Leaf) (i : ℕ) (members kept : List Member) → kept ≡ members → length parts ≤ i → length members ≤ 10000 → IsAscending member_cmp members
-    → (Among parts Crowded → Among (drop i parts) Crowded) → ((m : Member) → (Among members m ⊎ InSome (drop i parts) m) ↔ InSome parts m) → IsUnion parts (Full kept)
-all_united parts i members kept e le few up calm gathers =
-    let P : List Member → Type 0 = λ ms. IsUnion parts (Full ms) in
-    subst P (sym e) (
-      λ a. none_behind parts i Crowded le (calm a),
-      record { exact = λ m. gathered_all _ _ _ (none_some parts i m le) (gathers m); ordered = up },
-      few,
-    )
 
 -- ---- leaves that are moved
 

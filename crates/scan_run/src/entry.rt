@@ -105,7 +105,8 @@ pub fn run<T: Tree, S: Source, K: Sink, P: Patterns, L: Ledger>(
     ensures work { AskToMatch (map string_bytes words.now.items) → TakesSteps result steps.old steps.new }
     ensures no_work { AskForNoSearch (map string_bytes words.now.items) → steps.new ≡ steps.old }
 
-    // A scan, a fix, a session and a drill take a step for each file that they open, and one for each call of the matcher.
+    // A scan, a fix, a session and a drill take a step for each file that they open, and one for each piece and pattern that they ask
+    // for and that is not kept.
     ensures session_work { IsAnswer result → Takes (map string_bytes words.now.items) (S.left input.old) (T.files tree.old) (gained (P.refusals patterns.old) (P.refusals patterns.new)) (K.written out.old) (K.written out.new) result steps.old steps.new }
 {
     match asked(words) {
