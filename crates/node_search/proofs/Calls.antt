@@ -1,5 +1,5 @@
 -- The search of the arguments of a call.
-use Rattle.std.proofs.Common.{◌≡◌, ◌⊎◌, inl, inr, ◌↔◌, ℕ, suc, ◌+◌, ◌<◌, ◌≤◌, List, [], ◌∷◌, length, drop, get_or, refl, sym, ap, ◌∙◌, subst, add-one, cond, Bool, true, false, not}
+use Rattle.std.proofs.Common.{◌≡◌, inl, inr, ◌↔◌, ℕ, suc, ◌+◌, ◌<◌, ◌≤◌, List, [], ◌∷◌, length, drop, get_or, sym, ap, ◌∙◌, subst, add-one, cond, Bool, true, false, not}
 use Rattle.std.specs.Prelude.{Some}
 use Rattle.std.proofs.lemmas.List.{drop_all}
 use Rattle.std.proofs.Math.Seq.{drop-cons}
@@ -8,12 +8,10 @@ use Rattle.node_tree.specs.declared.known.Known.{Known}
 use Rattle.node_tree.specs.Tree.{kind_of, kids_of}
 use Rattle.node_tree.specs.Numbers.{Numbered, kids_at}
 use Rattle.meta_bind.specs.declared.bound.Bound.{Bound}
-use Rattle.node_match.specs.declared.class.Role.{Role}
 use Rattle.node_match.specs.declared.class.Role.TheVariants as roles
 use Rattle.node_search.specs.declared.state.State.{State}
 use Rattle.node_match.specs.Sets.{Among, Adds}
 use Rattle.node_match.specs.Kinds.{role_of}
-use Rattle.node_match.specs.Free.{Part}
 use Rattle.node_match.specs.Orders.{is_run, is_run_role, is_named, has_dots, choosers, unnamed_of, named_at, unnamed_at, all_asked}
 use Rattle.node_match.specs.Relation.{MatchesList}
 use Rattle.node_match.specs.Fronts.{End, Leads}

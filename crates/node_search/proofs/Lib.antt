@@ -5,3 +5,4 @@ pub mod Lines
 pub mod Going
 pub mod Steps
 pub mod DotsInDots
+pub mod Found

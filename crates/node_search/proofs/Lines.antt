@@ -1,10 +1,9 @@
 -- The line of all kids of a node.
-use Rattle.std.proofs.Common.{◌≡◌, ℕ, ◌+◌, ◌<◌, ◌≤◌, List, [], ◌∷◌, ap, ◌∙◌}
-use Rattle.std.specs.Prelude.{if◌then◌else◌}
+use Rattle.std.proofs.Common.{◌≡◌, List, ap}
 use Rattle.node_tree.specs.Numbers.{Numbered}
 use Rattle.node_pool.specs.Spots.{seen}
 use Rattle.node_search.specs.declared.holder.Holder.{Holder}
-use Rattle.node_search.specs.States.{Line, line_of}
+use Rattle.node_search.specs.States.{line_of}
 use Rattle.node_search.specs.Kids.{AreKids, line}
 
 -- the line of all kids

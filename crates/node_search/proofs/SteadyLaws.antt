@@ -1,5 +1,5 @@
 -- A pattern whose names stand for something already binds nothing.
-use Rattle.std.proofs.Common.{◌≡◌, ◌≢◌, ◌⊎◌, inl, inr, ℕ, suc, ◌+◌, ◌<◌, ◌≤◌, List, [], ◌∷◌, ◌++◌, length, take, drop, get_or, refl, sym, ap, ◌∙◌, subst, arith, add-one, cond, Bool, true, false, not}
+use Rattle.std.proofs.Common.{◌≡◌, ◌⊎◌, inl, inr, ℕ, suc, ◌+◌, ◌<◌, ◌≤◌, List, [], ◌∷◌, ◌++◌, length, take, drop, get_or, refl, sym, ap, ◌∙◌, subst, add-one, cond, Bool, true, false, not}
 use Rattle.std.specs.Prelude.{None, Some, remove}
 use Rattle.std.proofs.lemmas.List.{drop_all}
 use Rattle.std.proofs.lemmas.List.Concat.{flat_map-cons}
@@ -118,7 +118,7 @@ mutual
       let each' : (q : Node) → Among (kids_of p) q → IsSteady c q = subst P e each in
       e ∙ steady_choice C (named_of (kids_of p)) (named_at (kids_at n)) rest c d (λ q a. each' q (chooser_kid true (kids_of p) q a)) y
 
-  steady_at : (C : List Known) (h : Numbered) (q : Node) (n : Numbered) (b c : List Bound) → IsSteady b q → MatchesKid C h q n b c → b ≡ c
+  pub steady_at : (C : List Known) (h : Numbered) (q : Node) (n : Numbered) (b c : List Bound) → IsSteady b q → MatchesKid C h q n b c → b ≡ c
   steady_at C h q n b c s (by_itself _ x) = steady C q n b c s x
   steady_at C h q n b c s (as_arguments _ x) = steady_arguments C q n b c (steady_kid_of b q s) x
 

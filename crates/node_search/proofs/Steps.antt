@@ -18,7 +18,7 @@ use Rattle.meta_bind.specs.Bounds.{bound_at, with_bound}
 use Rattle.node_tree.specs.declared.span.Span.{Span}
 use Rattle.node_match.proofs.Sets.{among_more}
 use Rattle.node_tree.specs.declared.known.Known.{Known}
-use Rattle.node_tree.specs.Numbers.{Numbered, kids_at}
+use Rattle.node_tree.specs.Numbers.{Numbered}
 
 module _ (C : List Known) where
   -- one state more

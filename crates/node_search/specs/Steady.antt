@@ -7,8 +7,10 @@ use Rattle.meta_bind.specs.Bounds.{bound_at}
 use Rattle.node_match.specs.declared.class.Role.{Role}
 use Rattle.node_match.specs.declared.class.Role.TheVariants as roles
 use Rattle.node_match.specs.Kinds.{role_of}
-use Rattle.node_match.specs.Relation.{wild}
 use Rattle.node_match.specs.Sets.{Among}
+use Rattle.node_match.specs.Relation.{wild, MatchesKid}
+use Rattle.node_tree.specs.declared.known.Known.{Known}
+use Rattle.node_tree.specs.Numbers.{Numbered}
 
 -- the name is bound
 abbrev pub IsBound : List Bound → List ℕ → Type 0
@@ -23,3 +25,7 @@ BindsNothing b _ name = Unit {0}
 -- no name of the pattern is new
 abbrev pub IsSteady : List Bound → Node → Type 0
 IsSteady b q = (m : Node) → Among (pre_of q) m → BindsNothing b (role_of (kind_of m)) (text_of m)
+
+-- the pattern matches the kid of that holder with some binding that this one is taken to
+abbrev pub IsMatched : List Known → Numbered → Node → Numbered → List Bound → Type 0
+IsMatched C h p n b = (c : List Bound) × MatchesKid C h p n b c

@@ -5,6 +5,7 @@ mod choice;
 mod holder;
 mod innermost;
 mod list;
+mod matched;
 mod search;
 mod state;
 mod steady;
@@ -12,5 +13,7 @@ mod taken;
 
 pub use holder::Holder;
 pub use list::{alone, count_kids, finish, part_of, place, put, span_of_run};
+pub use matched::is_matched;
 pub use search::{choose_kids, relate, step_at};
 pub use state::State;
+pub use steady::is_steady;

@@ -326,9 +326,9 @@ fn item_at<'t>(
     Ok(())
 }
 
-// Adds the bindings that the pattern may take the binding to at a kid of a holder of that kind.
+/// Adds the bindings that the pattern may take the binding to at a kid of a holder of that kind.
 #[cycle(search)]
-fn relate_kid<'t>(
+pub fn relate_kid<'t>(
     alloc: Global,
     known: Constants<'_>,
     pattern: &'t Node,

@@ -38,8 +38,8 @@ fn binds_nothing(pattern: &Node, trail: &Trail<'_>) -> bool
     }
 }
 
-// Whether no name of the pattern is new.
-fn is_steady(pattern: &Node, trail: &Trail<'_>) -> Result<bool, Memory>
+/// Whether no name of the pattern is new.
+pub fn is_steady(pattern: &Node, trail: &Trail<'_>) -> Result<bool, Memory>
     ensures { IfOk result (λ steady. IsTrue steady → IsSteady trail.now pattern.now) }
 {
     for node in pattern.walk()? {

@@ -10,8 +10,6 @@ use Rattle.node_pool.specs.Spots.{seen, all_seen}
 use Rattle.meta_bind.specs.declared.bound.Bound.{Bound}
 use Rattle.node_search.specs.declared.state.State.{State}
 use Rattle.node_match.specs.Sets.{AddsUpTo}
-use Rattle.node_match.specs.Free.{Part}
-use Rattle.node_match.specs.Fronts.{End}
 use Rattle.node_search.specs.States.{Line, line_of, AnyFrom, AddsFrom, From, Steps}
 use Rattle.node_search.specs.Kids.{line}
 use Rattle.node_match.specs.Orders.{has_dots, has_runs, is_arguments, choosers}
