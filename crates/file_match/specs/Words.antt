@@ -14,6 +14,7 @@ use Rattle.node_match.specs.Sets.{Among}
 use Rattle.node_tree.specs.Kinds.{is_literal}
 use Rattle.node_match.specs.Kinds.{role_of}
 use Rattle.node_match.specs.Free.{parts_of, IsTextFree}
+use Rattle.tree_match.specs.Checksums.{mixed}
 
 -- a kind and a text
 abbrev pub Word : Type 0
@@ -47,11 +48,6 @@ abbrev pub Lacks : Bool → Shape → Node → Node → Type 0
 Lacks fixed shape p tree = (w : Word) × NeedsOf fixed shape p w × (Has (pre_of tree) w → ⊥)
 
 -- ---- marks
-
--- the place of a text among so many, with what came before it
-abbrev pub mixed : ℕ → List ℕ → ℕ
-mixed h [] = h
-mixed h (b ∷ bs) = mixed ((h * 31 + b) % 65536) bs
 
 -- the place of a word among 65536
 abbrev pub place_of : Word → ℕ

@@ -10,29 +10,17 @@ ghost use Rattle.node_tree.specs.Kinds.{is_literal as literal};
 ghost use Rattle.node_match.specs.Kinds.{role_of as role};
 ghost use Rattle.node_match.specs.declared.class.Role.TheVariants.{Deep};
 ghost use Rattle.node_match.specs.Sets.{Adds};
-ghost use Rattle.file_match.specs.Words.{word_of, place_of as place, mixed, Needs, PartNeeds, Lacks};
+ghost use Rattle.file_match.specs.Words.{word_of, place_of as place, Needs, PartNeeds, Lacks};
 ghost use Rattle.file_match.specs.Words.{PlaceIn, ArePlaces, NeedsOwn, NeedsBelow, NeedsAt};
 ghost use Rattle.file_match.specs.Words.{HasRoom, IsMarked, AreMarked, Covers, is_marked as has_mark};
 
 use node_match::{Role, is_free, is_text_free, role_of};
 use node_tree::{Kind, List, Memory, Node, Shape};
 use std::alloc::Global;
+use tree_match::mix;
 
 /// How many places the words of a file have.
 pub const ALL_PLACES: u32 = 65536;
-
-// The place of the text, with what came before it.
-fn mix(begin: u32, text: &[u8]) -> u32
-    requires { begin < 65536 }
-    ensures place { result ≡ mixed begin text.now }
-    ensures within { result < 65536 }
-{
-    let mut place = begin;
-    for byte in text {
-        place = (place * 31 + (*byte as u32)) % 65536;
-    }
-    place
-}
 
 // The place of the word of a node.
 fn place_of(node: &Node) -> u32

@@ -1,5 +1,5 @@
--- The members inside the last kid of a list.
-use Rattle.std.proofs.Common.{◌≡◌, ◌↔◌, List, [], ◌∷◌, drop, refl, sym, ap, ◌∙◌, subst, Bool, true, false, cond}
+-- What is reached inside a kid of a list.
+use Rattle.std.proofs.Common.{◌≡◌, ◌↔◌, ℕ, List, [], ◌∷◌, drop, refl, sym, ap, ◌∙◌, subst, Bool, true, false, cond}
 use Rattle.std.specs.Prelude.{Some, ◌||◌}
 use Rattle.node_tree.specs.declared.node.Node.{Node}
 use Rattle.node_tree.specs.declared.kind.Kind.{Kind}
@@ -16,21 +16,19 @@ use Rattle.node_search.specs.declared.state.State.{State}
 use Rattle.node_match.specs.Kinds.{role_of, IsOne}
 use Rattle.node_match.specs.Free.{Part, parts_of, HasText}
 use Rattle.node_match.specs.Orders.{order_of, some_is, has_dots, is_list, is_named, is_arguments, named_of, unnamed_of, named_at, unnamed_at, all_asked}
-use Rattle.node_match.specs.Relation.{MatchesKid, MatchesChoice, MatchesList, no_choice, both_empty, head_and_rest, dots, named_dots, nodes_of}
-use Rattle.node_match.specs.Fronts.{MatchesFront}
+use Rattle.node_match.specs.Relation.{MatchesKid, MatchesChoice, MatchesList, no_choice, nodes_of}
+use Rattle.node_match.specs.Fronts.{End, Leads, MatchesFront}
 use Rattle.node_match.specs.Choices.{Chosen}
 use Rattle.node_match.proofs.Sets.{chain}
 use Rattle.node_match.proofs.Numbering.{kids_nodes}
 use Rattle.node_match.proofs.Arguments.{kid_itself, kid_arguments, arguments_listed, list_parts, all_unnamed, all_unnamed_at, Parted, parted_arguments}
 use Rattle.node_match.proofs.Inversion.{no_literal, ordered_kids}
 use Rattle.node_match.proofs.FrontLaws.{whole_front}
-use Rattle.tree_match.specs.declared.aim.Aim.{Aim}
-use Rattle.tree_match.specs.declared.aim.Aim.TheVariants.{All}
-use Rattle.tree_match.specs.declared.last.Inside.{Inside}
-use Rattle.tree_match.specs.Members.{Member}
-use Rattle.tree_match.specs.Aims.{MemberFrom, MemberAfter}
+use Rattle.node_search.proofs.Going.{heads}
+use Rattle.tree_match.specs.declared.place.Inside.{Inside}
+use Rattle.tree_match.specs.Aims.{Onward}
 use Rattle.tree_match.specs.Insides.{IsInOrder, Opens}
-use Rattle.tree_match.proofs.Spreads.{state_after}
+use Rattle.tree_match.proofs.Spreads.{Reached, ReachedAt, state_after}
 
 -- ---- no argument has a name
 
@@ -112,38 +110,28 @@ module _ (holder : Kind) (q n : Node) (role : role_of (kind_of q) ≡ roles.Plai
 -- ---- members
 
 module _ (C : List Known) where
-  -- one part matches one kid
-  one_matches : (h : Numbered) (q : Node) (kid : Numbered) (b c : List Bound) → IsOne (role_of (kind_of q)) → MatchesKid C h q kid b c ↔ MatchesList C h (Some q ∷ []) (kid ∷ []) b c
-  one_matches h q kid b c one = (λ x. head_and_rest x both_empty, λ x. to c x)
-    where
-      ended : (d e : List Bound) → MatchesList C h [] [] d e → d ≡ e
-      ended d _ both_empty = refl
+  -- a part that matches a kid in that way leads as its kids do along those of the kid, and then the other parts
+  inside_leads : (h : Numbered) (q : Node) (kid : Numbered) (ps : List Part) (ns : List Numbered) (b : List Bound) (f : End) → IsInOrder (kind_of h.node) q kid.node
+      → ((d : List Bound) × Leads C kid (parts_of q) (kids_at kid) b ([], d) × Leads C h ps ns d f) ↔ Leads C h (Some q ∷ ps) (kid ∷ ns) b f
+  inside_leads h q kid ps ns b f in_order =
+      let each : (d : List Bound) → Leads C kid (parts_of q) (kids_at kid) b ([], d) ↔ MatchesKid C h q kid b d = λ d. chain _ _ _ (whole_front C kid (parts_of q) (kids_at kid) b d) (in_order.same C h kid refl refl b d) in
+      chain _ _ _ (λ (d, x, y). (d, (each d).0 x, y), λ (d, x, y). (d, (each d).1 x, y)) (heads C h q ps (kid ∷ ns) b f in_order.one)
 
-      to : (c : List Bound) → MatchesList C h (Some q ∷ []) (kid ∷ []) b c → MatchesKid C h q kid b c
-      to c (head_and_rest {c = d} x y) = let P : List Bound → Type 0 = λ e. MatchesKid C h q kid b e in subst P (ended d c y) x
-      to c (dots k r x) = let P : Role → Type 0 = IsOne in absurd (subst P r one)
-      to c (named_dots k r x y) = let P : Role → Type 0 = IsOne in absurd (subst P r one)
-
-  -- the members inside the last kid are those of the list
-  pub inside_member : (aim : Aim) (h : Numbered) (parts : List Part) (s : State) (inside : Inside) (m : Member) → Opens aim h parts s inside
-      → MemberAfter C aim false (seen inside.kid) (parts_of inside.part.now) 0 s.trail m ↔ MemberFrom C aim h parts (s ∷ []) m
-  inside_member aim h parts s inside m opens =
+  -- what is reached inside the next kid, and on after it, is what the state leads to
+  pub inside_reached : (G : End → Type 0) (h : Numbered) (parts : List Part) (from : ℕ) (s : State) (inside : Inside) → Opens h parts from s inside
+      → ReachedAt C (Onward C G h (drop inside.from parts) inside.at) false (seen inside.kid) (parts_of inside.part.now) 0 s.trail ↔ Reached C G h (drop from parts) (s ∷ [])
+  inside_reached G h parts from s inside opens =
       let q = inside.part.now in
       let kid = seen inside.kid in
-      let range = inside.range in
-      let A : Aim → Type 0 = λ a. MemberAfter C a false kid (parts_of q) 0 s.trail m ↔ MemberFrom C a h parts (s ∷ []) m in
-      let P : List Part → Type 0 = λ ps. MemberAfter C (All range) false kid (parts_of q) 0 s.trail m ↔ MemberFrom C (All range) h ps (s ∷ []) m in
-      let N : List Numbered → Type 0 = λ ns. (c : List Bound) → MatchesFront C kid (parts_of q) (kids_at kid) [] s.trail c ↔ MatchesFront C h (Some q ∷ []) ns [] s.trail c in
-      let each : (c : List Bound) → MatchesFront C kid (parts_of q) (kids_at kid) [] s.trail c ↔ MatchesFront C h (Some q ∷ []) (kid ∷ []) [] s.trail c = λ c.
-      chain _ _ _ (whole_front C kid (parts_of q) (kids_at kid) s.trail c)
-      (chain _ _ _ (opens.in_order.same C h kid refl refl s.trail c)
-      (chain _ _ _ (one_matches h q kid s.trail c opens.in_order.one)
-      ((whole_front C h (Some q ∷ []) (kid ∷ []) s.trail c).1, (whole_front C h (Some q ∷ []) (kid ∷ []) s.trail c).0))) in
-      let here : (c : List Bound) → MatchesFront C kid (parts_of q) (kids_at kid) [] s.trail c ↔ MatchesFront C h (Some q ∷ []) (drop s.at (kids_at h)) [] s.trail c = subst N (sym opens.last_kid) each in
-      let after : MemberAfter C (All range) false kid (parts_of q) 0 s.trail m ↔ MemberAfter C (All range) false h (Some q ∷ []) s.at s.trail m = (
-        λ (e, (all, is, binding), x). (let R : List Numbered → Type 0 = λ ns. MatchesFront C kid (parts_of q) (kids_at kid) ns s.trail e.1 in
-            (([], e.1), (refl, is, binding), (here e.1).0 (subst R all x))),
-        λ (e, (all, is, binding), x). (let R : List Numbered → Type 0 = λ ns. MatchesFront C h (Some q ∷ []) (drop s.at (kids_at h)) ns s.trail e.1 in
-            (([], e.1), (refl, is, binding), (here e.1).1 (subst R all x))),
+      let ps = drop inside.from parts in
+      let ns = drop inside.at (kids_at h) in
+      let M : List Part → List Numbered → Type 0 = λ xs ys. (f : End) → ((d : List Bound) × Leads C kid (parts_of q) (kids_at kid) s.trail ([], d) × Leads C h ps ns d f) ↔ Leads C h xs ys s.trail f in
+      let N : List Numbered → Type 0 = λ ys. M (drop from parts) ys in
+      let K : List Part → Type 0 = λ xs. M xs (kid ∷ ns) in
+      let all : M (drop from parts) (drop s.at (kids_at h)) = subst N (sym opens.next_kid) (subst K (sym opens.next_part) (λ f. inside_leads h q kid ps ns s.trail f opens.in_order)) in
+      let after : ReachedAt C (Onward C G h ps inside.at) false kid (parts_of q) 0 s.trail ↔ ReachedAt C G false h (drop from parts) s.at s.trail = (
+        λ (e, (empty, (f, gives, y)), x). let R : List Numbered → Type 0 = λ ys. MatchesFront C kid (parts_of q) (kids_at kid) ys s.trail e.1 in
+            (f, gives, (all f).0 (e.1, subst R empty x, y)),
+        λ (f, gives, x). let (d, y, z) = (all f).1 x in (([], d), (refl, (f, gives, z)), y),
       ) in
-      subst A (sym opens.whole) (subst P (sym opens.last_part) (chain _ _ _ after (state_after C (All range) h (Some q ∷ []) m s false s.at s.trail opens.stays refl refl)))
+      chain _ _ _ after (state_after C G h (drop from parts) s false s.at s.trail opens.stays refl refl)

@@ -1,22 +1,33 @@
 -- Kids that a part can't match are passed over.
-use Rattle.std.proofs.Common.{◌≡◌, ◌⊎◌, inl, inr, ◌↔◌, ℕ, zero, suc, ◌+◌, ◌-◌, ◌<◌, ◌≤◌, List, [], ◌∷◌, ◌++◌, length, drop, get_or, refl, ap, ◌∙◌, subst, arith, length-drop, true}
+use Rattle.std.proofs.Common.{◌≡◌, ◌⊎◌, inl, inr, ◌↔◌, ℕ, zero, suc, ◌+◌, ◌-◌, ◌<◌, ◌≤◌, List, [], ◌∷◌, ◌++◌, length, drop, get_or, refl, sym, ap, ◌∙◌, subst, arith, length-drop, true, false}
+use Rattle.std.proofs.lemmas.List.{drop-drop}
 use Rattle.std.proofs.Math.Seq.{drop-cons}
 use Rattle.std.specs.Prelude.{Option, None, Some, MatchOption, slice_get}
 use Rattle.node_tree.specs.declared.node.Node.{Node}
-use Rattle.node_tree.specs.Tree.{kids_of, kind_of}
+use Rattle.node_tree.specs.declared.kind.Kind.{Kind}
+use Rattle.node_tree.specs.declared.kind.Kind.TheVariants as kinds
+use Rattle.node_tree.specs.Tree.{kids_of, kind_of, text_of, content_of}
 use Rattle.node_tree.specs.declared.known.Known.{Known}
 use Rattle.node_tree.specs.Numbers.{Numbered, kids_at}
 use Rattle.meta_bind.specs.declared.bound.Bound.{Bound}
 use Rattle.node_match.specs.Free.{Part}
-use Rattle.node_match.specs.Fronts.{End, Leads}
+use Rattle.node_match.specs.Fronts.{End, Leads, head_front, dots_front}
+use Rattle.node_match.specs.declared.class.Role.TheVariants as roles
+use Rattle.node_match.specs.Orders.{is_list}
 use Rattle.node_match.specs.Kinds.{role_of, IsOne}
-use Rattle.node_match.specs.Refused.{IsKidRefused}
-use Rattle.node_match.specs.Relation.{nodes_of}
-use Rattle.node_match.proofs.Numbering.{kids_many, rest_nodes}
+use Rattle.node_match.specs.Relation.{nodes_of, Matches, same_node, known_literal, known_string, wildcard, metavariable, some_string, deep, Binds, fresh, again, MatchesKid, by_itself, as_arguments}
+use Rattle.node_match.proofs.Arguments.{arguments_listed}
+use Rattle.node_match.proofs.Numbering.{kids_many, rest_nodes, kid_is, as_many, one_further}
+use Rattle.node_pool.specs.declared.spot.Spot.{Spot}
+use Rattle.node_pool.specs.Spots.{seen}
+use Rattle.node_search.specs.Kids.{AreKids}
 use Rattle.node_search.specs.States.{Goes, Heads}
-use Rattle.node_search.proofs.Going.{heads, goes_more, no_goes}
+use Rattle.node_search.specs.Steady.{IsSteady, IsMatched}
+use Rattle.node_search.proofs.Going.{heads, goes_more, no_goes, after_dots}
+use Rattle.node_search.proofs.SteadyLaws.{steady_at}
 use Rattle.tree_match.specs.declared.next_places.NextPlaces.{NextPlaces}
-use Rattle.tree_match.specs.Landing.{AreForward, LeapsOver, IsNextOf, AreNextOf}
+use Rattle.tree_match.specs.Same.{HasNone}
+use Rattle.tree_match.specs.Landing.{LeapsOver, IsNext, IsNextOf, AreNextOf, IsOut, AreOut, StandsFor}
 
 -- the first of some nodes in a list
 first_at : (ns : List Node) (k : ℕ) (n : Node) (rest : List Node) → n ∷ rest ≡ drop k ns → (k < length ns) × (n ≡ get_or ns k n)
@@ -26,45 +37,116 @@ first_at ns k n rest e =
     let same : n ≡ get_or ns k n = cc in
     (lt, same)
 
-module _ (C : List Known) (h : Numbered) (p : Node) (ps : List Part) (one : IsOne (role_of (kind_of p))) where
-  ruled_out : (k : ℕ) (b : List Bound) (c : End) → ((n : Node) → k < length (kids_of h.node) → n ≡ get_or (kids_of h.node) k n → IsKidRefused (kind_of h.node) p n) → Leads C h (Some p ∷ ps) (drop k (kids_at h)) b c → ⊥
-  ruled_out k b c refused x = at (drop k (kids_at h)) (rest_nodes h k) ((heads C h p ps (drop k (kids_at h)) b c one).1 x)
+-- a look rules out the kids before the next place
+pub leaps_out : (kind : Kind) (p : Node) (ns : List Node) (next : List ℕ) (b : List Bound) (i j : ℕ) → LeapsOver kind p ns next → i < length next → j ≡ get_or next i j → AreOut kind p b ns i j
+leaps_out kind p ns next b i j leaps lt is k n from below within here C h s held same c = leaps.over i j k n (omega (arith, lt, leaps.size)) is from below within here C h s held same b c
+
+-- a name that stands for a node matches that content alone
+held_alone : (C : List Known) (p : Node) (n : Numbered) (b c : List Bound) (content : Node) → StandsFor p b content → Matches C p n b c → content_of n.node ≡ content
+held_alone C p n b c content stands (same_node r _ _ _) = absurd (let e = sym stands.role ∙ r in cc)
+held_alone C p n b _ content stands (known_literal _ r _ _ _) = absurd (let e = sym stands.role ∙ r in cc)
+held_alone C p n b _ content stands (wildcard _ w _) = absurd (stands.named w)
+held_alone C p n b c content stands (metavariable _ _ _ x) = by x
+  where
+    by : {d : List Bound} → Binds n.node (text_of p) (n.node ∷ []) b d → content_of n.node ≡ content
+    by (fresh none) = absurd (let e : None ≡ Some stands.old = sym none ∙ stands.bound in let f = e in cc)
+    by (again old is nodes) =
+        let e : Some old ≡ Some stands.old = sym is ∙ stands.bound in
+        let f : old ≡ stands.old = let g = e in cc in
+        let g : content_of n.node ∷ [] ≡ content ∷ [] = sym nodes ∙ ap (λ (o : Bound). o.nodes) f ∙ stands.one in
+        let h = g in cc
+held_alone C p n b _ content stands (some_string r _) = absurd (let e = sym stands.role ∙ r in cc)
+held_alone C p n b _ content stands (known_string _ r _ _) = absurd (let e = sym stands.role ∙ r in cc)
+held_alone C p n b c content stands (deep _ _ r _ _ _ _) = absurd (let e = sym stands.role ∙ r in cc)
+
+no_list : (k : Kind) → is_list k ≡ true → role_of k ≡ roles.Meta → ⊥
+no_list kinds.List e role = absurd (let f = role in cc)
+no_list _ e role = absurd (let f : false ≡ true = e in cc)
+
+-- so kids of other contents are ruled out
+pub named_out : (kind : Kind) (p : Node) (b : List Bound) (content : Node) (ns : List Node) (i j : ℕ) → StandsFor p b content → HasNone ns content i j → AreOut kind p b ns i j
+named_out kind p b content ns i j stands none k n from below within is C h s held same c (by_itself _ x) =
+    none k n from below within is (ap content_of (sym same) ∙ held_alone C p s b c content stands x)
+named_out kind p b content ns i j stands none k n from below within is C h s held same c (as_arguments are x) = no_list (kind_of p) (arguments_listed (kind_of h.node) p are) stands.role
+
+pub none_out : (kind : Kind) (p : Node) (b : List Bound) (ns : List Node) (i : ℕ) → AreOut kind p b ns i i
+none_out kind p b ns i k n from below = absurd (omega (arith, from, below))
+
+module _ (C : List Known) (h : Numbered) (p : Node) (ps : List Part) (one : IsOne (role_of (kind_of p))) (b : List Bound) (c : End) where
+  ruled_out : (k : ℕ) → ((n : Node) → k < length (kids_of h.node) → n ≡ get_or (kids_of h.node) k n → IsOut (kind_of h.node) p b n) → Leads C h (Some p ∷ ps) (drop k (kids_at h)) b c → ⊥
+  ruled_out k refused x = at (drop k (kids_at h)) (rest_nodes h k) ((heads C h p ps (drop k (kids_at h)) b c one).1 x)
     where
       at : (ns : List Numbered) → nodes_of ns ≡ drop k (kids_of h.node) → Heads C h p ps ns b c → ⊥
       at [] e y = absurd y
-      at (n ∷ ns) e (d, m, _) = let (lt, is) = first_at (kids_of h.node) k n.node (nodes_of ns) e in refused n.node lt is C h n refl refl b d m
+      at (n ∷ ns) e (d, m, _) = let (lt, is) = first_at (kids_of h.node) k n.node (nodes_of ns) e in refused n.node lt is C h n refl refl d m
 
-  passed_by : (some i j : ℕ) (b : List Bound) (c : End) → i + some ≡ j → ((k : ℕ) (n : Node) → i ≤ k → k < j → k < length (kids_of h.node) → n ≡ get_or (kids_of h.node) k n → IsKidRefused (kind_of h.node) p n)
-      → Goes C true h (Some p ∷ ps) (drop i (kids_at h)) b c ↔ Goes C true h (Some p ∷ ps) (drop j (kids_at h)) b c
-  passed_by zero i j b c e refused =
+  passed_by : (some i j : ℕ) → i + some ≡ j → AreOut (kind_of h.node) p b (kids_of h.node) i j → Goes C true h (Some p ∷ ps) (drop i (kids_at h)) b c ↔ Goes C true h (Some p ∷ ps) (drop j (kids_at h)) b c
+  passed_by zero i j e out =
       let P : ℕ → Type 0 = λ k. Goes C true h (Some p ∷ ps) (drop i (kids_at h)) b c ↔ Goes C true h (Some p ∷ ps) (drop k (kids_at h)) b c in
       let f : i ≡ j = omega (arith, e) in
       subst P f (λ x. x, λ x. x)
-  passed_by (suc some) i j b c e refused =
+  passed_by (suc some) i j e out =
       let more = goes_more C h (Some p ∷ ps) (kids_at h) b c i in
-      let rest = passed_by some (i + 1) j b c (omega (arith, e)) (λ k n le lt. refused k n (omega arith) lt) in
-      let none : Leads C h (Some p ∷ ps) (drop i (kids_at h)) b c → ⊥ = ruled_out i b c (λ n. refused i n (omega arith) (omega (arith, e))) in (
+      let rest = passed_by some (i + 1) j (omega (arith, e)) (λ k n le lt. out k n (omega arith) lt) in
+      let none : Leads C h (Some p ∷ ps) (drop i (kids_at h)) b c → ⊥ = ruled_out i (λ n. out i n (omega arith) (omega (arith, e))) in (
         λ x. rest.0 (elim (more.0 x) [ inl y ↦ absurd (none y) | inr y ↦ y ]),
         λ x. more.1 (inr (rest.1 x)),
       )
 
-  module _ (next : List ℕ) (leaps : LeapsOver (kind_of h.node) p (kids_of h.node) next) (i j : ℕ) (lt : i < length next) (is : j ≡ get_or next i j) (b : List Bound) (c : End) where
-    passed : Goes C true h (Some p ∷ ps) (drop i (kids_at h)) b c ↔ Goes C true h (Some p ∷ ps) (drop j (kids_at h)) b c
-    passed =
-        let le = leaps.on i j lt is in
-        let size = leaps.size in
-        passed_by (j - i) i j b c (omega arith) (λ k n from below within here. leaps.over i j k n (omega (arith, size)) is from below within here)
+  -- from a place, or from a later one with only such kids between as the part doesn't match
+  pub passed : (i j : ℕ) → i ≤ j → AreOut (kind_of h.node) p b (kids_of h.node) i j → Goes C true h (Some p ∷ ps) (drop i (kids_at h)) b c ↔ Goes C true h (Some p ∷ ps) (drop j (kids_at h)) b c
+  passed i j le out = passed_by (j - i) i j (omega (arith, le)) out
 
-    -- where the part may match next, or later
-    pub lands : Goes C true h (Some p ∷ ps) (drop i (kids_at h)) b c ↔ (Leads C h (Some p ∷ ps) (drop j (kids_at h)) b c ⊎ Goes C true h (Some p ∷ ps) (drop (j + 1) (kids_at h)) b c)
-    lands = let more = goes_more C h (Some p ∷ ps) (kids_at h) b c j in (λ x. more.0 (passed.0 x), λ x. passed.1 (more.1 x))
+  -- at a place, or from a later one with only such kids between
+  pub lands : (i j : ℕ) → i + 1 ≤ j → AreOut (kind_of h.node) p b (kids_of h.node) (i + 1) j
+      → Goes C true h (Some p ∷ ps) (drop i (kids_at h)) b c ↔ (Leads C h (Some p ∷ ps) (drop i (kids_at h)) b c ⊎ Goes C true h (Some p ∷ ps) (drop j (kids_at h)) b c)
+  lands i j le out =
+      let more = goes_more C h (Some p ∷ ps) (kids_at h) b c i in
+      let rest = passed (i + 1) j le out in (
+        λ x. elim (more.0 x) [ inl y ↦ inl y | inr y ↦ inr (rest.0 y) ],
+        λ x. more.1 (elim x [ inl y ↦ inl y | inr y ↦ inr (rest.1 y) ]),
+      )
 
-    -- it matches none of the kids that are left
-    pub lands_nowhere : length next ≤ j → Goes C true h (Some p ∷ ps) (drop i (kids_at h)) b c → ⊥
-    lands_nowhere past x = no_goes C h p ps (kids_at h) j b c one (omega (arith, past, leaps.size, kids_many h)) (passed.0 x)
+  -- the same where it doesn't match the kid at the first place either
+  pub ruled_further : (i : ℕ) (n : Numbered) (j : ℕ) → drop i (kids_at h) ≡ n ∷ drop (i + 1) (kids_at h) → (IsMatched C h p n b → ⊥) → i + 1 ≤ j → AreOut (kind_of h.node) p b (kids_of h.node) (i + 1) j
+      → Goes C true h (Some p ∷ ps) (drop j (kids_at h)) b c ↔ Goes C true h (Some p ∷ ps) (drop i (kids_at h)) b c
+  ruled_further i n j cut other le out =
+      let P : List Numbered → Type 0 = λ ns. Heads C h p ps ns b c in
+      let none : Leads C h (Some p ∷ ps) (drop i (kids_at h)) b c → ⊥ = λ x. (let y = subst P cut ((heads C h p ps (drop i (kids_at h)) b c one).1 x) in other (y.0, y.1)) in
+      let all = lands i j le out in (
+        λ x. all.1 (inr x),
+        λ x. elim (all.0 x) [ inl y ↦ absurd (none y) | inr y ↦ y ],
+      )
 
-  pub none_left_to_land : (next : List ℕ) (i : ℕ) (b : List Bound) (c : End) → LeapsOver (kind_of h.node) p (kids_of h.node) next → length next ≤ i → Goes C true h (Some p ∷ ps) (drop i (kids_at h)) b c → ⊥
-  none_left_to_land next i b c leaps past x = no_goes C h p ps (kids_at h) i b c one (omega (arith, past, leaps.size, kids_many h)) x
+  -- past the last kid it matches none
+  pub lands_nowhere : (i : ℕ) → length (kids_of h.node) ≤ i → Goes C true h (Some p ∷ ps) (drop i (kids_at h)) b c → ⊥
+  lands_nowhere i past x = no_goes C h p ps (kids_at h) i b c one (omega (arith, past, kids_many h)) x
+
+-- where the part matches a kid and binds nothing new, and `...` follows, no later kid is needed
+module _ (C : List Known) (h : Numbered) (p q : Node) (ps : List Part) (one : IsOne (role_of (kind_of p))) (dots : role_of (kind_of q) ≡ roles.Dots) (b : List Bound) (c : End) where
+  pub first_enough : (at : ℕ) (n : Numbered) → IsSteady b p → drop at (kids_at h) ≡ n ∷ drop (at + 1) (kids_at h) → IsMatched C h p n b
+      → Leads C h (Some p ∷ Some q ∷ ps) (drop at (kids_at h)) b c ↔ Goes C true h (Some p ∷ Some q ∷ ps) (drop at (kids_at h)) b c
+  first_enough at n steady cut (e, met) = (λ x. (0, x), λ (k, x). to k (drop k (drop at (kids_at h))) refl ((heads C h p (Some q ∷ ps) (drop k (drop at (kids_at h))) b c one).1 x))
+    where
+      same : b ≡ e
+      same = steady_at C h p n b e steady met
+
+      here : (j : ℕ) → Leads C h ps (drop j (drop (at + 1) (kids_at h))) b c → Leads C h (Some p ∷ Some q ∷ ps) (drop at (kids_at h)) b c
+      here j x =
+          let P : List Bound → Type 0 = λ d. MatchesKid C h p n b d in
+          let Q : List Numbered → Type 0 = λ ns. Leads C h (Some p ∷ Some q ∷ ps) ns b c in
+          subst Q (sym cut) (head_front (subst P (sym same) met) (dots_front j dots x))
+
+      to : (k : ℕ) (ms : List Numbered) → ms ≡ drop k (drop at (kids_at h)) → Heads C h p (Some q ∷ ps) ms b c → Leads C h (Some p ∷ Some q ∷ ps) (drop at (kids_at h)) b c
+      to k [] f y = absurd y
+      to k (m ∷ ms) f (d, x, y) =
+          let (j, z) = (after_dots C h q ps ms d c dots).1 y in
+          let rest : ms ≡ drop (at + k + 1) (kids_at h) = ap (drop 1) f ∙ ap (drop 1) (drop-drop k at (kids_at h)) ∙ drop-drop 1 (at + k) (kids_at h) in
+          let both : at + k + 1 + j ≡ at + 1 + (k + j) = omega arith in
+          let shift : drop j ms ≡ drop (k + j) (drop (at + 1) (kids_at h)) = ap (drop j) rest ∙ drop-drop j (at + k + 1) (kids_at h) ∙ ap (λ i. drop i (kids_at h)) both ∙ sym (drop-drop (k + j) (at + 1) (kids_at h)) in
+          let P : List Numbered → Type 0 = λ ns. Leads C h ps ns b c in
+          let Q : List Bound → Type 0 = λ t. Leads C h ps (drop j ms) t c in
+          here (k + j) (subst P shift (subst Q (sym (steady_at C h p m b d steady x)) z))
 
 -- ---- the next places of the parts one by one
 
@@ -93,6 +175,21 @@ next_more h ps nexts new next at all many is found i places e =
           subst R f (subst Q same found)
     ]
 
--- the part at a place of which the next places are known
-pub known_next : (h : Numbered) (ps : List Part) (nexts : List (Option NextPlaces)) (at : ℕ) (places : NextPlaces) → AreNextOf h ps nexts → slice_get nexts at ≡ Some (Some places) → AreForward places.next.items
-known_next h ps nexts at places all e = let (p, is, one, leaps) = all at places e in leaps.on
+-- a part at a place of which the next places are known
+pub known_next : (h : Numbered) (ps : List Part) (nexts : List (Option NextPlaces)) (at : ℕ) (places : NextPlaces) (p : Node) → AreNextOf h ps nexts → slice_get nexts at ≡ Some (Some places) → drop at ps ≡ Some p ∷ drop (at + 1) ps
+    → IsOne (role_of (kind_of p)) × IsNext (kind_of h.node) p (kids_of h.node) places
+known_next h ps nexts at places p all e is =
+    let (q, cut, one, next) = all at places e in
+    let f : Some q ∷ drop (at + 1) ps ≡ Some p ∷ drop (at + 1) ps = sym cut ∙ is in
+    let same : q ≡ p = let g = f in cc in
+    let P : Node → Type 0 = λ x. IsOne (role_of (kind_of x)) × IsNext (kind_of h.node) x (kids_of h.node) places in
+    subst P same (one, next)
+
+-- the kid at a place, and those after it
+pub kid_here : (h : Numbered) (kids : List Spot) (at : ℕ) (s : Spot) → AreKids kids h → at < length kids → s ≡ get_or kids at s → drop at (kids_at h) ≡ seen s ∷ drop (at + 1) (kids_at h)
+kid_here h kids at s are lt is =
+    let f = kid_is h kids at s are.are lt is in
+    one_further (kids_at h) at (seen s) (omega (arith, lt, as_many h kids are.are)) f
+
+pub kids_as_many : (h : Numbered) (kids : List Spot) → AreKids kids h → length kids ≡ length (kids_of h.node)
+kids_as_many h kids are = as_many h kids are.are ∙ kids_many h

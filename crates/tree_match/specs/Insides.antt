@@ -1,5 +1,5 @@
--- Where a search goes into the last kid of a list.
-use Rattle.std.specs.Prelude.{◌≡◌, ◌↔◌, List, [], ◌∷◌, drop, Some, false}
+-- Where a search goes into a kid of a list.
+use Rattle.std.specs.Prelude.{◌≡◌, ◌↔◌, ◌≤◌, ℕ, List, ◌∷◌, length, drop, Some, false}
 use Rattle.node_tree.specs.declared.node.Node.{Node}
 use Rattle.node_tree.specs.declared.kind.Kind.{Kind}
 use Rattle.node_tree.specs.declared.known.Known.{Known}
@@ -11,19 +11,17 @@ use Rattle.node_search.specs.declared.state.State.{State}
 use Rattle.node_match.specs.Kinds.{role_of, IsOne}
 use Rattle.node_match.specs.Free.{Part, parts_of}
 use Rattle.node_match.specs.Relation.{MatchesKid, MatchesList}
-use Rattle.tree_match.specs.declared.aim.Aim.{Aim}
-use Rattle.tree_match.specs.declared.aim.Aim.TheVariants.{All}
-use Rattle.tree_match.specs.declared.last.Inside.{Inside}
+use Rattle.tree_match.specs.declared.place.Inside.{Inside}
 
 -- the pattern matches a kid of that value, of a holder of that kind, where its kids match those of the kid in order, and nowhere else
 pub record IsInOrder (holder : Kind) (q : Node) (n : Node) : Type 0 where
   pub one : IsOne (role_of (kind_of q))
   pub same : (C : List Known) (h s : Numbered) → kind_of h.node ≡ holder → s.node ≡ n → (b c : List Bound) → MatchesList C s (parts_of q) (kids_at s) b c ↔ MatchesKid C h q s b c
 
--- one part and one kid are left after the state, the part matches the kid in that way, and the range is known
-pub record Opens (aim : Aim) (h : Numbered) (parts : List Part) (state : State) (inside : Inside) : Type 0 where
-  pub whole : aim ≡ All inside.range
-  pub last_part : parts ≡ Some inside.part.now ∷ []
+-- the state stands before a kid, and the part at that place matches the kid in that way. After them come the other parts and kids
+pub record Opens (h : Numbered) (parts : List Part) (from : ℕ) (state : State) (inside : Inside) : Type 0 where
   pub stays : state.floating ≡ false
-  pub last_kid : drop state.at (kids_at h) ≡ seen inside.kid ∷ []
+  pub next_part : drop from parts ≡ Some inside.part.now ∷ drop inside.from parts
+  pub next_kid : drop state.at (kids_at h) ≡ seen inside.kid ∷ drop inside.at (kids_at h)
+  pub within : inside.from ≤ length parts
   pub in_order : IsInOrder (kind_of h.node) inside.part.now (seen inside.kid).node

@@ -1,13 +1,20 @@
 -- Where a part of a pattern may match next.
-use Rattle.std.specs.Prelude.{◌≡◌, ◌<◌, ◌≤◌, ◌+◌, ℕ, List, ◌∷◌, length, drop, slice_get, slice_index_or, Option, Some}
+use Rattle.std.specs.Prelude.{◌≡◌, ◌≢◌, ◌<◌, ◌≤◌, ◌+◌, ℕ, List, [], ◌∷◌, length, drop, slice_get, slice_index_or, Option, Some}
 use Rattle.node_tree.specs.declared.kind.Kind.{Kind}
 use Rattle.node_tree.specs.declared.node.Node.{Node}
-use Rattle.node_tree.specs.Tree.{kids_of, kind_of}
+use Rattle.node_tree.specs.Tree.{kids_of, kind_of, text_of}
+use Rattle.node_tree.specs.declared.known.Known.{Known}
+use Rattle.meta_bind.specs.declared.bound.Bound.{Bound}
+use Rattle.meta_bind.specs.Bounds.{bound_at}
 use Rattle.node_tree.specs.Numbers.{Numbered}
 use Rattle.node_match.specs.Free.{Part}
 use Rattle.node_match.specs.Kinds.{role_of, IsOne}
 use Rattle.node_match.specs.Refused.{IsKidRefused}
+use Rattle.node_match.specs.declared.class.Role.TheVariants.{Meta, Dots}
+use Rattle.node_match.specs.Relation.{MatchesKid, wild}
 use Rattle.tree_match.specs.declared.next_places.NextPlaces.{NextPlaces}
+use Rattle.tree_match.specs.declared.next_places.NextPlaces.TheVariants.{Looked, Named}
+use Rattle.tree_match.specs.Same.{IsIndex}
 
 -- each place is that one or a later one
 abbrev pub AreForward : List ℕ → Type 0
@@ -19,10 +26,37 @@ pub record LeapsOver (kind : Kind) (p : Node) (ns : List Node) (next : List ℕ)
   pub on : AreForward next
   pub over : (i j k : ℕ) (n : Node) → i < length ns → j ≡ slice_index_or next i j → i ≤ k → k < j → k < length ns → n ≡ slice_index_or ns k n → IsKidRefused kind p n
 
+-- these are next places of the pattern among the kids of a node of that kind
+abbrev pub IsNext : Kind → Node → List Node → NextPlaces → Type 0
+IsNext kind p ns (Looked next) = LeapsOver kind p ns next.items
+IsNext kind p ns (Named same) = IsIndex ns same
+
 -- the part at that place takes one kid, and these are its next places among the kids of the node
 abbrev pub IsNextOf : Numbered → List Part → ℕ → NextPlaces → Type 0
-IsNextOf h ps at places = (p : Node) × (drop at ps ≡ Some p ∷ drop (at + 1) ps) × IsOne (role_of (kind_of p)) × LeapsOver (kind_of h.node) p (kids_of h.node) places.next.items
+IsNextOf h ps at places = (p : Node) × (drop at ps ≡ Some p ∷ drop (at + 1) ps) × IsOne (role_of (kind_of p)) × IsNext (kind_of h.node) p (kids_of h.node) places
 
 -- the same of each part for which there are some
 abbrev pub AreNextOf : Numbered → List Part → List (Option NextPlaces) → Type 0
 AreNextOf h ps nexts = (at : ℕ) (places : NextPlaces) → slice_get nexts at ≡ Some (Some places) → IsNextOf h ps at places
+
+-- with that binding the pattern doesn't match the node as a kid of a holder of that kind, whatever is known
+abbrev pub IsOut : Kind → Node → List Bound → Node → Type 0
+IsOut kind p b n = (C : List Known) (h s : Numbered) → kind_of h.node ≡ kind → s.node ≡ n → (c : List Bound) → MatchesKid C h p s b c → ⊥
+
+-- the same of each node from one place up to another
+abbrev pub AreOut : Kind → Node → List Bound → List Node → ℕ → ℕ → Type 0
+AreOut kind p b ns from to = (k : ℕ) (n : Node) → from ≤ k → k < to → k < length ns → n ≡ slice_index_or ns k n → IsOut kind p b n
+
+-- the pattern is a name that stands for one node, of that content
+pub record StandsFor (p : Node) (b : List Bound) (content : Node) : Type 0 where
+  pub role : role_of (kind_of p) ≡ Meta
+  pub named : text_of p ≢ wild
+  pub old : Bound
+  pub bound : bound_at (text_of p) b ≡ Some old
+  pub one : old.nodes ≡ content ∷ []
+
+-- `...` follows the part at that place
+pub record DotsFollow (ps : List Part) (at : ℕ) : Type 0 where
+  pub dots : Node
+  pub role : role_of (kind_of dots) ≡ Dots
+  pub next : drop (at + 1) ps ≡ Some dots ∷ drop (at + 2) ps

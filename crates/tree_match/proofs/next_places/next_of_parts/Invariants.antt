@@ -6,6 +6,6 @@ use Rattle.tree_match.proofs.next_places.next_of_parts.Given as goal
 
 abbrev pub invariant-loop-at : goal.invariant-loop-at
 invariant-loop-at l = record {
-  next : AreNextOf (seen l.block) (parts_of l.pattern) l.all;
+  next : AreNextOf (seen l.holder) (parts_of l.pattern) l.all;
   many : length l.all ≡ l.at;
 }

@@ -1,0 +1,87 @@
+-- The members that a search finds.
+use Rattle.std.proofs.Common.{◌≡◌, ◌⊎◌, ◌↔◌, ℕ, ◌+◌, ◌≤◌, List, [], ◌∷◌, ◌++◌, length, drop, reverse, refl, sym, subst, arith, Bool, true, false}
+use Rattle.meta_bind.specs.declared.bound.Bound.{Bound}
+use Rattle.node_tree.specs.declared.known.Known.{Known}
+use Rattle.node_tree.specs.Numbers.{Numbered, kids_at}
+use Rattle.node_pool.specs.Spots.{seen}
+use Rattle.node_match.specs.Sets.{Adds}
+use Rattle.node_match.specs.Free.{Part, parts_of}
+use Rattle.node_match.specs.Fronts.{End}
+use Rattle.node_match.proofs.Sets.{chain}
+use Rattle.node_search.specs.declared.state.State.{State}
+use Rattle.node_search.specs.States.{line_of, AnyFrom}
+use Rattle.tree_match.specs.declared.aim.Aim.{Aim}
+use Rattle.tree_match.specs.declared.aim.Search.{Search}
+use Rattle.tree_match.specs.declared.outer.Outer.{Outer}
+use Rattle.tree_match.specs.declared.place.Inside.{Inside}
+use Rattle.tree_match.specs.Members.{Member}
+use Rattle.tree_match.specs.Aims.{Gives, Onward, GivesOn, GivesIn, MemberFrom, MemberAfter, FoundFrom, FoundAt}
+use Rattle.tree_match.specs.Insides.{Opens}
+use Rattle.tree_match.proofs.Spreads.{Reached, ReachedAt, OfSome, last_state, states_as, one_state, state_after, after_more, after_last, no_states, states_turned, all_taken, ends_on}
+use Rattle.tree_match.proofs.InsideLaws.{inside_reached}
+
+nothing : (os : List Outer) → length os ≡ 0 → os ≡ []
+nothing [] e = refl
+nothing (o ∷ os) e = absurd (omega (arith, e))
+
+-- with no outer list
+pub outermost : (C : List Known) (aim : Aim) (h : Numbered) (os : List Outer) (ps : List Part) (at : ℕ) (b : List Bound) (m : Member) → os ≡ []
+    → ReachedAt C (λ e. GivesOn C aim h os m e) false h ps at b ↔ MemberAfter C aim false h ps at b m
+outermost C aim h os ps at b m none =
+    let P : List Outer → Type 0 = λ xs. ReachedAt C (λ e. GivesOn C aim h xs m e) false h ps at b ↔ MemberAfter C aim false h ps at b m in
+    subst P (sym none) (λ x. x, λ x. x)
+
+module _ (s : Search) (from : ℕ) (m : Member) where
+  pub last_found : (old new : List State) (last : State) → old ≡ new ++ last ∷ [] → FoundFrom s from old m ↔ (FoundFrom s from (last ∷ []) m ⊎ FoundFrom s from new m)
+  last_found = last_state s.known.names.now (GivesIn s m) (seen s.holder.spot) (drop from (parts_of s.pattern.now))
+
+  pub found_turned : (states turned : List State) → turned ≡ reverse states → FoundFrom s from turned m ↔ FoundFrom s from states m
+  found_turned = states_turned s.known.names.now (GivesIn s m) (seen s.holder.spot) (drop from (parts_of s.pattern.now))
+
+  pub none_found : (states : List State) → states ≡ [] → FoundFrom s from states m → ⊥
+  none_found = no_states s.known.names.now (GivesIn s m) (seen s.holder.spot) (drop from (parts_of s.pattern.now))
+
+  pub one_found : (one : List State) (state : State) → one ≡ state ∷ [] → FoundFrom s from one m ↔ FoundFrom s from (state ∷ []) m
+  one_found = one_state s.known.names.now (GivesIn s m) (seen s.holder.spot) (drop from (parts_of s.pattern.now))
+
+  pub found_at : (state : State) (floating : Bool) (at : ℕ) (b : List Bound) → state.floating ≡ floating → state.at ≡ at → state.trail ≡ b → FoundAt s floating from at b m ↔ FoundFrom s from (state ∷ []) m
+  found_at = state_after s.known.names.now (GivesIn s m) (seen s.holder.spot) (drop from (parts_of s.pattern.now))
+
+  pub found_more : (at : ℕ) (b : List Bound) → FoundAt s true from at b m ↔ (FoundAt s false from at b m ⊎ FoundAt s true from (at + 1) b m)
+  found_more = after_more s.known.names.now (GivesIn s m) (seen s.holder.spot) (drop from (parts_of s.pattern.now))
+
+  pub found_last : (at last : ℕ) (b : List Bound) → length (kids_at (seen s.holder.spot)) ≤ last → length (kids_at (seen s.holder.spot)) ≤ at → FoundAt s false from last b m ↔ FoundAt s true from at b m
+  found_last = after_last s.known.names.now (GivesIn s m) (seen s.holder.spot) (drop from (parts_of s.pattern.now))
+
+  -- inside a kid, where this list is the first of the outer ones
+  pub inside_found : (state : State) (inside : Inside) → Opens (seen s.holder.spot) (parts_of s.pattern.now) from state inside
+      → ReachedAt s.known.names.now (Onward s.known.names.now (GivesIn s m) (seen s.holder.spot) (drop inside.from (parts_of s.pattern.now)) inside.at) false (seen inside.kid) (parts_of inside.part.now) 0 state.trail ↔ FoundFrom s from (state ∷ []) m
+  inside_found = inside_reached s.known.names.now (GivesIn s m) (seen s.holder.spot) (parts_of s.pattern.now) from
+
+  module _ (at : ℕ) (old new : List State) (same : (c : End) → AnyFrom s.known.names.now (line_of (seen s.holder.spot)) (drop at (parts_of s.pattern.now)) new c ↔ AnyFrom s.known.names.now (line_of (seen s.holder.spot)) (drop from (parts_of s.pattern.now)) old c) where
+    pub found_as : FoundFrom s at new m ↔ FoundFrom s from old m
+    found_as = states_as s.known.names.now (GivesIn s m) (seen s.holder.spot) (drop from (parts_of s.pattern.now)) (drop at (parts_of s.pattern.now)) old new same
+
+    module _ (past : length (parts_of s.pattern.now) ≤ at) where
+      taken : (G : End → Type 0) → Reached s.known.names.now G (seen s.holder.spot) [] new ↔ Reached s.known.names.now G (seen s.holder.spot) (drop from (parts_of s.pattern.now)) old
+      taken G = all_taken s.known.names.now G (seen s.holder.spot) (drop from (parts_of s.pattern.now)) at (parts_of s.pattern.now) old new past same
+
+      -- all parts are taken, and there is no outer list
+      pub found_here : length s.outer.now ≡ 0 → MemberFrom s.known.names.now s.aim (seen s.holder.spot) [] new m ↔ FoundFrom s from old m
+      found_here none =
+          let C = s.known.names.now in
+          let h = seen s.holder.spot in
+          let P : List Outer → Type 0 = λ os. Reached C (λ e. Gives s.aim h e m) h [] new ↔ Reached C (λ e. GivesOn C s.aim h os m e) h (drop from (parts_of s.pattern.now)) old in
+          subst P (sym (nothing s.outer.now none)) (taken (λ e. Gives s.aim h e m))
+
+      -- the same, and the search goes on in the first of the outer lists
+      pub found_on : (o : Outer) (os : List Outer) (before trails : List (List Bound)) → s.outer.now ≡ o ∷ os → before ≡ [] → Adds before trails (λ b. AnyFrom s.known.names.now (line_of (seen s.holder.spot)) [] new ([], b))
+          → OfSome (λ b. ReachedAt s.known.names.now (λ f. GivesOn s.known.names.now s.aim (seen o.holder.spot) os m f) false (seen o.holder.spot) (drop o.from (parts_of o.pattern.now)) o.at b) trails ↔ FoundFrom s from old m
+      found_on o os before trails are none adds =
+          let C = s.known.names.now in
+          let h = seen s.holder.spot in
+          let outer = seen o.holder.spot in
+          let ps = drop o.from (parts_of o.pattern.now) in
+          let G : End → Type 0 = λ f. GivesOn C s.aim outer os m f in
+          let P : List Outer → Type 0 = λ xs. OfSome (λ b. ReachedAt C G false outer ps o.at b) trails ↔ Reached C (λ e. GivesOn C s.aim h xs m e) h (drop from (parts_of s.pattern.now)) old in
+          subst P (sym are) (chain _ _ _ (ends_on C G h outer ps o.at new before trails none adds) (taken (Onward C G outer ps o.at)))
