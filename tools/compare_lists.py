@@ -1,0 +1,138 @@
+#!/usr/bin/env python3
+"""Compares where patterns of lists match with a plain search that tries every way.
+
+    tools/compare_lists.py [--program PROGRAM] [--runs N] [--seed N]
+
+PROGRAM is the program as `./semscan` built it, if none is given. Each run makes an array of numbers and arrays, as JSON, and a pattern of `...`, names and
+such items, some of them lists in lists, and matches it by `semscan match json`. The search here goes through the items one by one and tries each number of
+items for `...`; it knows nothing of semscan's code. Where both differ, text and pattern are printed, and the status is 1.
+"""
+import argparse
+import random
+import subprocess
+import sys
+
+from measure_json import PROGRAM
+
+
+def text_of(item):
+    """An item as JSON."""
+    return '[' + ','.join(text_of(one) for one in item) + ']' if isinstance(item, list) else item
+
+
+def spans(item, start, out):
+    """Each item with its range, the outermost first. An item is told by its identity, so equal ones stay apart."""
+    out.append((item, start, start + len(text_of(item))))
+    if isinstance(item, list):
+        at = start + 1
+        for one in item:
+            spans(one, at, out)
+            at += len(text_of(one)) + 1
+    return out
+
+
+class Item(str):
+    """A number in a text, told apart from an equal one elsewhere."""
+
+
+def ways(pattern, item, bound, places):
+    """What the names stand for, once for each way in which the pattern matches the item."""
+    if isinstance(pattern, list):
+        if isinstance(item, list):
+            yield from rows(pattern, item, bound, places)
+    elif pattern == '$_':
+        yield bound
+    elif pattern.startswith('$'):
+        if pattern not in bound:
+            yield {**bound, pattern: item}
+        elif text_of(bound[pattern]) == text_of(item):
+            yield bound
+    elif not isinstance(item, list) and pattern == str(item):
+        yield bound
+
+
+def rows(patterns, items, bound, places):
+    """The same for a list of patterns and a list of items."""
+    if not patterns:
+        if not items:
+            yield bound
+    elif patterns[0] == '...':
+        for some in range(len(items) + 1):
+            yield from rows(patterns[1:], items[some:], bound, places)
+    elif items:
+        for one in ways(patterns[0], items[0], bound, places):
+            yield from rows(patterns[1:], items[1:], one, places)
+
+
+def wanted(pattern, array):
+    """The lines of `semscan match`, in no order."""
+    places = spans(array, 0, [])
+    at = {id(item): '%d..%d' % (start, end) for item, start, end in places}
+    lines = set()
+    for item, start, end in places:
+        for bound in ways(pattern, item, {}, at):
+            names = ''.join(' %s=%s' % (name, at[id(bound[name])]) for name in sorted(bound))
+            lines.add('%d..%d%s' % (start, end, names))
+    return lines
+
+
+def array_of(random, size, values, depth):
+    """An array of so many items."""
+    items = []
+    for _ in range(size):
+        if depth and random.random() < 0.04:
+            items.append(array_of(random, random.choice([0, 1, 2, 3, 33]), values, depth - 1))
+        else:
+            items.append(Item(random.randrange(values)))
+    return items
+
+
+def pattern_of(random, values, depth):
+    """A pattern of an array, with `...` at most three times, since each may take any number of items."""
+    parts = []
+    for _ in range(random.randint(1, 6)):
+        kind = random.random()
+        if kind < 0.4 and parts.count('...') < 3:
+            parts.append('...')
+        elif kind < 0.75:
+            parts.append(random.choice(['$X', '$X', '$Y', '$_']))
+        elif kind < 0.88 or not depth:
+            parts.append(str(random.randrange(values)))
+        else:
+            parts.append(pattern_of(random, values, depth - 1))
+    return parts
+
+
+def main():
+    parser = argparse.ArgumentParser(description=__doc__.split('\n')[0])
+    parser.add_argument('--program', default=PROGRAM)
+    parser.add_argument('--runs', type=int, default=1_000)
+    parser.add_argument('--seed', type=int, default=1)
+    given = parser.parse_args()
+    source = random.Random(given.seed)
+    compared = matches = crowded = 0
+    for _ in range(given.runs):
+        values = source.choice([1, 3, 20, 100])
+        array = array_of(source, source.choice([3, 8, 31, 32, 33, 40]), values, 2)
+        pattern = pattern_of(source, values, 2)
+        lines = wanted(pattern, array)
+        asked = [given.program, 'match', 'json', text_of(pattern)]
+        told = subprocess.run(asked, input=text_of(array), capture_output=True, text=True)
+        found = told.stdout.splitlines()
+        if len(lines) > 10_000:
+            crowded += 1
+            same = told.returncode != 0 and not found
+        else:
+            same = told.returncode == 0 and len(found) == len(lines) and set(found) == lines
+        if not same:
+            print('%s\n%s\nwanted %d matches, found %d, status %d: %s' % (
+                text_of(pattern), text_of(array), len(lines), len(found), told.returncode, told.stderr.strip()))
+            return 1
+        compared += 1
+        matches += len(lines)
+    print('%d arrays with %d matches, %d with more than 10,000: no difference' % (compared, matches, crowded))
+    return 0
+
+
+if __name__ == '__main__':
+    sys.exit(main())
