@@ -38,21 +38,23 @@ TWICE = '%s$X, ..., $X, ...%s'
 THRICE = '%s$X, ..., $X, ..., $X, ...%s'
 # what grows, a language, a pattern, a text of so many items, and how many
 GROWING = [
-    ('equal items', 'json', TWICE % ('[..., ', ']'), commas('[', lambda k: '0', ']'), 2_000),
-    ('different items', 'json', TWICE % ('[..., ', ']'), commas('[', str, ']'), 2_000),
-    ('equal items, three names', 'json', THRICE % ('[..., ', ']'), commas('[', lambda k: '0', ']'), 500),
+    ('equal items', 'json', TWICE % ('[..., ', ']'), commas('[', lambda k: '0', ']'), 249_999),
+    ('different items', 'json', TWICE % ('[..., ', ']'), commas('[', str, ']'), 50_000),
+    ('equal items, the last one again', 'json', '[..., $X, ..., $X]', commas('[', lambda k: '0', ']'), 1_000),
+    ('equal items, three names', 'json', THRICE % ('[..., ', ']'), commas('[', lambda k: '0', ']'), 100_000),
     ('different members', 'json', '{$K: $V, ...}', commas('{', lambda k: '"k%d":0' % k, '}'), 30_000),
     ('equal members', 'json', '{"a": $X, "a": $X, ...}', commas('{', lambda k: '"a":0', '}'), 1_000),
-    ('equal arguments', 'python', TWICE % ('f(..., ', ')'), commas('f(', lambda k: 'a', ')\n'), 2_000),
-    ('different arguments', 'python', TWICE % ('f(..., ', ')'), commas('f(', lambda k: 'a%d' % k, ')\n'), 2_000),
+    ('equal arguments', 'python', TWICE % ('f(..., ', ')'), commas('f(', lambda k: 'a', ')\n'), 100_000),
+    ('different arguments', 'python', TWICE % ('f(..., ', ')'), commas('f(', lambda k: 'a%d' % k, ')\n'), 50_000),
     ('arguments, two names', 'python', 'f(..., $X, ..., $Y, ...)', commas('f(', lambda k: 'a%d' % k, ')\n'), 1_500),
     ('arguments in a list, two names', 'python', 'f([..., $X, ..., $Y, ...], 1)', commas('f([', lambda k: 'a%d' % k, '],1)\n'), 500),
     ('parameters', 'python', 'def f(..., $X, ..., $Y, ...): ...', commas('def f(', lambda k: 'a%d' % k, '): pass\n'), 1_500),
-    ('items of an array', 'python', TWICE % ('[..., ', ']'), commas('x = [', lambda k: '0', ']\n'), 2_000),
-    ('statements without the second', 'python', 'a()\n...\nb()', chain('', lambda k: 'a()\n', ''), 5_000),
+    ('items of an array', 'python', TWICE % ('[..., ', ']'), commas('x = [', lambda k: '0', ']\n'), 100_000),
+    ('statements without the second', 'python', 'a()\n...\nb()', chain('', lambda k: 'a()\n', ''), 120_000),
+    ('statements, reading alone', 'python', 'zzz', chain('', lambda k: 'a()\n', ''), 120_000),
     ('statements with a name twice', 'python', '$X = 1\n...\n$X = 2', chain('', lambda k: 'a%d = 1\n' % k, ''), 5_000),
-    ('arguments in C', 'c', TWICE % ('f(..., ', ')'), commas('int g(void) { f(', lambda k: 'a', '); }'), 2_000),
-    ('initialisers in C', 'c', 'int x[] = {..., $X, ..., $X, ...};', commas('int x[] = {', lambda k: '0', '};'), 2_000),
+    ('arguments in C', 'c', TWICE % ('f(..., ', ')'), commas('int g(void) { f(', lambda k: 'a', '); }'), 100_000),
+    ('initialisers in C', 'c', 'int x[] = {..., $X, ..., $X, ...};', commas('int x[] = {', lambda k: '0', '};'), 100_000),
 ]
 SUMS = 'x = ' + ' + '.join('a' for _ in range(400)) + '\n'
 CALLS = 'x = ' + 'g(' * 400 + 'a' + ')' * 400 + '\n'
