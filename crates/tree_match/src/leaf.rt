@@ -1,6 +1,6 @@
 //! The set of members of a pattern in a file.
 
-ghost use Rattle.std.specs.Prelude.{◌≡◌, [], ◌∷◌, length, slice_get, slice_index, slice_index_or, ◌<◌, IsTrue, IfOk, OnOk};
+ghost use Rattle.std.specs.Prelude.{◌≡◌, [], ◌∷◌, length, slice_get, slice_index, slice_index_or, ◌<◌, ◌≤◌, IsTrue, IfOk, OnOk};
 ghost use Rattle.std.specs.Option.{option_copied};
 ghost use Rattle.node_tree.specs.Blocks.{is_block};
 ghost use Rattle.node_tree.specs.Numbers.{Numbered, count_of, pre_at};
@@ -24,14 +24,14 @@ use std::marker::Model;
 pub const MOST_MEMBERS: usize = 10_000;
 
 /// The members of a set: ranges, each with what the metavariables stand for there. They stand in order of range, then of
-/// binding (the names with their spans, then the contents), each once.
+/// binding (the names with their spans, then the contents), each once, and there are at most 10,000.
 #[derive(Drop)]
 pub struct LeafSet {
     members: List<(Span, Binding)>,
 }
 
 impl Model for LeafSet {
-    ghost use Rattle.std.specs.Prelude.{List as list};
+    ghost use Rattle.std.specs.Prelude.{◌≤◌, List as list, length};
     ghost use Rattle.std.specs.Coded.{coded_list, coded×};
     ghost use Rattle.node_tree.specs.declared.span.Span.{Span as span};
     ghost use Rattle.node_tree.specs.contracts.span.Span as spans;
@@ -47,13 +47,14 @@ impl Model for LeafSet {
 
     ghost view = { λ s. s.members };
 
-    ghost invariant = { λ s. IsAscending member_cmp s.members };
+    ghost invariant = { λ s. IsAscending member_cmp s.members × (length s.members ≤ 10000) };
 }
 
 impl LeafSet {
-    /// The set of these members, which takes no memory.
+    /// The set of these members, at most 10,000, which takes no memory.
     pub fn of(members: List<(Span, Binding)>) -> LeafSet
-        requires { IsAscending member_cmp members }
+        requires ordered { IsAscending member_cmp members }
+        requires few { length members ≤ 10000 }
         ensures { result ≡ members }
     {
         LeafSet { members }
@@ -63,6 +64,7 @@ impl LeafSet {
     pub fn members(&self) -> &[(Span, Binding)]
         ensures members { result.now ≡ self.now }
         ensures ordered { IsAscending member_cmp self.now }
+        ensures few { length self.now ≤ 10000 }
     {
         self.members.as_slice()
     }
@@ -71,6 +73,7 @@ impl LeafSet {
     pub fn into_members(self) -> List<(Span, Binding)>
         ensures members { result ≡ self }
         ensures ordered { IsAscending member_cmp self }
+        ensures few { length self ≤ 10000 }
     {
         self.members
     }
@@ -275,7 +278,8 @@ fn holds_statements(kind: Kind) -> bool
 
 /// The members with bindings of their own.
 pub fn keep_all(alloc: Global, members: &[(Span, Trail<'_>)]) -> Result<LeafSet, Memory>
-    requires { IsAscending member_cmp members.now }
+    requires ordered { IsAscending member_cmp members.now }
+    requires few { length members.now ≤ 10000 }
     ensures { IfOk result (λ s. s ≡ members.now) }
 {
     let mut kept = List::new(alloc);
