@@ -1,5 +1,5 @@
 -- What keys tell of pairs.
-use Rattle.std.proofs.Common.{◌≡◌, ◌∙◌, ℕ, List, [], ◌++◌, refl, sym, ap, subst, Bool, true, false, cond, ◌∷◌, arith}
+use Rattle.std.proofs.Common.{◌≡◌, ◌∙◌, ℕ, List, [], ◌++◌, length, refl, sym, ap, subst, Bool, true, false, cond, ◌∷◌, arith}
 use Rattle.std.specs.Prelude.{Option, None, Some, ◌&&◌}
 use Rattle.std.specs.Str.{bytes_eq}
 use Rattle.std.specs.declared.cmp.Ordering.{Ordering}
@@ -8,7 +8,7 @@ use Rattle.std.specs.Ordering.{nat_cmp, ordering_then, is_eq}
 use Rattle.std.specs.Cmp.{IsTotalOrder}
 use Rattle.std.specs.Cmp.Lexicographic.{slice_cmp, bytes_decides}
 use Rattle.std.specs.BTreeMap.{get}
-use Rattle.std.proofs.lemmas.Cmp.{tied_itself, alike_right, on_total, then_total, nat_list_cmp_total}
+use Rattle.std.proofs.lemmas.Cmp.{ranked, tied_itself, alike_right, on_total, then_total, nat_cmp_total, nat_list_cmp_total}
 use Rattle.std.proofs.lemmas.Map.Text.{is_eq-slice_cmp}
 use denote.Enum.Bare.{tag_one}
 use denote.Enum.Declared.{tag_of}
@@ -39,15 +39,29 @@ use Rattle.kept_leaves.specs.Pairs.{Pair, IsSamePair}
 -- ---- orders
 
 pub piece_total : IsTotalOrder piece_cmp
-piece_total = then_total (on_total (λ (a : PieceRef). a.value.bytes.items) nat_list_cmp_total) (on_total (λ (a : PieceRef). a.value.code.items) nat_list_cmp_total)
+piece_total =
+    then_total (on_total (λ (a : PieceRef). a.value.size) nat_cmp_total)
+    (then_total (on_total (λ (a : PieceRef). a.value.bytes.items) nat_list_cmp_total) (on_total (λ (a : PieceRef). a.value.code.items) nat_list_cmp_total))
 
 pub pattern_total : IsTotalOrder pattern_cmp
 pattern_total = on_total (λ (b : PatternRef). b.value.code.items) nat_list_cmp_total
 
-pub both_equal : (r s : Ordering) → ordering_then r s ≡ Equal → (r ≡ Equal) × (s ≡ Equal)
+both_equal : (r s : Ordering) → ordering_then r s ≡ Equal → (r ≡ Equal) × (s ≡ Equal)
 both_equal Less s e = absurd cc
 both_equal Equal s e = (refl, e)
 both_equal Greater s e = absurd cc
+
+-- each part of equal keys is equal
+pub parts_equal : (a b : PieceRef) → piece_cmp a b ≡ Equal → (a.value.size ≡ b.value.size) × (slice_cmp nat_cmp a.value.bytes.items b.value.bytes.items ≡ Equal) × (slice_cmp nat_cmp a.value.code.items b.value.code.items ≡ Equal)
+parts_equal a b e =
+    let bytes : Ordering = slice_cmp nat_cmp a.value.bytes.items b.value.bytes.items in
+    let code : Ordering = slice_cmp nat_cmp a.value.code.items b.value.code.items in
+    let all = both_equal (nat_cmp a.value.size b.value.size) (ordering_then bytes code) e in
+    let rest = both_equal bytes code all.1 in
+    (ranked a.value.size b.value.size Equal (sym all.0), rest.0, rest.1)
+
+size_tied : (m n : ℕ) → m ≡ n → nat_cmp m n ≡ Equal
+size_tied m n e = let P : ℕ → Type 0 = λ k. nat_cmp m k ≡ Equal in subst P e (tied_itself nat_cmp_total m)
 
 pub text_one : (xs ys : List ℕ) → slice_cmp nat_cmp xs ys ≡ Equal → xs ≡ ys
 text_one xs ys e = (bytes_decides xs ys).0 (sym (is_eq-slice_cmp xs ys) ∙ ap is_eq e)
@@ -84,7 +98,11 @@ module _ (x y : Pair) (a : PieceRef) (b : PatternRef) (keys : AreKeys x a b) whe
   -- a pair that counts as one with this has the same keys
   pub keys_of_same : IsSamePair x y → AreKeys y a b
   keys_of_same same = record {
-    of_piece = record { bytes = keys.of_piece.bytes ∙ ap (λ (i : Identity). i.bytes) same.piece; code = keys.of_piece.code ∙ ap piece_code same.piece };
+    of_piece = record {
+      size = keys.of_piece.size ∙ ap (λ (i : Identity). length i.bytes) same.piece;
+      bytes = keys.of_piece.bytes ∙ ap (λ (i : Identity). i.bytes) same.piece;
+      code = keys.of_piece.code ∙ ap piece_code same.piece;
+    };
     of_pattern = keys.of_pattern ∙ ap pattern_code same.pattern;
   }
 
@@ -95,16 +113,18 @@ module _ (x y : Pair) (a : PieceRef) (b : PatternRef) (keys : AreKeys x a b) whe
         let k = keys_of_same same in
         let bytes = text_tied a.value.bytes.items c.value.bytes.items (k.of_piece.bytes ∙ sym its.of_piece.bytes) in
         let code = text_tied a.value.code.items c.value.code.items (k.of_piece.code ∙ sym its.of_piece.code) in
+        let size = size_tied a.value.size c.value.size (k.of_piece.size ∙ sym its.of_piece.size) in
         let rest : Ordering = slice_cmp nat_cmp a.value.code.items c.value.code.items in
-        (ap (λ (o : Ordering). ordering_then o rest) bytes ∙ code, text_tied b.value.code.items d.value.code.items (k.of_pattern ∙ sym its.of_pattern))
+        let all : Ordering = ordering_then (slice_cmp nat_cmp a.value.bytes.items c.value.bytes.items) rest in
+        (ap (λ (o : Ordering). ordering_then o all) size ∙ ap (λ (o : Ordering). ordering_then o rest) bytes ∙ code, text_tied b.value.code.items d.value.code.items (k.of_pattern ∙ sym its.of_pattern))
 
     -- pairs with equal keys count as one
     pub told : x.path ≡ y.path → piece_cmp a c ≡ Equal → pattern_cmp b d ≡ Equal → IsSamePair x y
     told path e f =
-        let parts = both_equal (slice_cmp nat_cmp a.value.bytes.items c.value.bytes.items) (slice_cmp nat_cmp a.value.code.items c.value.code.items) e in
+        let parts = parts_equal a c e in
         record {
           path = path;
-          piece = keys_tell x.piece y.piece a.value c.value keys.of_piece its.of_piece (text_one a.value.bytes.items c.value.bytes.items parts.0) (text_one a.value.code.items c.value.code.items parts.1);
+          piece = keys_tell x.piece y.piece a.value c.value keys.of_piece its.of_piece (text_one a.value.bytes.items c.value.bytes.items parts.1) (text_one a.value.code.items c.value.code.items parts.2);
           pattern = pattern_tells x.pattern y.pattern (sym keys.of_pattern ∙ text_one b.value.code.items d.value.code.items f ∙ its.of_pattern);
         }
 

@@ -1,6 +1,7 @@
 -- Rows in hand, and the places of parts.
 use Rattle.std.proofs.Common.{◌≡◌, ◌∙◌, ℕ, zero, suc, ◌+◌, ◌<◌, List, [], ◌∷◌, ◌++◌, map, length, refl, sym, ap, subst, ◌⊎◌, inl, inr, Bool, true, false, cond, arith}
 use Rattle.std.specs.Prelude.{Option, None, Some, slice_get, slice_index, slice_index_or, MatchOption}
+use Rattle.std.specs.declared.cmp.Ordering.{Ordering}
 use Rattle.std.specs.declared.cmp.Ordering.TheVariants.{Equal}
 use Rattle.std.specs.Ordering.{nat_cmp, ordering_then, is_eq}
 use Rattle.std.specs.Cmp.Lexicographic.{slice_cmp}
@@ -18,7 +19,7 @@ use Rattle.kept_leaves.specs.declared.leaf.OpenLeaves.{OpenLeaves}
 use Rattle.kept_leaves.specs.Kept.{PieceRef, PatternRef, piece_cmp, pattern_cmp, AreKeys}
 use Rattle.kept_leaves.specs.Opened.{pieces_in, StaysOpen, IsPlaceOf, ArePlacesOf, IsNumberOf, IsOut, IsIn, Knows}
 use Rattle.kept_leaves.specs.Ready.{pair_of}
-use Rattle.kept_leaves.proofs.Keyed.{both_equal, text_one}
+use Rattle.kept_leaves.proofs.Keyed.{parts_equal, text_one}
 
 pub within : {X : Type 0} (xs : List X) (i : ℕ) (x : X) → slice_get xs i ≡ Some x → i < length xs
 within [] i x e = absurd (let f : None ≡ Some x = e in cc)
@@ -96,11 +97,19 @@ stays_both old mid new a b = record { path = b.path ∙ a.path; pieces = b.piece
 -- the key of a piece is told by its value
 pub key_tied : (p : Piece) (piece key : PieceRef) → piece_cmp piece key ≡ Equal → IsKeyOf p key.value → IsKeyOf p piece.value
 key_tied p piece key e is =
-    let parts = both_equal (slice_cmp nat_cmp piece.value.bytes.items key.value.bytes.items) (slice_cmp nat_cmp piece.value.code.items key.value.code.items) e in
-    record { bytes = text_one piece.value.bytes.items key.value.bytes.items parts.0 ∙ is.bytes; code = text_one piece.value.code.items key.value.code.items parts.1 ∙ is.code }
+    let parts = parts_equal piece key e in
+    record {
+      size = parts.0 ∙ is.size;
+      bytes = text_one piece.value.bytes.items key.value.bytes.items parts.1 ∙ is.bytes;
+      code = text_one piece.value.code.items key.value.code.items parts.2 ∙ is.code;
+    }
+
+-- keys of the same value are told from others alike
+abbrev key_cmp : PieceKey → PieceKey → Ordering
+key_cmp a b = ordering_then (nat_cmp a.size b.size) (ordering_then (slice_cmp nat_cmp a.bytes.items b.bytes.items) (slice_cmp nat_cmp a.code.items b.code.items))
 
 pub cmp_copy : (r a b : PieceRef) → a.value ≡ b.value → piece_cmp r a ≡ piece_cmp r b
-cmp_copy r a b e = ap (λ (v : PieceKey). ordering_then (slice_cmp nat_cmp r.value.bytes.items v.bytes.items) (slice_cmp nat_cmp r.value.code.items v.code.items)) e
+cmp_copy r a b e = ap (key_cmp r.value) e
 
 -- no row in hand is one of the key, nor of its copy
 pub none_out : (rows : List (HeldRow PieceRef KeptLeaf)) (key copy : PieceRef) → copy.value ≡ key.value
@@ -182,7 +191,7 @@ module _ (old new : OpenLeaves) (piece : PieceRef) (behind : pieces_in new ≡ p
       M o = MatchOption o (IsOut new key) (IsIn new key)
 
       swapped : piece_cmp piece key ≡ piece_cmp copy key
-      swapped = ap (λ (v : PieceKey). ordering_then (slice_cmp nat_cmp v.bytes.items key.value.bytes.items) (slice_cmp nat_cmp v.code.items key.value.code.items)) same
+      swapped = ap (λ (v : PieceKey). key_cmp v key.value) same
 
       old_one : (o : Option ℕ) → (piece_cmp piece key ≡ Equal → ⊥) → MatchOption o (IsOut old key) (IsIn old key) → M o
       old_one None differ out = out_new key differ out

@@ -27,9 +27,9 @@ PieceRef = Rc PieceKey Global
 abbrev pub PatternRef : Type 0
 PatternRef = Rc PatternKey Global
 
--- by bytes, then by the code
+-- by how many bytes there are, then by these, then by the code
 abbrev pub piece_cmp : PieceRef → PieceRef → Ordering
-piece_cmp a b = ordering_then (slice_cmp nat_cmp a.value.bytes.items b.value.bytes.items) (slice_cmp nat_cmp a.value.code.items b.value.code.items)
+piece_cmp a b = ordering_then (nat_cmp a.value.size b.value.size) (ordering_then (slice_cmp nat_cmp a.value.bytes.items b.value.bytes.items) (slice_cmp nat_cmp a.value.code.items b.value.code.items))
 
 abbrev pub pattern_cmp : PatternRef → PatternRef → Ordering
 pattern_cmp a b = slice_cmp nat_cmp a.value.code.items b.value.code.items

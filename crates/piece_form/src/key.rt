@@ -13,9 +13,11 @@ use tree_code::{Look, add_tree};
 // How many bytes of a key a byte of a piece takes, about.
 const CODE_BYTES: usize = 4;
 
-/// A piece as a key: its bytes, and the rest of it written as bytes. Keys are in order of the piece's bytes first.
+/// A piece as a key: how many bytes it has, these, and the rest of it written as bytes. Keys are in that order, so most are told apart
+/// without a look at the bytes.
 #[derive(Debug, PartialEq, Eq, PartialOrd, Ord, Drop)]
 pub struct PieceKey {
+    pub size: usize,
     pub bytes: Vec<u8>,
     pub code: Vec<u8>,
 }
@@ -32,7 +34,11 @@ impl PieceKey {
         add_tree(&mut code, &piece.tree, Look::Whole)?;
         add_known(&mut code, piece.known.as_slice())?;
         code.shrink_to_fit();
-        Ok(PieceKey { bytes, code })
+        Ok(PieceKey {
+            size: piece.bytes.len(),
+            bytes,
+            code,
+        })
     }
 }
 
