@@ -4,6 +4,7 @@ use Rattle.meta_bind.specs.declared.bound.Bound.{Bound}
 use Rattle.node_tree.specs.declared.known.Known.{Known}
 use Rattle.node_tree.specs.Numbers.{Numbered, kids_at}
 use Rattle.node_pool.specs.Spots.{seen}
+use Rattle.std.proofs.lemmas.List.{drop_all}
 use Rattle.node_match.specs.Sets.{Adds}
 use Rattle.node_match.specs.Free.{Part, parts_of}
 use Rattle.node_match.specs.Fronts.{End}
@@ -15,9 +16,9 @@ use Rattle.tree_match.specs.declared.aim.Search.{Search}
 use Rattle.tree_match.specs.declared.outer.Outer.{Outer}
 use Rattle.tree_match.specs.declared.place.Inside.{Inside}
 use Rattle.tree_match.specs.Members.{Member}
-use Rattle.tree_match.specs.Aims.{Gives, Onward, GivesOn, GivesIn, MemberFrom, MemberAfter, FoundFrom, FoundAt}
+use Rattle.tree_match.specs.Aims.{Onward, GivesOn, GivesIn, MemberFrom, MemberAfter, FoundFrom, FoundAt}
 use Rattle.tree_match.specs.Insides.{Opens}
-use Rattle.tree_match.proofs.Spreads.{Reached, ReachedAt, OfSome, last_state, states_as, one_state, state_after, after_more, after_last, no_states, states_turned, all_taken, ends_on}
+use Rattle.tree_match.proofs.Spreads.{Reached, ReachedAt, OfSome, last_state, states_as, one_state, state_after, after_more, after_last, no_states, states_turned, ends_on}
 use Rattle.tree_match.proofs.InsideLaws.{inside_reached}
 
 nothing : (os : List Outer) → length os ≡ 0 → os ≡ []
@@ -58,30 +59,35 @@ module _ (s : Search) (from : ℕ) (m : Member) where
       → ReachedAt s.known.names.now (Onward s.known.names.now (GivesIn s m) (seen s.holder.spot) (drop inside.from (parts_of s.pattern.now)) inside.at) false (seen inside.kid) (parts_of inside.part.now) 0 state.trail ↔ FoundFrom s from (state ∷ []) m
   inside_found = inside_reached s.known.names.now (GivesIn s m) (seen s.holder.spot) (parts_of s.pattern.now) from
 
-  module _ (at : ℕ) (old new : List State) (same : (c : End) → AnyFrom s.known.names.now (line_of (seen s.holder.spot)) (drop at (parts_of s.pattern.now)) new c ↔ AnyFrom s.known.names.now (line_of (seen s.holder.spot)) (drop from (parts_of s.pattern.now)) old c) where
-    pub found_as : FoundFrom s at new m ↔ FoundFrom s from old m
-    found_as = states_as s.known.names.now (GivesIn s m) (seen s.holder.spot) (drop from (parts_of s.pattern.now)) (drop at (parts_of s.pattern.now)) old new same
+  -- states that lead to the same ends
+  pub found_as : (at : ℕ) (old new : List State) → ((c : End) → AnyFrom s.known.names.now (line_of (seen s.holder.spot)) (drop at (parts_of s.pattern.now)) new c ↔ AnyFrom s.known.names.now (line_of (seen s.holder.spot)) (drop from (parts_of s.pattern.now)) old c)
+      → FoundFrom s at new m ↔ FoundFrom s from old m
+  found_as at old new same = states_as s.known.names.now (GivesIn s m) (seen s.holder.spot) (drop from (parts_of s.pattern.now)) (drop at (parts_of s.pattern.now)) old new same
 
-    module _ (past : length (parts_of s.pattern.now) ≤ at) where
-      taken : (G : End → Type 0) → Reached s.known.names.now G (seen s.holder.spot) [] new ↔ Reached s.known.names.now G (seen s.holder.spot) (drop from (parts_of s.pattern.now)) old
-      taken G = all_taken s.known.names.now G (seen s.holder.spot) (drop from (parts_of s.pattern.now)) at (parts_of s.pattern.now) old new past same
+  -- all parts are taken
+  module _ (at : ℕ) (old new : List State) (same : FoundFrom s at new m ↔ FoundFrom s from old m) (past : length (parts_of s.pattern.now) ≤ at) where
+    no_part : drop at (parts_of s.pattern.now) ≡ []
+    no_part = drop_all at (parts_of s.pattern.now) past
 
-      -- all parts are taken, and there is no outer list
-      pub found_here : length s.outer.now ≡ 0 → MemberFrom s.known.names.now s.aim (seen s.holder.spot) [] new m ↔ FoundFrom s from old m
-      found_here none =
-          let C = s.known.names.now in
-          let h = seen s.holder.spot in
-          let P : List Outer → Type 0 = λ os. Reached C (λ e. Gives s.aim h e m) h [] new ↔ Reached C (λ e. GivesOn C s.aim h os m e) h (drop from (parts_of s.pattern.now)) old in
-          subst P (sym (nothing s.outer.now none)) (taken (λ e. Gives s.aim h e m))
+    taken : Reached s.known.names.now (GivesIn s m) (seen s.holder.spot) [] new ↔ FoundFrom s from old m
+    taken = let P : List Part → Type 0 = λ ps. Reached s.known.names.now (GivesIn s m) (seen s.holder.spot) ps new ↔ FoundFrom s from old m in subst P no_part same
 
-      -- the same, and the search goes on in the first of the outer lists
-      pub found_on : (o : Outer) (os : List Outer) (before trails : List (List Bound)) → s.outer.now ≡ o ∷ os → before ≡ [] → Adds before trails (λ b. AnyFrom s.known.names.now (line_of (seen s.holder.spot)) [] new ([], b))
-          → OfSome (λ b. ReachedAt s.known.names.now (λ f. GivesOn s.known.names.now s.aim (seen o.holder.spot) os m f) false (seen o.holder.spot) (drop o.from (parts_of o.pattern.now)) o.at b) trails ↔ FoundFrom s from old m
-      found_on o os before trails are none adds =
-          let C = s.known.names.now in
-          let h = seen s.holder.spot in
-          let outer = seen o.holder.spot in
-          let ps = drop o.from (parts_of o.pattern.now) in
-          let G : End → Type 0 = λ f. GivesOn C s.aim outer os m f in
-          let P : List Outer → Type 0 = λ xs. OfSome (λ b. ReachedAt C G false outer ps o.at b) trails ↔ Reached C (λ e. GivesOn C s.aim h xs m e) h (drop from (parts_of s.pattern.now)) old in
-          subst P (sym are) (chain _ _ _ (ends_on C G h outer ps o.at new before trails none adds) (taken (Onward C G outer ps o.at)))
+    -- and there is no outer list
+    pub found_here : length s.outer.now ≡ 0 → MemberFrom s.known.names.now s.aim (seen s.holder.spot) [] new m ↔ FoundFrom s from old m
+    found_here none =
+        let C = s.known.names.now in
+        let h = seen s.holder.spot in
+        let P : List Outer → Type 0 = λ os. Reached C (λ e. GivesOn C s.aim h os m e) h [] new ↔ FoundFrom s from old m in
+        subst P (nothing s.outer.now none) taken
+
+    -- and the search goes on in the first of the outer lists
+    pub found_on : (o : Outer) (os : List Outer) (before trails : List (List Bound)) → s.outer.now ≡ o ∷ os → before ≡ [] → Adds before trails (λ b. AnyFrom s.known.names.now (line_of (seen s.holder.spot)) [] new ([], b))
+        → OfSome (λ b. ReachedAt s.known.names.now (λ f. GivesOn s.known.names.now s.aim (seen o.holder.spot) os m f) false (seen o.holder.spot) (drop o.from (parts_of o.pattern.now)) o.at b) trails ↔ FoundFrom s from old m
+    found_on o os before trails are none adds =
+        let C = s.known.names.now in
+        let h = seen s.holder.spot in
+        let outer = seen o.holder.spot in
+        let ps = drop o.from (parts_of o.pattern.now) in
+        let G : End → Type 0 = λ f. GivesOn C s.aim outer os m f in
+        let P : List Outer → Type 0 = λ xs. Reached C (λ e. GivesOn C s.aim h xs m e) h [] new ↔ FoundFrom s from old m in
+        chain _ _ _ (ends_on C G h outer ps o.at new before trails none adds) (subst P are taken)

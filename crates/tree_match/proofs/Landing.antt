@@ -11,7 +11,7 @@ use Rattle.node_tree.specs.declared.known.Known.{Known}
 use Rattle.node_tree.specs.Numbers.{Numbered, kids_at}
 use Rattle.meta_bind.specs.declared.bound.Bound.{Bound}
 use Rattle.node_match.specs.Free.{Part}
-use Rattle.node_match.specs.Fronts.{End, Leads, head_front, dots_front}
+use Rattle.node_match.specs.Fronts.{End, Leads, MatchesFront, no_part_front, head_front, free_front, dots_front, named_dots_front}
 use Rattle.node_match.specs.declared.class.Role.TheVariants as roles
 use Rattle.node_match.specs.Orders.{is_list}
 use Rattle.node_match.specs.Kinds.{role_of, IsOne}
@@ -27,7 +27,7 @@ use Rattle.node_search.proofs.Going.{heads, goes_more, no_goes, after_dots}
 use Rattle.node_search.proofs.SteadyLaws.{steady_at}
 use Rattle.tree_match.specs.declared.next_places.NextPlaces.{NextPlaces}
 use Rattle.tree_match.specs.Same.{HasNone}
-use Rattle.tree_match.specs.Landing.{LeapsOver, IsNext, IsNextOf, AreNextOf, IsOut, AreOut, StandsFor}
+use Rattle.tree_match.specs.Landing.{LeapsOver, IsNext, IsNextOf, AreNextOf, IsOut, AreOut, StandsFor, IsPast}
 
 -- the first of some nodes in a list
 first_at : (ns : List Node) (k : ℕ) (n : Node) (rest : List Node) → n ∷ rest ≡ drop k ns → (k < length ns) × (n ≡ get_or ns k n)
@@ -121,6 +121,42 @@ module _ (C : List Known) (h : Numbered) (p : Node) (ps : List Part) (one : IsOn
   -- past the last kid it matches none
   pub lands_nowhere : (i : ℕ) → length (kids_of h.node) ≤ i → Goes C true h (Some p ∷ ps) (drop i (kids_at h)) b c → ⊥
   lands_nowhere i past x = no_goes C h p ps (kids_at h) i b c one (omega (arith, past, kids_many h)) x
+
+module _ (C : List Known) (h : Numbered) where
+  -- the parts from a later one on match what is left after some kids
+  later : (at : ℕ) (ps : List Part) (ms rest : List Numbered) (b c : List Bound) → MatchesFront C h ps ms rest b c → (k : ℕ) × (d : List Bound) × MatchesFront C h (drop at ps) (drop k ms) rest d c
+  later zero ps ms rest b c x = (0, b, x)
+  later (suc at) _ ms _ b _ no_part_front = (0, b, no_part_front)
+  later (suc at) (Some p ∷ ps) (n ∷ ms) rest b c (head_front {c = d} m x) = let (k, e, y) = later at ps ms rest d c x in (suc k, e, y)
+  later (suc at) (None ∷ ps) (n ∷ ms) rest b c (free_front x) = let (k, e, y) = later at ps ms rest b c x in (suc k, e, y)
+  later (suc at) (Some p ∷ ps) ms rest b c (dots_front k r x) =
+      let (j, e, y) = later at ps (drop k ms) rest b c x in
+      let P : List Numbered → Type 0 = λ ns. MatchesFront C h (drop at ps) ns rest e c in
+      (k + j, e, subst P (drop-drop j k ms) y)
+  later (suc at) (Some p ∷ ps) ms rest b c (named_dots_front {c = d} k r m x) =
+      let (j, e, y) = later at ps (drop k ms) rest d c x in
+      let P : List Numbered → Type 0 = λ ns. MatchesFront C h (drop at ps) ns rest e c in
+      (k + j, e, subst P (drop-drop j k ms) y)
+
+  -- where a part matches no kid from that place on, the parts match none
+  pub never : (ps : List Part) (from : ℕ) (rest : List Numbered) (b c : List Bound) → IsPast h ps from → MatchesFront C h ps (drop from (kids_at h)) rest b c → ⊥
+  never ps from rest b c past x =
+      let (k, d, y) = later past.at ps (drop from (kids_at h)) rest b c x in
+      let P : List Part → Type 0 = λ qs. MatchesFront C h qs (drop k (drop from (kids_at h))) rest d c in
+      let Q : List Numbered → Type 0 = λ ns. MatchesFront C h (Some past.part ∷ drop (past.at + 1) ps) ns rest d c in
+      ruled_out C h past.part (drop (past.at + 1) ps) past.one d (rest, c) (from + k) (λ n lt is. past.out d (from + k) n (omega arith) lt lt is) (subst Q (drop-drop k from (kids_at h)) (subst P past.next y))
+
+-- the item at a place
+pub item_at : {X : Type 0} (xs : List X) (i : ℕ) (x : X) → i < length xs → x ≡ get_or xs i x → slice_get xs i ≡ Some x
+item_at [] i x lt is = absurd (omega (arith, lt))
+item_at (y ∷ ys) zero x lt is = ap Some (sym is)
+item_at (y ∷ ys) (suc i) x lt is = item_at ys i x (omega (arith, lt)) is
+
+-- a look rules out a part from a place on
+pub past_part : (h : Numbered) (ps : List Part) (at from end : ℕ) (places : NextPlaces) → IsNextOf h ps at places → end ≡ length (kids_at h)
+    → ((kind : Kind) (p : Node) (ns : List Node) → IsNext kind p ns places → length ns ≤ end → (b : List Bound) → AreOut kind p b ns from (length ns)) → IsPast h ps from
+past_part h ps at from end places (p, cut, one, next) many out =
+    record { at = at; part = p; next = cut; one = one; out = out (kind_of h.node) p (kids_of h.node) next (omega (arith, many, kids_many h)) }
 
 -- where the part matches a kid and binds nothing new, and `...` follows, no later kid is needed
 module _ (C : List Known) (h : Numbered) (p q : Node) (ps : List Part) (one : IsOne (role_of (kind_of p))) (dots : role_of (kind_of q) ≡ roles.Dots) (b : List Bound) (c : End) where

@@ -1,5 +1,5 @@
 -- Where a part of a pattern may match next.
-use Rattle.std.specs.Prelude.{◌≡◌, ◌≢◌, ◌<◌, ◌≤◌, ◌+◌, ℕ, List, [], ◌∷◌, length, drop, slice_get, slice_index_or, Option, Some}
+use Rattle.std.specs.Prelude.{◌≡◌, ◌≢◌, ◌<◌, ◌≤◌, ◌+◌, ℕ, List, [], ◌∷◌, length, drop, slice_get, slice_index_or, Option, None, Some}
 use Rattle.node_tree.specs.declared.kind.Kind.{Kind}
 use Rattle.node_tree.specs.declared.node.Node.{Node}
 use Rattle.node_tree.specs.Tree.{kids_of, kind_of, text_of}
@@ -60,3 +60,11 @@ pub record DotsFollow (ps : List Part) (at : ℕ) : Type 0 where
   pub dots : Node
   pub role : role_of (kind_of dots) ≡ Dots
   pub next : drop (at + 1) ps ≡ Some dots ∷ drop (at + 2) ps
+
+-- a part takes one kid, and a look rules out each of the kids from one on
+pub record IsPast (h : Numbered) (ps : List Part) (from : ℕ) : Type 0 where
+  pub at : ℕ
+  pub part : Node
+  pub next : drop at ps ≡ Some part ∷ drop (at + 1) ps
+  pub one : IsOne (role_of (kind_of part))
+  pub out : (b : List Bound) → AreOut (kind_of h.node) part b (kids_of h.node) from (length (kids_of h.node))
