@@ -76,9 +76,6 @@ pub fn add_leaf(out: &mut Bytes, leaf: &Leaf) -> Result<(), FormFault>
     match leaf {
         Leaf::Crowded => add_number(out, u32::MAX),
         Leaf::Full(set) => {
-            if set.len() > MOST_MEMBERS {
-                return Err(FormFault::NoForm);
-            }
             add_length(out, set.len())?;
             add_members(out, set.members())
         }
