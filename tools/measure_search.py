@@ -53,6 +53,7 @@ GROWING = [
     ('statements without the second', 'python', 'a()\n...\nb()', chain('', lambda k: 'a()\n', ''), 120_000),
     ('statements, reading alone', 'python', 'zzz', chain('', lambda k: 'a()\n', ''), 120_000),
     ('statements with a name twice', 'python', '$X = 1\n...\n$X = 2', chain('', lambda k: 'a%d = 1\n' % k, ''), 5_000),
+    ('statements with a name twice, calls', 'python', 'a($X)\n...\nb($X)', chain('', lambda k: 'a(%d)\nb(-%d)\n' % (k, k), ''), 20_000),
     ('arguments in C', 'c', TWICE % ('f(..., ', ')'), commas('int g(void) { f(', lambda k: 'a', '); }'), 100_000),
     ('initialisers in C', 'c', 'int x[] = {..., $X, ..., $X, ...};', commas('int x[] = {', lambda k: '0', '};'), 100_000),
 ]

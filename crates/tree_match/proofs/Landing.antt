@@ -15,8 +15,7 @@ use Rattle.node_match.specs.Fronts.{End, Leads, MatchesFront, no_part_front, hea
 use Rattle.node_match.specs.declared.class.Role.TheVariants as roles
 use Rattle.node_match.specs.Orders.{is_list}
 use Rattle.node_match.specs.Kinds.{role_of, IsOne}
-use Rattle.node_match.specs.Relation.{nodes_of, Matches, same_node, known_literal, known_string, wildcard, metavariable, some_string, deep, Binds, fresh, again, MatchesKid, by_itself, as_arguments}
-use Rattle.node_match.proofs.Arguments.{arguments_listed}
+use Rattle.node_match.specs.Relation.{nodes_of, Matches, same_node, known_literal, known_string, wildcard, metavariable, some_string, deep, wild, Binds, fresh, again, MatchesKid}
 use Rattle.node_match.proofs.Numbering.{kids_many, rest_nodes, kid_is, as_many, one_further}
 use Rattle.node_pool.specs.declared.spot.Spot.{Spot}
 use Rattle.node_pool.specs.Spots.{seen}
@@ -26,11 +25,14 @@ use Rattle.node_search.specs.Steady.{IsSteady, IsMatched}
 use Rattle.node_search.proofs.Going.{heads, goes_more, no_goes, after_dots}
 use Rattle.node_search.proofs.SteadyLaws.{steady_at}
 use Rattle.tree_match.specs.declared.next_places.NextPlaces.{NextPlaces}
-use Rattle.tree_match.specs.Same.{HasNone}
-use Rattle.tree_match.specs.Landing.{LeapsOver, IsNext, IsNextOf, AreNextOf, IsOut, AreOut, StandsFor, IsPast}
+use Rattle.tree_match.specs.declared.same_kids.SameKids.{SameKids}
+use Rattle.tree_match.specs.Checksums.{checksum}
+use Rattle.tree_match.specs.Same.{StandsFor, IsIndex}
+use Rattle.tree_match.proofs.Alike.{same_checksum}
+use Rattle.tree_match.specs.Landing.{LeapsOver, IsNext, IsNextOf, AreNextOf, IsOut, AreOut, IsPast}
 
 -- the first of some nodes in a list
-first_at : (ns : List Node) (k : ℕ) (n : Node) (rest : List Node) → n ∷ rest ≡ drop k ns → (k < length ns) × (n ≡ get_or ns k n)
+pub first_at : (ns : List Node) (k : ℕ) (n : Node) (rest : List Node) → n ∷ rest ≡ drop k ns → (k < length ns) × (n ≡ get_or ns k n)
 first_at ns k n rest e =
     let lt : k < length ns = omega (arith, ap length e, length-drop k ns) in
     let cut = e ∙ drop-cons ns k n lt in
@@ -42,11 +44,11 @@ pub leaps_out : (kind : Kind) (p : Node) (ns : List Node) (next : List ℕ) (b :
 leaps_out kind p ns next b i j leaps lt is k n from below within here C h s held same c = leaps.over i j k n (omega (arith, lt, leaps.size)) is from below within here C h s held same b c
 
 -- a name that stands for a node matches that content alone
-held_alone : (C : List Known) (p : Node) (n : Numbered) (b c : List Bound) (content : Node) → StandsFor p b content → Matches C p n b c → content_of n.node ≡ content
-held_alone C p n b c content stands (same_node r _ _ _) = absurd (let e = sym stands.role ∙ r in cc)
-held_alone C p n b _ content stands (known_literal _ r _ _ _) = absurd (let e = sym stands.role ∙ r in cc)
-held_alone C p n b _ content stands (wildcard _ w _) = absurd (stands.named w)
-held_alone C p n b c content stands (metavariable _ _ _ x) = by x
+pub held_alone : (C : List Known) (p : Node) (n : Numbered) (b c : List Bound) (content : Node) → role_of (kind_of p) ≡ roles.Meta → (text_of p ≡ wild → ⊥) → StandsFor (text_of p) b content → Matches C p n b c → content_of n.node ≡ content
+held_alone C p n b c content role named stands (same_node r _ _ _) = absurd (let e = sym role ∙ r in cc)
+held_alone C p n b _ content role named stands (known_literal _ r _ _ _) = absurd (let e = sym role ∙ r in cc)
+held_alone C p n b _ content role named stands (wildcard _ w _) = absurd (named w)
+held_alone C p n b c content role named stands (metavariable _ _ _ x) = by x
   where
     by : {d : List Bound} → Binds n.node (text_of p) (n.node ∷ []) b d → content_of n.node ≡ content
     by (fresh none) = absurd (let e : None ≡ Some stands.old = sym none ∙ stands.bound in let f = e in cc)
@@ -55,19 +57,20 @@ held_alone C p n b c content stands (metavariable _ _ _ x) = by x
         let f : old ≡ stands.old = let g = e in cc in
         let g : content_of n.node ∷ [] ≡ content ∷ [] = sym nodes ∙ ap (λ (o : Bound). o.nodes) f ∙ stands.one in
         let h = g in cc
-held_alone C p n b _ content stands (some_string r _) = absurd (let e = sym stands.role ∙ r in cc)
-held_alone C p n b _ content stands (known_string _ r _ _) = absurd (let e = sym stands.role ∙ r in cc)
-held_alone C p n b c content stands (deep _ _ r _ _ _ _) = absurd (let e = sym stands.role ∙ r in cc)
+held_alone C p n b _ content role named stands (some_string r _) = absurd (let e = sym role ∙ r in cc)
+held_alone C p n b _ content role named stands (known_string _ r _ _) = absurd (let e = sym role ∙ r in cc)
+held_alone C p n b c content role named stands (deep _ _ r _ _ _ _) = absurd (let e = sym role ∙ r in cc)
 
-no_list : (k : Kind) → is_list k ≡ true → role_of k ≡ roles.Meta → ⊥
+pub no_list : (k : Kind) → is_list k ≡ true → role_of k ≡ roles.Meta → ⊥
 no_list kinds.List e role = absurd (let f = role in cc)
 no_list _ e role = absurd (let f : false ≡ true = e in cc)
 
--- so kids of other contents are ruled out
-pub named_out : (kind : Kind) (p : Node) (b : List Bound) (content : Node) (ns : List Node) (i j : ℕ) → StandsFor p b content → HasNone ns content i j → AreOut kind p b ns i j
-named_out kind p b content ns i j stands none k n from below within is C h s held same c (by_itself _ x) =
-    none k n from below within is (ap content_of (sym same) ∙ held_alone C p s b c content stands x)
-named_out kind p b content ns i j stands none k n from below within is C h s held same c (as_arguments are x) = no_list (kind_of p) (arguments_listed (kind_of h.node) p are) stands.role
+-- kids in which something else stands where the name stands are ruled out
+pub named_out : (kind : Kind) (p : Node) (ns : List Node) (b : List Bound) (m : Node) (same : SameKids) (i j : ℕ) → IsIndex kind p ns same → StandsFor same.name b (content_of m)
+    → ((k : ℕ) → i ≤ k → k < j → k < length same.checksums.items → checksum m ≡ get_or same.checksums.items k 0 → ⊥) → AreOut kind p b ns i j
+named_out kind p ns b m same i j index stands none k n from below within is C h s held node c x =
+    let (key, holds, sum) = index.sums.each k n within is in
+    none k from below (omega (arith, within, index.sums.many)) (sym (same_checksum key m (holds C h s held node b c (content_of m) stands x)) ∙ sym sum)
 
 pub none_out : (kind : Kind) (p : Node) (b : List Bound) (ns : List Node) (i : ℕ) → AreOut kind p b ns i i
 none_out kind p b ns i k n from below = absurd (omega (arith, from, below))

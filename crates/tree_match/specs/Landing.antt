@@ -1,17 +1,16 @@
 -- Where a part of a pattern may match next.
-use Rattle.std.specs.Prelude.{◌≡◌, ◌≢◌, ◌<◌, ◌≤◌, ◌+◌, ℕ, List, [], ◌∷◌, length, drop, slice_get, slice_index_or, Option, None, Some}
+use Rattle.std.specs.Prelude.{◌≡◌, ◌<◌, ◌≤◌, ◌+◌, ℕ, List, [], ◌∷◌, length, drop, slice_get, slice_index_or, Option, None, Some}
 use Rattle.node_tree.specs.declared.kind.Kind.{Kind}
 use Rattle.node_tree.specs.declared.node.Node.{Node}
-use Rattle.node_tree.specs.Tree.{kids_of, kind_of, text_of}
+use Rattle.node_tree.specs.Tree.{kids_of, kind_of}
 use Rattle.node_tree.specs.declared.known.Known.{Known}
 use Rattle.meta_bind.specs.declared.bound.Bound.{Bound}
-use Rattle.meta_bind.specs.Bounds.{bound_at}
 use Rattle.node_tree.specs.Numbers.{Numbered}
 use Rattle.node_match.specs.Free.{Part}
 use Rattle.node_match.specs.Kinds.{role_of, IsOne}
 use Rattle.node_match.specs.Refused.{IsKidRefused}
-use Rattle.node_match.specs.declared.class.Role.TheVariants.{Meta, Dots}
-use Rattle.node_match.specs.Relation.{MatchesKid, wild}
+use Rattle.node_match.specs.declared.class.Role.TheVariants.{Dots}
+use Rattle.node_match.specs.Relation.{MatchesKid}
 use Rattle.tree_match.specs.declared.next_places.NextPlaces.{NextPlaces}
 use Rattle.tree_match.specs.declared.next_places.NextPlaces.TheVariants.{Looked, Named}
 use Rattle.tree_match.specs.Same.{IsIndex}
@@ -29,7 +28,7 @@ pub record LeapsOver (kind : Kind) (p : Node) (ns : List Node) (next : List ℕ)
 -- these are next places of the pattern among the kids of a node of that kind
 abbrev pub IsNext : Kind → Node → List Node → NextPlaces → Type 0
 IsNext kind p ns (Looked next) = LeapsOver kind p ns next.items
-IsNext kind p ns (Named same) = IsIndex ns same
+IsNext kind p ns (Named same) = IsIndex kind p ns same
 
 -- the part at that place takes one kid, and these are its next places among the kids of the node
 abbrev pub IsNextOf : Numbered → List Part → ℕ → NextPlaces → Type 0
@@ -46,14 +45,6 @@ IsOut kind p b n = (C : List Known) (h s : Numbered) → kind_of h.node ≡ kind
 -- the same of each node from one place up to another
 abbrev pub AreOut : Kind → Node → List Bound → List Node → ℕ → ℕ → Type 0
 AreOut kind p b ns from to = (k : ℕ) (n : Node) → from ≤ k → k < to → k < length ns → n ≡ slice_index_or ns k n → IsOut kind p b n
-
--- the pattern is a name that stands for one node, of that content
-pub record StandsFor (p : Node) (b : List Bound) (content : Node) : Type 0 where
-  pub role : role_of (kind_of p) ≡ Meta
-  pub named : text_of p ≢ wild
-  pub old : Bound
-  pub bound : bound_at (text_of p) b ≡ Some old
-  pub one : old.nodes ≡ content ∷ []
 
 -- `...` follows the part at that place
 pub record DotsFollow (ps : List Part) (at : ℕ) : Type 0 where

@@ -1,14 +1,44 @@
--- Kids with the same contents.
-use Rattle.std.specs.Prelude.{◌≡◌, ◌<◌, ◌≤◌, ℕ, List, length, slice_index_or}
+-- Kids in which a name stands for the same.
+use Rattle.std.specs.Prelude.{◌≡◌, ◌<◌, ◌≤◌, ℕ, zero, suc, List, [], ◌∷◌, length, slice_index, slice_index_or, Option, None, Some}
 use Rattle.node_tree.specs.declared.node.Node.{Node}
-use Rattle.node_tree.specs.Tree.{content_of}
+use Rattle.node_tree.specs.declared.kind.Kind.{Kind}
+use Rattle.node_tree.specs.declared.known.Known.{Known}
+use Rattle.node_tree.specs.Tree.{kind_of, content_of}
+use Rattle.node_tree.specs.Numbers.{Numbered}
+use Rattle.meta_bind.specs.declared.bound.Bound.{Bound}
+use Rattle.meta_bind.specs.Bounds.{bound_at}
+use Rattle.node_match.specs.Free.{Part}
+use Rattle.node_match.specs.Kinds.{role_of, IsOne}
+use Rattle.node_match.specs.Relation.{MatchesKid}
+use Rattle.node_search.specs.Steady.{IsSteady}
 use Rattle.tree_match.specs.Checksums.{checksum}
 use Rattle.tree_match.specs.declared.same_kids.SameKids.{SameKids}
 
--- these are the checksums of the nodes
-pub record AreChecksums (ns : List Node) (sums : List ℕ) : Type 0 where
+-- the name stands for one node, of that content
+pub record StandsFor (name : List ℕ) (b : List Bound) (content : Node) : Type 0 where
+  pub old : Bound
+  pub bound : bound_at name b ≡ Some old
+  pub one : old.nodes ≡ content ∷ []
+
+-- where the pattern matches a kid of a holder of that kind, this node of the kid has the content for which the name stands
+abbrev pub IsKey : Kind → Node → List ℕ → Node → Node → Type 0
+IsKey holder p name n key = (C : List Known) (h s : Numbered) → kind_of h.node ≡ holder → s.node ≡ n → (b c : List Bound) (content : Node) → StandsFor name b content → MatchesKid C h p s b c → content_of key ≡ content
+
+-- the part takes one kid, and has no name
+abbrev pub Passes : Part → Type 0
+Passes None = Unit {0}
+Passes (Some q) = IsOne (role_of (kind_of q)) × IsSteady [] q
+
+-- so does each of the first parts, so many
+abbrev pub PassBefore : ℕ → List Part → Type 0
+PassBefore zero ps = Unit {0}
+PassBefore (suc k) [] = Unit {0}
+PassBefore (suc k) (p ∷ ps) = Passes p × PassBefore k ps
+
+-- these are the checksums of such nodes, one of each kid
+pub record AreKeySums (holder : Kind) (p : Node) (name : List ℕ) (ns : List Node) (sums : List ℕ) : Type 0 where
   pub many : length sums ≡ length ns
-  pub each : (i : ℕ) (n : Node) → i < length ns → n ≡ slice_index_or ns i n → checksum n ≡ slice_index_or sums i (checksum n)
+  pub each : (i : ℕ) (n : Node) → i < length ns → n ≡ slice_index_or ns i n → (key : Node) × IsKey holder p name n key × (slice_index sums i ≡ checksum key)
 
 -- for each number a later place, where no number between the two is the same
 pub record IsNextAlike (sums next : List ℕ) : Type 0 where
@@ -16,11 +46,7 @@ pub record IsNextAlike (sums next : List ℕ) : Type 0 where
   pub on : (i j : ℕ) → i < length sums → j ≡ slice_index_or next i j → i < j
   pub over : (i j k : ℕ) → i < length sums → j ≡ slice_index_or next i j → i < k → k < j → k < length sums → slice_index_or sums i 0 ≡ slice_index_or sums k 0 → ⊥
 
--- the checksums of the nodes, and for each the next place with the same
-pub record IsIndex (ns : List Node) (same : SameKids) : Type 0 where
-  pub sums : AreChecksums ns same.checksums.items
+-- those checksums, and for each the next place with the same
+pub record IsIndex (holder : Kind) (p : Node) (ns : List Node) (same : SameKids) : Type 0 where
+  pub sums : AreKeySums holder p same.name ns same.checksums.items
   pub next : IsNextAlike same.checksums.items same.next.items
-
--- no node from one place up to another has that content
-abbrev pub HasNone : List Node → Node → ℕ → ℕ → Type 0
-HasNone ns content from to = (k : ℕ) (n : Node) → from ≤ k → k < to → k < length ns → n ≡ slice_index_or ns k n → content_of n ≡ content → ⊥

@@ -34,9 +34,8 @@ fn has_ways(pattern: &Node) -> bool {
     false
 }
 
-// Whether the pattern matches this kid, of a holder of that kind, just where its kids match those of the kid in order, in one of
-// several ways.
-fn is_in_order(holder: Kind, pattern: &Node, node: &Node) -> bool
+/// Whether the pattern matches this kid, of a holder of that kind, just where its kids match those of the kid in order.
+pub fn is_in_order(holder: Kind, pattern: &Node, node: &Node) -> bool
     ensures { IsTrue result → IsInOrder holder pattern.now node.now }
 {
     let Role::Plain = role_of(pattern.kind) else {
@@ -49,9 +48,6 @@ fn is_in_order(holder: Kind, pattern: &Node, node: &Node) -> bool
         return false;
     };
     if !is_alike(pattern, node) {
-        return false;
-    }
-    if !has_ways(pattern) {
         return false;
     }
     if !is_arguments(holder, pattern) {
@@ -85,6 +81,9 @@ pub fn inside_of<'p, 't>(
     let Some(part) = part_at(search.pattern, from) else {
         return None;
     };
+    if !has_ways(part) {
+        return None;
+    }
     let kid = nodes[state.at];
     if !is_in_order(search.holder.spot.node.kind, part, kid.node) {
         return None;

@@ -1,15 +1,17 @@
 //! Where a part of a pattern may match next among the kids of a node.
 //!
-//! After `...` a part may match at any later kid. Most kids are ruled out by a look, which doesn't depend on what is bound, or, where the
-//! part is a name that stands for something, by their checksums. So they are passed over at once, however many there are, from each
-//! place at which a search begins.
+//! After `...` a part may match at any later kid. Most kids are ruled out by a look, which doesn't depend on what is bound, or, where a
+//! name of the part stands for something, by the checksum of what stands in its place. So they are passed over at once, however many
+//! there are, from each place at which a search begins.
 
 ghost use Rattle.std.specs.Prelude.{◌≡◌, ◌<◌, length, IfOk, MatchOption};
 ghost use Rattle.node_tree.specs.Tree.{kids_of, kind_of};
 ghost use Rattle.node_pool.specs.Spots.{seen};
 ghost use Rattle.node_match.specs.Free.{parts_of};
+ghost use Rattle.tree_match.specs.Same.{IsIndex};
 ghost use Rattle.tree_match.specs.Landing.{LeapsOver, IsNext, IsNextOf, AreNextOf};
 
+use crate::key::names;
 use crate::same_kids::SameKids;
 use node_match::{LOOK, Role, is_kid_refused, is_one, is_wild, part_at, role_of};
 use node_pool::Spot;
@@ -27,7 +29,7 @@ const MANY_KIDS: usize = 32;
 pub enum NextPlaces {
     /// For each kid the first from it on that a look doesn't rule out, or how many kids there are.
     Looked(Vec<usize>),
-    /// The kids with the same contents, for a name that stands for something already.
+    /// The kids in which a name stands for the same, for a part with a name that stands for something already.
     Named(SameKids),
 }
 
@@ -68,30 +70,47 @@ fn follows_dots(pattern: &Node, at: usize) -> bool
     }
 }
 
-// Whether the name stands in the pattern.
-fn names(pattern: &Node, name: &str) -> bool {
-    if role_of(pattern.kind) == Role::Meta && pattern.text.as_str() == name {
-        return true;
-    }
-    for kid in pattern.kids.as_slice() {
-        if names(kid, name) {
+// Whether the name stands in a part before this place.
+fn stands_before(pattern: &Node, at: usize, name: &str) -> bool {
+    for (i, kid) in pattern.kids.as_slice().iter().enumerate() {
+        if i < at && names(kid, name) {
             return true;
         }
     }
     false
 }
 
-// Whether the part at this place is a name that stands in a part before it too.
-fn is_named_before(pattern: &Node, at: usize, part: &Node) -> bool {
-    if role_of(part.kind) != Role::Meta || is_wild(&part.text) {
-        return false;
-    }
-    for (i, kid) in pattern.kids.as_slice().iter().enumerate() {
-        if i < at && names(kid, part.text.as_str()) {
-            return true;
+// The first name of this part of the pattern that stands in a part before this place too.
+fn name_before<'q>(pattern: &Node, at: usize, part: &'q Node) -> Option<&'q str> {
+    if role_of(part.kind) == Role::Meta && !is_wild(&part.text) {
+        let name = part.text.as_str();
+        if stands_before(pattern, at, name) {
+            return Some(name);
         }
     }
-    false
+    for kid in part.kids.as_slice() {
+        let found = name_before(pattern, at, kid);
+        if found.is_some() {
+            return found;
+        }
+    }
+    None
+}
+
+// The kids in which a name of the part stands for the same, if some name stands in a part before this place too.
+fn same_kids(
+    alloc: Global,
+    pattern: &Node,
+    at: usize,
+    part: &Node,
+    holder: &Node,
+) -> Result<Option<SameKids>, Memory>
+    ensures { IfOk result (λ found. MatchOption found (Unit {0}) (IsIndex (kind_of holder.now) part.now (kids_of holder.now))) }
+{
+    let Some(name) = name_before(pattern, at, part) else {
+        return Ok(None);
+    };
+    SameKids::of(alloc, holder.kind, part, name, holder.kids.as_slice())
 }
 
 // The next places of the part, which stands at this place of the pattern.
@@ -104,10 +123,10 @@ fn places_of(
 ) -> Result<NextPlaces, Memory>
     ensures { IfOk result (IsNext (kind_of holder.now) part.now (kids_of holder.now)) }
 {
-    let kids = holder.kids.as_slice();
-    if is_named_before(pattern, at, part) {
-        return Ok(NextPlaces::Named(SameKids::of(alloc, kids)?));
+    if let Some(same) = same_kids(alloc, pattern, at, part, holder)? {
+        return Ok(NextPlaces::Named(same));
     }
+    let kids = holder.kids.as_slice();
     Ok(NextPlaces::Looked(next_places(alloc, holder.kind, part, kids)?))
 }
 

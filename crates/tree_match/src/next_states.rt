@@ -12,7 +12,8 @@ ghost use Rattle.node_match.specs.declared.class.Role.TheVariants.{Dots};
 ghost use Rattle.node_match.specs.Fronts.{End};
 ghost use Rattle.node_search.specs.States.{line_of, AnyFrom, From};
 ghost use Rattle.node_search.specs.Steady.{IsSteady};
-ghost use Rattle.tree_match.specs.Landing.{IsNext, AreNextOf, AreOut, StandsFor, DotsFollow};
+ghost use Rattle.tree_match.specs.Landing.{IsNext, AreNextOf, AreOut, DotsFollow};
+ghost use Rattle.tree_match.specs.Same.{StandsFor};
 
 use crate::aim::Search;
 use crate::next_places::NextPlaces;
@@ -23,17 +24,11 @@ use node_search::{Holder, State, is_matched, is_steady, put};
 use node_tree::{List, Memory, Node};
 use std::alloc::Global;
 
-// The node for which the part stands with this binding, if it is a name that stands for one.
-fn held_by<'t>(part: &Node, trail: &Trail<'t>) -> Option<&'t Node>
-    ensures { MatchOption result (Unit {0}) (λ node. StandsFor part.now trail.now (content_of node.now)) }
+// The node for which the name stands with this binding, if it stands for one.
+fn held_by<'t>(name: &str, trail: &Trail<'t>) -> Option<&'t Node>
+    ensures { MatchOption result (Unit {0}) (λ node. StandsFor name.now trail.now (content_of node.now)) }
 {
-    let Role::Meta = role_of(part.kind) else {
-        return None;
-    };
-    if is_wild(&part.text) {
-        return None;
-    }
-    let Some(held) = trail.get(part.text.as_str()) else {
+    let Some(held) = trail.get(name) else {
         return None;
     };
     match held.run {
@@ -59,8 +54,8 @@ fn next_place(
             Some(there) => *there,
             None => from,
         },
-        NextPlaces::Named(same) => match held_by(part, trail) {
-            Some(node) => same.next_place(holder.kids.as_slice(), node, from),
+        NextPlaces::Named(same) => match held_by(same.name.as_str(), trail) {
+            Some(node) => same.next_place(node, from),
             None => from,
         },
     }

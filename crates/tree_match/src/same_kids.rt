@@ -1,18 +1,19 @@
-//! Kids with the same contents, found from one to the next.
+//! Kids in which a name stands for the same, found from one to the next.
 
-ghost use Rattle.std.specs.Prelude.{◌≡◌, ◌<◌, ◌≤◌, ℕ, length, slice_index_or, IfOk};
-ghost use Rattle.node_tree.specs.declared.node.Node.{Node as a_node};
-ghost use Rattle.node_tree.specs.Tree.{content_of};
+ghost use Rattle.std.specs.Prelude.{◌≡◌, ◌<◌, ◌≤◌, ℕ, length, slice_index_or, slice_index, IfOk, MatchOption};
 ghost use Rattle.tree_match.specs.Checksums.{checksum};
-ghost use Rattle.tree_match.specs.Same.{AreChecksums, IsNextAlike, IsIndex, HasNone};
+ghost use Rattle.tree_match.specs.Same.{AreKeySums, IsNextAlike, IsIndex};
 
 use crate::checksum::add_checksum;
-use node_tree::{Memory, Node};
+use crate::key::key_of;
+use node_tree::{Kind, Memory, Node, Text};
 use std::alloc::Global;
 
-/// The checksum of each kid, and the place of the next kid with the same, or how many kids there are.
+/// For each kid the checksum of a node that has the content for which the name stands if a pattern matches the kid, and the place of
+/// the next kid with the same checksum, or how many kids there are.
 #[derive(Drop)]
 pub struct SameKids {
+    pub name: Text,
     pub checksums: Vec<u32>,
     pub next: Vec<usize>,
 }
@@ -24,15 +25,24 @@ fn checksum_of(node: &Node) -> u32
     add_checksum(0, node)
 }
 
-// The checksums of the kids.
-fn checksums_of(alloc: Global, kids: &[Node]) -> Result<Vec<u32>, Memory>
-    ensures { IfOk result (λ sums. AreChecksums kids.now sums.items) }
+// The checksums of such nodes, one of each kid of a node of that kind, if there is one in each.
+fn key_sums(
+    alloc: Global,
+    kind: Kind,
+    pattern: &Node,
+    name: &str,
+    kids: &[Node],
+) -> Result<Option<Vec<u32>>, Memory>
+    ensures { IfOk result (λ found. MatchOption found (Unit {0}) (λ sums. AreKeySums kind pattern.now name.now kids.now sums.items)) }
 {
     let mut sums = Vec::with_capacity(alloc, kids.len())?;
     for kid in kids {
-        sums.push(checksum_of(kid))?;
+        let Some(key) = key_of(alloc, kind, pattern, name, kid)? else {
+            return Ok(None);
+        };
+        sums.push(checksum_of(key))?;
     }
-    Ok(sums)
+    Ok(Some(sums))
 }
 
 // For each number the place of the next that is alike up to multiples of how many there are, or how many there are.
@@ -53,20 +63,32 @@ fn next_alike(alloc: Global, sums: &[u32]) -> Result<Vec<usize>, Memory>
 }
 
 impl SameKids {
-    /// The index of these kids.
-    pub fn of(alloc: Global, kids: &[Node]) -> Result<SameKids, Memory>
-        ensures { IfOk result (IsIndex kids.now) }
+    /// The index of these kids of a node of that kind, if the place of the name is known in each.
+    pub fn of(
+        alloc: Global,
+        kind: Kind,
+        pattern: &Node,
+        name: &str,
+        kids: &[Node],
+    ) -> Result<Option<SameKids>, Memory>
+        ensures { IfOk result (λ found. MatchOption found (Unit {0}) (IsIndex kind pattern.now kids.now)) }
     {
-        let checksums = checksums_of(alloc, kids)?;
+        let Some(checksums) = key_sums(alloc, kind, pattern, name, kids)? else {
+            return Ok(None);
+        };
         let next = next_alike(alloc, checksums.as_slice())?;
-        Ok(SameKids { checksums, next })
+        Ok(Some(SameKids {
+            name: Text::from_str(alloc, name)?,
+            checksums,
+            next,
+        }))
     }
 
     // A place from this one on, before which no kid from it on has the checksum.
     fn start(&self, sum: u32, from: usize) -> usize
         requires { IsNextAlike self.now.checksums.items self.now.next.items }
         ensures on { from ≤ result }
-        ensures none { (k : ℕ) → from ≤ k → k < result → k < length self.now.checksums.items → (sum ≡ slice_index_or self.now.checksums.items k sum) → ⊥ }
+        ensures none { (k : ℕ) → from ≤ k → k < result → k < length self.now.checksums.items → (sum ≡ slice_index self.now.checksums.items k) → ⊥ }
     {
         if from == 0 {
             return from;
@@ -81,22 +103,19 @@ impl SameKids {
         self.next[before]
     }
 
-    /// The first kid from a place on with the contents of the node, or a place past all kids.
-    pub fn next_place(&self, kids: &[Node], node: &Node, from: usize) -> usize
-        requires { IsIndex kids.now self.now }
+    /// The first kid from a place on with the checksum of the node, or a place past all kids.
+    pub fn next_place(&self, node: &Node, from: usize) -> usize
+        requires { IsNextAlike self.now.checksums.items self.now.next.items }
         ensures on { from ≤ result }
-        ensures none { HasNone kids.now (content_of node.now) from result }
+        ensures none { (k : ℕ) → from ≤ k → k < result → k < length self.now.checksums.items → (checksum node.now ≡ slice_index self.now.checksums.items k) → ⊥ }
     {
         let sum = checksum_of(node);
         let mut at = self.start(sum, from);
-        while at < kids.len() {
-            if self.checksums[at] != sum {
-                at += 1;
-            } else if kids[at].same_content(node) {
+        while at < self.checksums.len() {
+            if self.checksums[at] == sum {
                 return at;
-            } else {
-                at = self.next[at];
             }
+            at += 1;
         }
         at
     }
