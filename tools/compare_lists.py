@@ -1,11 +1,12 @@
 #!/usr/bin/env python3
-"""Compares where patterns of lists match with a plain search that tries every way.
+"""Compares where patterns of lists and objects match with a plain search that tries every way.
 
     tools/compare_lists.py [--program PROGRAM] [--runs N] [--seed N]
 
-PROGRAM is the program as `./semscan` built it, if none is given. Each run makes an array of numbers and arrays, as JSON, and a pattern of `...`, names and
-such items, some of them lists in lists, and matches it by `semscan match json`. The search here goes through the items one by one and tries each number of
-items for `...`; it knows nothing of semscan's code. Where both differ, text and pattern are printed, and the status is 1.
+PROGRAM is the program as `./semscan` built it, if none is given. Each run makes an array of numbers, arrays and objects, as JSON, and a pattern of `...`,
+names and such items, some of them lists in lists, and matches it by `semscan match json`. The search here goes through the items one by one, tries each number
+of items for `...`, and each member of an object for a member of its pattern; it knows nothing of semscan's code. Where both differ, text and pattern are
+printed, and the status is 1.
 """
 import argparse
 import random
@@ -15,15 +16,32 @@ import sys
 from measure_json import PROGRAM
 
 
+class Members(list):
+    """The members of an object, each a key and a value, or `...` in a pattern."""
+
+
+def member_text(member):
+    """A member as JSON."""
+    return member if member == '...' else '%s:%s' % (member[0], text_of(member[1]))
+
+
 def text_of(item):
     """An item as JSON."""
+    if isinstance(item, Members):
+        return '{' + ','.join(member_text(one) for one in item) + '}'
     return '[' + ','.join(text_of(one) for one in item) + ']' if isinstance(item, list) else item
 
 
 def spans(item, start, out):
     """Each item with its range, the outermost first. An item is told by its identity, so equal ones stay apart."""
     out.append((item, start, start + len(text_of(item))))
-    if isinstance(item, list):
+    if isinstance(item, Members):
+        at = start + 1
+        for key, value in item:
+            out.append((key, at, at + len(key)))
+            spans(value, at + len(key) + 1, out)
+            at += len(member_text((key, value))) + 1
+    elif isinstance(item, list):
         at = start + 1
         for one in item:
             spans(one, at, out)
@@ -32,13 +50,17 @@ def spans(item, start, out):
 
 
 class Item(str):
-    """A number in a text, told apart from an equal one elsewhere."""
+    """A number or a key in a text, told apart from an equal one elsewhere."""
 
 
 def ways(pattern, item, bound, places):
     """What the names stand for, once for each way in which the pattern matches the item."""
-    if isinstance(pattern, list):
-        if isinstance(item, list):
+    if isinstance(pattern, Members):
+        if isinstance(item, Members):
+            asked = [one for one in pattern if one != '...']
+            yield from choices(asked, len(asked) < len(pattern), list(item), bound, places)
+    elif isinstance(pattern, list):
+        if isinstance(item, list) and not isinstance(item, Members):
             yield from rows(pattern, item, bound, places)
     elif pattern == '$_':
         yield bound
@@ -64,6 +86,18 @@ def rows(patterns, items, bound, places):
             yield from rows(patterns[1:], items[1:], one, places)
 
 
+def choices(patterns, loose, members, bound, places):
+    """The same for patterns of members, each of which takes a member of its own. Where it is loose, some may be left over."""
+    if not patterns:
+        if loose or not members:
+            yield bound
+        return
+    for at, (key, value) in enumerate(members):
+        for named in ways(patterns[0][0], key, bound, places):
+            for one in ways(patterns[0][1], value, named, places):
+                yield from choices(patterns[1:], loose, members[:at] + members[at + 1:], one, places)
+
+
 def wanted(pattern, array):
     """The lines of `semscan match`, in no order."""
     places = spans(array, 0, [])
@@ -80,11 +114,37 @@ def array_of(random, size, values, depth):
     """An array of so many items."""
     items = []
     for _ in range(size):
-        if depth and random.random() < 0.04:
+        if depth and random.random() < 0.05:
+            items.append(object_of(random, random.choice([0, 1, 2, 3, 5]), values, depth - 1))
+        elif depth and random.random() < 0.04:
             items.append(array_of(random, random.choice([0, 1, 2, 3, 33]), values, depth - 1))
         else:
             items.append(Item(random.randrange(values)))
     return items
+
+
+def key_of(random, values):
+    """A key."""
+    return '"k%d"' % random.randrange(min(values, 4))
+
+
+def object_of(random, size, values, depth):
+    """An object of so many members, some with the same key."""
+    return Members((Item(key_of(random, values)), array_of(random, 1, values, depth)[0]) for _ in range(size))
+
+
+def members_of(random, values, depth):
+    """A pattern of an object, with at most three members that ask for something."""
+    parts = Members()
+    for _ in range(random.randint(0, 3)):
+        key = random.choice(['$K', '$K', '$L', '$_', key_of(random, values)])
+        if depth and random.random() < 0.3:
+            parts.append((key, pattern_of(random, values, depth - 1)))
+        else:
+            parts.append((key, random.choice(['$X', '$X', '$Y', '$_', str(random.randrange(values))])))
+    if random.random() < 0.6:
+        parts.insert(random.randint(0, len(parts)), '...')
+    return parts
 
 
 def pattern_of(random, values, depth):
@@ -96,8 +156,10 @@ def pattern_of(random, values, depth):
             parts.append('...')
         elif kind < 0.75:
             parts.append(random.choice(['$X', '$X', '$Y', '$_']))
-        elif kind < 0.88 or not depth:
+        elif kind < 0.85 or not depth:
             parts.append(str(random.randrange(values)))
+        elif kind < 0.93:
+            parts.append(members_of(random, values, depth - 1))
         else:
             parts.append(pattern_of(random, values, depth - 1))
     return parts
@@ -114,7 +176,7 @@ def main():
     for _ in range(given.runs):
         values = source.choice([1, 3, 20, 100])
         array = array_of(source, source.choice([3, 8, 31, 32, 33, 40]), values, 2)
-        pattern = pattern_of(source, values, 2)
+        pattern = source.choice([pattern_of, pattern_of, members_of])(source, values, 2)
         lines = wanted(pattern, array)
         asked = [given.program, 'match', 'json', text_of(pattern)]
         told = subprocess.run(asked, input=text_of(array), capture_output=True, text=True)

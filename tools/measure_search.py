@@ -43,6 +43,7 @@ GROWING = [
     ('equal items, the last one again', 'json', '[..., $X, ..., $X]', commas('[', lambda k: '0', ']'), 1_000),
     ('equal items, three names', 'json', THRICE % ('[..., ', ']'), commas('[', lambda k: '0', ']'), 100_000),
     ('different members', 'json', '{$K: $V, ...}', commas('{', lambda k: '"k%d":0' % k, '}'), 30_000),
+    ('members in a list, two names', 'json', '[{$A: $B, $C: $D, ...}, 1]', commas('[{', lambda k: '"k%d":0' % k, '},2]'), 500),
     ('equal members', 'json', '{"a": $X, "a": $X, ...}', commas('{', lambda k: '"a":0', '}'), 1_000),
     ('equal arguments', 'python', TWICE % ('f(..., ', ')'), commas('f(', lambda k: 'a', ')\n'), 100_000),
     ('different arguments', 'python', TWICE % ('f(..., ', ')'), commas('f(', lambda k: 'a%d' % k, ')\n'), 50_000),

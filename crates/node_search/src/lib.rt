@@ -11,9 +11,11 @@ mod state;
 mod steady;
 mod taken;
 
+pub use choice::Choice;
 pub use holder::Holder;
-pub use list::{alone, count_kids, finish, part_of, place, put, span_of_run};
+pub use list::{alone, count_kids, enter, finish, part_of, place, put, span_of_run};
 pub use matched::is_matched;
-pub use search::{choose_kids, relate, step_at};
+pub use search::{choose, choose_kids, relate, step_at};
 pub use state::State;
-pub use steady::is_steady;
+pub use steady::{are_steady, is_steady};
+pub use taken::mark;

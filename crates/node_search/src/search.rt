@@ -455,10 +455,10 @@ pub fn choose_kids<'t>(
     Ok(())
 }
 
-// Adds the bindings that the patterns from one on may take the binding to when each takes a node that isn't taken, and stops
-// once there are too many.
+/// Adds the bindings that the patterns from one on may take the binding to when each takes a node that isn't taken, and stops
+/// once there are too many.
 #[cycle(search)]
-fn choose<'t>(
+pub fn choose<'t>(
     alloc: Global,
     choice: Choice<'_, '_, '_, 't>,
     from: usize,

@@ -60,6 +60,10 @@ fn prints_where_a_pattern_matches(rt: HostRuntime) -> Result<(), Fail> {
         // A search that goes on after a list inside.
         "python ⇒ f([..., $X, ...], $X) ⇒ f([1, 2], 2)\n ⇒ 0..12 $X=6..7\n",
         "python ⇒ f([..., $X, ...], [..., $X, ...], $Y) ⇒ f([1, 2], [3, 2], 4)\n ⇒ 0..20 $X=6..7 $Y=18..19\n",
+        // Objects in lists, and a search that goes on in and after them.
+        "json ⇒ [{$A: $B, $C: $D, ...}, $B] ⇒ [{\"a\":1,\"b\":2},2] ⇒ 0..17 $A=8..11 $B=12..13 $C=2..5 $D=6..7\n",
+        "json ⇒ [{$K: [..., $X, ...], $L: $X, ...}, 1] ⇒ [{\"p\":[1,2],\"q\":2,\"r\":3},1] ⇒ 0..27 $K=2..5 $L=12..15 $X=9..10\n",
+        "json ⇒ [{$A: 1, $B: 2}, ...] ⇒ [{\"x\":2,\"y\":1},{\"x\":2,\"y\":1,\"z\":1}] ⇒ 0..35 $A=8..11 $B=2..5\n",
         "json ⇒ 1 ⇒  ⇒ BadTarget",
         "json ⇒ 1 ⇒ [1,] ⇒ BadTarget",
         "json ⇒ ... ⇒ 1 ⇒ BadPattern",

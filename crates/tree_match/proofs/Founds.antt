@@ -3,7 +3,7 @@ use Rattle.std.proofs.Common.{◌≡◌, ◌⊎◌, ◌↔◌, ℕ, ◌+◌, ◌
 use Rattle.meta_bind.specs.declared.bound.Bound.{Bound}
 use Rattle.node_tree.specs.declared.known.Known.{Known}
 use Rattle.node_tree.specs.Numbers.{Numbered, kids_at}
-use Rattle.node_pool.specs.Spots.{seen}
+use Rattle.node_pool.specs.Spots.{seen, all_seen}
 use Rattle.std.proofs.lemmas.List.{drop_all}
 use Rattle.node_match.specs.Sets.{Adds}
 use Rattle.node_match.specs.Free.{Part, parts_of}
@@ -12,13 +12,21 @@ use Rattle.node_match.proofs.Sets.{chain}
 use Rattle.node_search.specs.declared.state.State.{State}
 use Rattle.node_search.specs.States.{line_of, AnyFrom}
 use Rattle.tree_match.specs.declared.aim.Aim.{Aim}
+use Rattle.tree_match.specs.declared.aim.Aim.TheVariants.{All}
+use Rattle.node_tree.specs.declared.span.Span.{Span}
 use Rattle.tree_match.specs.declared.aim.Search.{Search}
 use Rattle.tree_match.specs.declared.outer.Outer.{Outer}
+use Rattle.tree_match.specs.declared.outer.Left.{Left}
+use Rattle.tree_match.specs.declared.outer.Left.TheVariants.{Kids, Candidates}
+use Rattle.tree_match.specs.declared.outer.Candidates.{Candidates as CandidatesOf}
+use Rattle.node_match.specs.Choices.{untaken, Picked}
+use Rattle.node_match.specs.Relation.{MatchesKids}
+use Rattle.node_tree.specs.Tree.{kids_of}
 use Rattle.tree_match.specs.declared.place.Inside.{Inside}
 use Rattle.tree_match.specs.Members.{Member}
-use Rattle.tree_match.specs.Aims.{Onward, GivesOn, GivesIn, MemberFrom, MemberAfter, FoundFrom, FoundAt}
+use Rattle.tree_match.specs.Aims.{Onward, Resumes, GivesOn, GivesIn, MemberFrom, MemberAfter, FoundFrom, FoundAt}
 use Rattle.tree_match.specs.Insides.{Opens}
-use Rattle.tree_match.proofs.Spreads.{Reached, ReachedAt, OfSome, last_state, states_as, one_state, state_after, after_more, after_last, no_states, states_turned, ends_on}
+use Rattle.tree_match.proofs.Spreads.{Reached, ReachedAt, OfSome, last_state, states_as, one_state, state_after, after_more, after_last, no_states, states_turned, ends_on, ends_choose}
 use Rattle.tree_match.proofs.InsideLaws.{inside_reached}
 
 nothing : (os : List Outer) → length os ≡ 0 → os ≡ []
@@ -31,6 +39,12 @@ pub outermost : (C : List Known) (aim : Aim) (h : Numbered) (os : List Outer) (p
 outermost C aim h os ps at b m none =
     let P : List Outer → Type 0 = λ xs. ReachedAt C (λ e. GivesOn C aim h xs m e) false h ps at b ↔ MemberAfter C aim false h ps at b m in
     subst P (sym none) (λ x. x, λ x. x)
+
+-- and the range is known
+pub whole_found : (C : List Known) (range : Span) (h : Numbered) (os : List Outer) (P : List Bound → Type 0) (m : Member) → os ≡ [] → ((c : List Bound) × GivesOn C (All range) h os m ([], c) × P c) ↔ ((m.0 ≡ range) × P m.1)
+whole_found C range h os P m none =
+    let Q : List Outer → Type 0 = λ xs. ((c : List Bound) × GivesOn C (All range) h xs m ([], c) × P c) ↔ ((m.0 ≡ range) × P m.1) in
+    subst Q (sym none) (λ (c, (_, is, same), x). (is, subst P (sym same) x), λ (is, x). (m.1, (refl, is, refl), x))
 
 module _ (s : Search) (from : ℕ) (m : Member) where
   pub last_found : (old new : List State) (last : State) → old ≡ new ++ last ∷ [] → FoundFrom s from old m ↔ (FoundFrom s from (last ∷ []) m ⊎ FoundFrom s from new m)
@@ -54,9 +68,9 @@ module _ (s : Search) (from : ℕ) (m : Member) where
   pub found_last : (at last : ℕ) (b : List Bound) → length (kids_at (seen s.holder.spot)) ≤ last → length (kids_at (seen s.holder.spot)) ≤ at → FoundAt s false from last b m ↔ FoundAt s true from at b m
   found_last = after_last s.known.names.now (GivesIn s m) (seen s.holder.spot) (drop from (parts_of s.pattern.now))
 
-  -- inside a kid, where this list is the first of the outer ones
+  -- inside a kid, and on in this list
   pub inside_found : (state : State) (inside : Inside) → Opens (seen s.holder.spot) (parts_of s.pattern.now) from state inside
-      → ReachedAt s.known.names.now (Onward s.known.names.now (GivesIn s m) (seen s.holder.spot) (drop inside.from (parts_of s.pattern.now)) inside.at) false (seen inside.kid) (parts_of inside.part.now) 0 state.trail ↔ FoundFrom s from (state ∷ []) m
+      → ((c : List Bound) × Onward s.known.names.now (GivesIn s m) (seen s.holder.spot) (drop inside.from (parts_of s.pattern.now)) inside.at ([], c) × MatchesKids s.known.names.now inside.part.now (seen inside.kid) state.trail c) ↔ FoundFrom s from (state ∷ []) m
   inside_found = inside_reached s.known.names.now (GivesIn s m) (seen s.holder.spot) (parts_of s.pattern.now) from
 
   -- states that lead to the same ends
@@ -81,13 +95,26 @@ module _ (s : Search) (from : ℕ) (m : Member) where
         subst P (nothing s.outer.now none) taken
 
     -- and the search goes on in the first of the outer lists
-    pub found_on : (o : Outer) (os : List Outer) (before trails : List (List Bound)) → s.outer.now ≡ o ∷ os → before ≡ [] → Adds before trails (λ b. AnyFrom s.known.names.now (line_of (seen s.holder.spot)) [] new ([], b))
-        → OfSome (λ b. ReachedAt s.known.names.now (λ f. GivesOn s.known.names.now s.aim (seen o.holder.spot) os m f) false (seen o.holder.spot) (drop o.from (parts_of o.pattern.now)) o.at b) trails ↔ FoundFrom s from old m
-    found_on o os before trails are none adds =
-        let C = s.known.names.now in
-        let h = seen s.holder.spot in
-        let outer = seen o.holder.spot in
-        let ps = drop o.from (parts_of o.pattern.now) in
-        let G : End → Type 0 = λ f. GivesOn C s.aim outer os m f in
-        let P : List Outer → Type 0 = λ xs. Reached C (λ e. GivesOn C s.aim h xs m e) h [] new ↔ FoundFrom s from old m in
-        chain _ _ _ (ends_on C G h outer ps o.at new before trails none adds) (subst P are taken)
+    module _ (o : Outer) (os : List Outer) (before trails : List (List Bound)) (are : s.outer.now ≡ o ∷ os) (none : before ≡ [])
+        (adds : Adds before trails (λ b. AnyFrom s.known.names.now (line_of (seen s.holder.spot)) [] new ([], b))) where
+      abbrev On : End → Type 0
+      On f = GivesOn s.known.names.now s.aim (seen o.holder.spot) os m f
+
+      resumed : (left : Left) → o.left ≡ left → Reached s.known.names.now (λ e. Resumes s.known.names.now On o left e) (seen s.holder.spot) [] new ↔ FoundFrom s from old m
+      resumed left is =
+          let C = s.known.names.now in
+          let h = seen s.holder.spot in
+          let P : List Outer → Type 0 = λ xs. Reached C (λ e. GivesOn C s.aim h xs m e) h [] new ↔ FoundFrom s from old m in
+          let Q : Left → Type 0 = λ l. Reached C (λ e. Resumes C On o l e) h [] new ↔ FoundFrom s from old m in
+          subst Q is (subst P are taken)
+
+      -- in order
+      pub found_on : (at : ℕ) → o.left ≡ Kids at → OfSome (λ b. ReachedAt s.known.names.now On false (seen o.holder.spot) (drop o.from (parts_of o.pattern.now)) at b) trails ↔ FoundFrom s from old m
+      found_on at is =
+          chain _ _ _ (ends_on s.known.names.now On (seen s.holder.spot) (seen o.holder.spot) (drop o.from (parts_of o.pattern.now)) at new before trails none adds) (resumed (Kids at) is)
+
+      -- by choosing
+      pub found_choosing : (left : CandidatesOf) → o.left ≡ Candidates left
+          → ((c : List Bound) × On ([], c) × Picked s.known.names.now left.named left.loose (drop o.from (kids_of o.pattern.now)) (untaken left.taken.now (all_seen left.nodes.now)) trails c) ↔ FoundFrom s from old m
+      found_choosing left is =
+          chain _ _ _ (ends_choose s.known.names.now On (seen s.holder.spot) (drop o.from (kids_of o.pattern.now)) left new before trails none adds) (resumed (Candidates left) is)

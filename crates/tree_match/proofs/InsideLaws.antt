@@ -3,6 +3,7 @@ use Rattle.std.proofs.Common.{◌≡◌, ◌↔◌, ℕ, List, [], ◌∷◌, dr
 use Rattle.std.specs.Prelude.{Some, ◌||◌}
 use Rattle.node_tree.specs.declared.node.Node.{Node}
 use Rattle.node_tree.specs.declared.kind.Kind.{Kind}
+use Rattle.node_tree.specs.declared.kind.Kind.TheVariants as kinds
 use Rattle.node_tree.specs.declared.known.Known.{Known}
 use Rattle.node_tree.specs.Tree.{kind_of, kids_of}
 use Rattle.node_tree.specs.Kinds.{is_literal}
@@ -15,19 +16,18 @@ use Rattle.node_match.specs.declared.order.Order.TheVariants.{Fixed}
 use Rattle.node_search.specs.declared.state.State.{State}
 use Rattle.node_match.specs.Kinds.{role_of, IsOne}
 use Rattle.node_match.specs.Free.{Part, parts_of, HasText}
-use Rattle.node_match.specs.Orders.{order_of, some_is, has_dots, is_list, is_named, is_arguments, named_of, unnamed_of, named_at, unnamed_at, all_asked}
-use Rattle.node_match.specs.Relation.{MatchesKid, MatchesChoice, MatchesList, no_choice, nodes_of}
-use Rattle.node_match.specs.Fronts.{End, Leads, MatchesFront}
+use Rattle.node_match.specs.Orders.{order_of, order_by, some_is, has_dots, is_list, is_named, is_arguments, named_of, unnamed_of, named_at, unnamed_at, all_asked}
+use Rattle.node_match.specs.Relation.{Matches, MatchesKid, MatchesKids, MatchesChoice, MatchesList, no_choice, nodes_of}
+use Rattle.node_match.specs.Fronts.{End, Leads}
 use Rattle.node_match.specs.Choices.{Chosen}
 use Rattle.node_match.proofs.Sets.{chain}
 use Rattle.node_match.proofs.Numbering.{kids_nodes}
 use Rattle.node_match.proofs.Arguments.{kid_itself, kid_arguments, arguments_listed, list_parts, all_unnamed, all_unnamed_at, Parted, parted_arguments}
 use Rattle.node_match.proofs.Inversion.{no_literal, ordered_kids}
-use Rattle.node_match.proofs.FrontLaws.{whole_front}
 use Rattle.node_search.proofs.Going.{heads}
 use Rattle.tree_match.specs.declared.place.Inside.{Inside}
 use Rattle.tree_match.specs.Aims.{Onward}
-use Rattle.tree_match.specs.Insides.{IsInOrder, Opens}
+use Rattle.tree_match.specs.Insides.{IsInOrder, IsByKids, IsKidByKids, Opens}
 use Rattle.tree_match.proofs.Spreads.{Reached, ReachedAt, state_after}
 
 -- ---- no argument has a name
@@ -107,31 +107,60 @@ module _ (holder : Kind) (q n : Node) (role : role_of (kind_of q) ≡ roles.Plai
         (chain _ _ _ (parted_arguments C q s b c k t) (kid_arguments C h q s b c (ap (λ (j : Kind). is_arguments j q) held ∙ are)));
   }
 
+-- ---- a kid by its kids in either order
+
+module _ (q n : Node) (role : role_of (kind_of q) ≡ roles.Plain) (unheld : is_literal (kind_of q) ≡ false) (alike : (kind_of q ≡ kind_of n) × HasText q n) where
+  pub by_kids : IsByKids q n
+  by_kids = record {
+    one = plain_one q role;
+    same = λ C s same b c.
+        let P : Node → Type 0 = λ m. (kind_of q ≡ kind_of m) × HasText q m in
+        let (k, t) = subst P (sym same) alike in
+        (λ x. (no_literal C q s b role unheld c).0 (k, t, x), λ x. let y = (no_literal C q s b role unheld c).1 x in y.2);
+  }
+
+pub kid_by_kids : (holder : Kind) (q n : Node) → is_arguments holder q ≡ false → IsByKids q n → IsKidByKids holder q n
+kid_by_kids holder q n other by = record {
+  one = by.one;
+  same = λ C h s held same b c. chain _ _ _ (by.same C s same b c) (kid_itself C h q s b c (ap (λ (j : Kind). is_arguments j q) held ∙ other));
+}
+
+listed_fixed : (k : Kind) (ps : List Node) → is_list k ≡ true → order_by k ps ≡ Fixed
+listed_fixed kinds.List ps e = refl
+listed_fixed _ ps e = absurd (let f : false ≡ true = e in cc)
+
+pub arguments_by_kids : (holder : Kind) (q n : Node) → is_arguments holder q ≡ true → IsInOrder holder q n → IsKidByKids holder q n
+arguments_by_kids holder q n are in_order = record {
+  one = in_order.one;
+  same = λ C h s held same b c.
+      let listed = ordered_kids C q s b c (listed_fixed (kind_of q) (kids_of q) (arguments_listed holder q are)) in
+      chain _ _ _ (listed.1, listed.0) (in_order.same C h s held same b c);
+}
+
 -- ---- members
 
 module _ (C : List Known) where
-  -- a part that matches a kid in that way leads as its kids do along those of the kid, and then the other parts
-  inside_leads : (h : Numbered) (q : Node) (kid : Numbered) (ps : List Part) (ns : List Numbered) (b : List Bound) (f : End) → IsInOrder (kind_of h.node) q kid.node
-      → ((d : List Bound) × Leads C kid (parts_of q) (kids_at kid) b ([], d) × Leads C h ps ns d f) ↔ Leads C h (Some q ∷ ps) (kid ∷ ns) b f
-  inside_leads h q kid ps ns b f in_order =
-      let each : (d : List Bound) → Leads C kid (parts_of q) (kids_at kid) b ([], d) ↔ MatchesKid C h q kid b d = λ d. chain _ _ _ (whole_front C kid (parts_of q) (kids_at kid) b d) (in_order.same C h kid refl refl b d) in
-      chain _ _ _ (λ (d, x, y). (d, (each d).0 x, y), λ (d, x, y). (d, (each d).1 x, y)) (heads C h q ps (kid ∷ ns) b f in_order.one)
+  -- a part that matches a kid in that way leads as its kids do, and then the other parts
+  inside_leads : (h : Numbered) (q : Node) (kid : Numbered) (ps : List Part) (ns : List Numbered) (b : List Bound) (f : End) → IsKidByKids (kind_of h.node) q kid.node
+      → ((d : List Bound) × MatchesKids C q kid b d × Leads C h ps ns d f) ↔ Leads C h (Some q ∷ ps) (kid ∷ ns) b f
+  inside_leads h q kid ps ns b f by =
+      let each : (d : List Bound) → MatchesKids C q kid b d ↔ MatchesKid C h q kid b d = λ d. by.same C h kid refl refl b d in
+      chain _ _ _ (λ (d, x, y). (d, (each d).0 x, y), λ (d, x, y). (d, (each d).1 x, y)) (heads C h q ps (kid ∷ ns) b f by.one)
 
   -- what is reached inside the next kid, and on after it, is what the state leads to
   pub inside_reached : (G : End → Type 0) (h : Numbered) (parts : List Part) (from : ℕ) (s : State) (inside : Inside) → Opens h parts from s inside
-      → ReachedAt C (Onward C G h (drop inside.from parts) inside.at) false (seen inside.kid) (parts_of inside.part.now) 0 s.trail ↔ Reached C G h (drop from parts) (s ∷ [])
+      → ((c : List Bound) × Onward C G h (drop inside.from parts) inside.at ([], c) × MatchesKids C inside.part.now (seen inside.kid) s.trail c) ↔ Reached C G h (drop from parts) (s ∷ [])
   inside_reached G h parts from s inside opens =
       let q = inside.part.now in
       let kid = seen inside.kid in
       let ps = drop inside.from parts in
       let ns = drop inside.at (kids_at h) in
-      let M : List Part → List Numbered → Type 0 = λ xs ys. (f : End) → ((d : List Bound) × Leads C kid (parts_of q) (kids_at kid) s.trail ([], d) × Leads C h ps ns d f) ↔ Leads C h xs ys s.trail f in
+      let M : List Part → List Numbered → Type 0 = λ xs ys. (f : End) → ((d : List Bound) × MatchesKids C q kid s.trail d × Leads C h ps ns d f) ↔ Leads C h xs ys s.trail f in
       let N : List Numbered → Type 0 = λ ys. M (drop from parts) ys in
       let K : List Part → Type 0 = λ xs. M xs (kid ∷ ns) in
-      let all : M (drop from parts) (drop s.at (kids_at h)) = subst N (sym opens.next_kid) (subst K (sym opens.next_part) (λ f. inside_leads h q kid ps ns s.trail f opens.in_order)) in
-      let after : ReachedAt C (Onward C G h ps inside.at) false kid (parts_of q) 0 s.trail ↔ ReachedAt C G false h (drop from parts) s.at s.trail = (
-        λ (e, (empty, (f, gives, y)), x). let R : List Numbered → Type 0 = λ ys. MatchesFront C kid (parts_of q) (kids_at kid) ys s.trail e.1 in
-            (f, gives, (all f).0 (e.1, subst R empty x, y)),
-        λ (f, gives, x). let (d, y, z) = (all f).1 x in (([], d), (refl, (f, gives, z)), y),
+      let all : M (drop from parts) (drop s.at (kids_at h)) = subst N (sym opens.next_kid) (subst K (sym opens.next_part) (λ f. inside_leads h q kid ps ns s.trail f opens.by_kids)) in
+      let after : ((c : List Bound) × Onward C G h ps inside.at ([], c) × MatchesKids C q kid s.trail c) ↔ ReachedAt C G false h (drop from parts) s.at s.trail = (
+        λ (c, (_, (f, gives, y)), x). (f, gives, (all f).0 (c, x, y)),
+        λ (f, gives, x). let (d, y, z) = (all f).1 x in (d, (refl, (f, gives, z)), y),
       ) in
       chain _ _ _ after (state_after C G h (drop from parts) s false s.at s.trail opens.stays refl refl)

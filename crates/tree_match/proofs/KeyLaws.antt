@@ -19,7 +19,10 @@ use Rattle.node_match.proofs.Arguments.{arguments_listed}
 use Rattle.node_match.proofs.Numbering.{rest_nodes}
 use Rattle.node_search.specs.Steady.{BindsNothing, IsSteady}
 use Rattle.node_search.proofs.SteadyLaws.{steady_at}
-use Rattle.tree_match.specs.Same.{StandsFor, IsKey, Passes, PassBefore}
+use Rattle.std.specs.List.{Contains}
+use Rattle.std.specs.List.Sorted.{IsNonDecreasing, IsPartitionPoint}
+use Rattle.std.proofs.lemmas.List.Elements.{Contains-push, Contains-append_left}
+use Rattle.tree_match.specs.Same.{StandsFor, IsKey, Passes, PassBefore, place_number}
 use Rattle.tree_match.specs.Checksums.{checksum}
 use Rattle.tree_match.specs.Insides.{IsInOrder}
 use Rattle.tree_match.proofs.Landing.{first_at, held_alone, no_list}
@@ -100,31 +103,46 @@ on_found (Some y) P Q f x = f y x
 pub on_some : {X : Type 0} (found : Option X) (x : X) (P : X → Type 0) → found ≡ Some x → MatchOption found (Unit {0}) P → P x
 on_some {X = X} found x P is m = let Q : Option X → Type 0 = λ o. MatchOption o (Unit {0}) P in subst Q is m
 
--- ---- the checksums of all kids
+-- ---- the numbers of all kids
 
--- a number more at the end
-number_more : (xs : List ℕ) (y i : ℕ) → i < length xs → get_or (xs ++ y ∷ []) i 0 ≡ get_or xs i 0
-number_more [] y i lt = absurd (omega (arith, lt))
-number_more (x ∷ xs) y zero lt = refl
-number_more (x ∷ xs) y (suc i) lt = number_more xs y i (omega (arith, lt))
-
-number_last : (xs : List ℕ) (y : ℕ) → get_or (xs ++ y ∷ []) (length xs) 0 ≡ y
-number_last [] y = refl
-number_last (x ∷ xs) y = number_last xs y
-
-pub before_or_here : (i j : ℕ) → i < j + 1 → (i < j) ⊎ (i ≡ j)
+before_or_here : (i j : ℕ) → i < j + 1 → (i < j) ⊎ (i ≡ j)
 before_or_here i j lt = grind arith
 
--- the checksum of one kid more
-pub sums_more : (holder : Kind) (p : Node) (name : List ℕ) (ns : List Node) (sums : List ℕ) (sum j : ℕ) (n key : Node) → length sums ≡ j → j < length ns → n ≡ get_or ns j n → IsKey holder p name n key → sum ≡ checksum key
-    → ((i : ℕ) (m : Node) → i < j → m ≡ get_or ns i m → (k : Node) × IsKey holder p name m k × (get_or sums i 0 ≡ checksum k))
-    → (i : ℕ) (m : Node) → i < j + 1 → m ≡ get_or ns i m → (k : Node) × IsKey holder p name m k × (get_or (sums ++ sum ∷ []) i 0 ≡ checksum k)
-sums_more holder p name ns sums sum j n key many within n-is holds sum-is each i m lt is = elim (before_or_here i j lt) [
-  | inl less ↦ (let (k, h, e) = each i m less is in (k, h, number_more sums sum i (omega (arith, less, many)) ∙ e))
+-- the number of one kid more
+pub places_more : (holder : Kind) (p : Node) (name : List ℕ) (ns : List Node) (places : List ℕ) (number j : ℕ) (n key : Node) → j < length ns → n ≡ get_or ns j n → IsKey holder p name n key → number ≡ place_number (checksum key) j
+    → ((i : ℕ) (m : Node) → i < j → m ≡ get_or ns i m → (k : Node) × IsKey holder p name m k × Contains places (place_number (checksum k) i))
+    → (i : ℕ) (m : Node) → i < j + 1 → m ≡ get_or ns i m → (k : Node) × IsKey holder p name m k × Contains (places ++ number ∷ []) (place_number (checksum k) i)
+places_more holder p name ns places number j n key within n-is holds number-is each i m lt is = elim (before_or_here i j lt) [
+  | inl less ↦ (let (k, h, there) = each i m less is in (k, h, Contains-append_left places (number ∷ []) (place_number (checksum k) i) there))
   | inr same ↦ (
       let P : ℕ → Type 0 = λ x. m ≡ get_or ns x m in
       let m-is : n ≡ m = n-is ∙ get_or_default ns j n m within ∙ sym (subst P same is) in
       let Q : Node → Type 0 = λ x. IsKey holder p name x key in
-      let R : ℕ → Type 0 = λ x. get_or (sums ++ sum ∷ []) x 0 ≡ checksum key in
-      (key, subst Q m-is holds, subst R (many ∙ sym same) (number_last sums sum ∙ sum-is)))
+      let R : ℕ → Type 0 = λ x. Contains (places ++ number ∷ []) x in
+      (key, subst Q m-is holds, subst R (number-is ∙ ap (place_number (checksum key)) (sym same)) (Contains-push places number)))
 ]
+
+-- ---- the next one of a number
+
+module _ (places : List ℕ) (sum from at : ℕ) (point : IsPartitionPoint (λ y. y < place_number sum from) (λ y. place_number sum from ≤ y) places at) where
+  -- what is there from a place on isn't below the point
+  at_point : (k : ℕ) → from ≤ k → (j : ℕ) → j < length places → get_or places j (place_number sum k) ≡ place_number sum k → at ≤ j
+  at_point k le j lt is = elim (less_or_not j at) [
+    | inl less ↦ absurd (omega (arith, point.0 j (place_number sum k) (omega arith) less, is, le))
+    | inr more ↦ more
+  ]
+    where
+      less_or_not : (i j : ℕ) → (i < j) ⊎ (j ≤ i)
+      less_or_not i j = grind arith
+
+  pub none_past : length places ≤ at → (k : ℕ) → from ≤ k → Contains places (place_number sum k) → ⊥
+  none_past past k le (j, lt, is) = absurd (omega (arith, past, lt, at_point k le j lt is))
+
+  pub none_between : IsNonDecreasing places → (one : ℕ) → at < length places → one ≡ get_or places at one → (k : ℕ) → from ≤ k → k + place_number sum 0 < one → Contains places (place_number sum k) → ⊥
+  none_between sorted one lt one-is k le before (j, within, is) =
+      let up = sorted at j one (at_point k le j within is) within in
+      let here : get_or places j one ≡ place_number sum k = get_or_default places j one (place_number sum k) within ∙ is in
+      absurd (omega (arith, up, here, one-is, before))
+
+  pub one_above : (one : ℕ) → at < length places → one ≡ get_or places at one → place_number sum from ≤ one
+  one_above one lt one-is = let f = point.1 at one (omega arith) lt in omega (arith, f, one-is)

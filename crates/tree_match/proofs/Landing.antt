@@ -27,7 +27,8 @@ use Rattle.node_search.proofs.SteadyLaws.{steady_at}
 use Rattle.tree_match.specs.declared.next_places.NextPlaces.{NextPlaces}
 use Rattle.tree_match.specs.declared.same_kids.SameKids.{SameKids}
 use Rattle.tree_match.specs.Checksums.{checksum}
-use Rattle.tree_match.specs.Same.{StandsFor, IsIndex}
+use Rattle.tree_match.specs.Same.{StandsFor, place_number, IsIndex}
+use Rattle.std.specs.List.{Contains}
 use Rattle.tree_match.proofs.Alike.{same_checksum}
 use Rattle.tree_match.specs.Landing.{LeapsOver, IsNext, IsNextOf, AreNextOf, IsOut, AreOut, IsPast}
 
@@ -67,10 +68,11 @@ no_list _ e role = absurd (let f : false ≡ true = e in cc)
 
 -- kids in which something else stands where the name stands are ruled out
 pub named_out : (kind : Kind) (p : Node) (ns : List Node) (b : List Bound) (m : Node) (same : SameKids) (i j : ℕ) → IsIndex kind p ns same → StandsFor same.name b (content_of m)
-    → ((k : ℕ) → i ≤ k → k < j → k < length same.checksums.items → checksum m ≡ get_or same.checksums.items k 0 → ⊥) → AreOut kind p b ns i j
+    → ((k : ℕ) → i ≤ k → k < j → Contains same.places.items (place_number (checksum m) k) → ⊥) → AreOut kind p b ns i j
 named_out kind p ns b m same i j index stands none k n from below within is C h s held node c x =
-    let (key, holds, sum) = index.sums.each k n within is in
-    none k from below (omega (arith, within, index.sums.many)) (sym (same_checksum key m (holds C h s held node b c (content_of m) stands x)) ∙ sym sum)
+    let (key, holds, there) = index.keys k n within is in
+    let P : ℕ → Type 0 = λ sum. Contains same.places.items (place_number sum k) in
+    none k from below (subst P (same_checksum key m (holds C h s held node b c (content_of m) stands x)) there)
 
 pub none_out : (kind : Kind) (p : Node) (b : List Bound) (ns : List Node) (i : ℕ) → AreOut kind p b ns i i
 none_out kind p b ns i k n from below = absurd (omega (arith, from, below))

@@ -17,9 +17,11 @@ use Rattle.tree_match.specs.declared.aim.Aim.{Aim}
 use Rattle.tree_match.specs.declared.aim.Aim.TheVariants.{All}
 use Rattle.tree_match.specs.declared.aim.Search.{Search}
 use Rattle.tree_match.specs.declared.outer.Outer.{Outer}
+use Rattle.tree_match.specs.declared.outer.Left.{Left}
+use Rattle.tree_match.specs.declared.outer.Left.TheVariants.{Kids, Candidates}
 use Rattle.tree_match.specs.Members.{Member}
 use Rattle.node_match.specs.Refused.{all_single}
-use Rattle.tree_match.specs.Aims.{GivesOn, FoundFrom, TakesAll}
+use Rattle.tree_match.specs.Aims.{Resumes, GivesOn, FoundFrom, TakesAll}
 
 -- ---- how many kids are left
 
@@ -68,19 +70,25 @@ module _ (C : List Known) (h : Numbered) where
 
 -- ---- searches that take all kids
 
+no_kid : (C : List Known) (G : End → Type 0) (o : Outer) (e : End) (left : Left) → Resumes C G o left e → e.0 ≡ []
+no_kid C G o e (Kids at) x = x.0
+no_kid C G o e (Candidates left) x = x.0
+
 pub whole_inside : (s : Search) → 0 < length s.outer.now → TakesAll s
 whole_inside s some m e = all s.outer.now some
   where
     all : (os : List Outer) → 0 < length os → GivesOn s.known.names.now s.aim (seen s.holder.spot) os m e → e.0 ≡ []
     all [] some x = absurd (omega (arith, some))
-    all (o ∷ os) some (none, _) = none
+    all (o ∷ os) some x = no_kid s.known.names.now _ o e o.left x
+
+pub whole_given : (C : List Known) (range : Span) (h : Numbered) (os : List Outer) (m : Member) (e : End) → GivesOn C (All range) h os m e → e.0 ≡ []
+whole_given C range h [] m e (none, _, _) = none
+whole_given C range h (o ∷ os) m e x = no_kid C _ o e o.left x
 
 pub whole_aim : (s : Search) (range : Span) → s.aim ≡ All range → TakesAll s
-whole_aim s range is m e x = all s.outer.now (let P : Aim → Type 0 = λ a. GivesOn s.known.names.now a (seen s.holder.spot) s.outer.now m e in subst P is x)
-  where
-    all : (os : List Outer) → GivesOn s.known.names.now (All range) (seen s.holder.spot) os m e → e.0 ≡ []
-    all [] (none, _, _) = none
-    all (o ∷ os) (none, _) = none
+whole_aim s range is m e x =
+    let P : Aim → Type 0 = λ a. GivesOn s.known.names.now a (seen s.holder.spot) s.outer.now m e in
+    whole_given s.known.names.now range (seen s.holder.spot) s.outer.now m e (subst P is x)
 
 -- states that lead to the same ends where all kids are taken
 pub found_whole : (s : Search) (from : ℕ) (old new : List State) (m : Member) → TakesAll s

@@ -1,5 +1,7 @@
 -- Kids in which a name stands for the same.
-use Rattle.std.specs.Prelude.{◌≡◌, ◌<◌, ◌≤◌, ℕ, zero, suc, List, [], ◌∷◌, length, slice_index, slice_index_or, Option, None, Some}
+use Rattle.std.specs.Prelude.{◌≡◌, ◌+◌, ◌*◌, ◌<◌, ℕ, zero, suc, List, [], ◌∷◌, length, slice_index_or, Option, None, Some}
+use Rattle.std.specs.List.{Contains}
+use Rattle.std.specs.List.Sorted.{IsNonDecreasing}
 use Rattle.node_tree.specs.declared.node.Node.{Node}
 use Rattle.node_tree.specs.declared.kind.Kind.{Kind}
 use Rattle.node_tree.specs.declared.known.Known.{Known}
@@ -35,18 +37,15 @@ PassBefore zero ps = Unit {0}
 PassBefore (suc k) [] = Unit {0}
 PassBefore (suc k) (p ∷ ps) = Passes p × PassBefore k ps
 
--- these are the checksums of such nodes, one of each kid
-pub record AreKeySums (holder : Kind) (p : Node) (name : List ℕ) (ns : List Node) (sums : List ℕ) : Type 0 where
-  pub many : length sums ≡ length ns
-  pub each : (i : ℕ) (n : Node) → i < length ns → n ≡ slice_index_or ns i n → (key : Node) × IsKey holder p name n key × (slice_index sums i ≡ checksum key)
+-- a number made of a checksum and a place
+abbrev pub place_number : ℕ → ℕ → ℕ
+place_number sum place = sum * 4294967296 + place
 
--- for each number a later place, where no number between the two is the same
-pub record IsNextAlike (sums next : List ℕ) : Type 0 where
-  pub many : length next ≡ length sums
-  pub on : (i j : ℕ) → i < length sums → j ≡ slice_index_or next i j → i < j
-  pub over : (i j k : ℕ) → i < length sums → j ≡ slice_index_or next i j → i < k → k < j → k < length sums → slice_index_or sums i 0 ≡ slice_index_or sums k 0 → ⊥
+-- of each kid there is the number of the checksum of such a node and of its place
+abbrev pub AreKeyPlaces : Kind → Node → List ℕ → List Node → List ℕ → Type 0
+AreKeyPlaces holder p name ns places = (i : ℕ) (n : Node) → i < length ns → n ≡ slice_index_or ns i n → (key : Node) × IsKey holder p name n key × Contains places (place_number (checksum key) i)
 
--- those checksums, and for each the next place with the same
+-- those numbers in order
 pub record IsIndex (holder : Kind) (p : Node) (ns : List Node) (same : SameKids) : Type 0 where
-  pub sums : AreKeySums holder p same.name ns same.checksums.items
-  pub next : IsNextAlike same.checksums.items same.next.items
+  pub keys : AreKeyPlaces holder p same.name ns same.places.items
+  pub sorted : IsNonDecreasing same.places.items

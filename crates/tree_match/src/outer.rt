@@ -6,18 +6,40 @@ ghost use Rattle.node_pool.specs.Spots.{seen};
 ghost use Rattle.node_search.specs.Kids.{AreKids};
 
 use crate::next_places::NextPlaces;
+use node_pool::Spot;
 use node_search::Holder;
 use node_tree::{List, Memory, Node};
 use std::alloc::Global;
 
-/// The parts of the pattern from one on, which have to match the kids of the holder from a place on.
+/// Nodes among which parts of a pattern choose, and which of them are taken.
+#[derive(Clone, Copy)]
+pub struct Candidates<'k, 'p, 't> {
+    pub nodes: &'k [Spot<'p, 't>],
+    pub taken: &'k [bool],
+    /// Whether the parts with a name choose; else all but `...` do.
+    pub named: bool,
+    /// Whether nodes may be left over.
+    pub loose: bool,
+    pub ghost size: { length taken.now ≡ length nodes.now },
+}
+
+/// What parts of a pattern have to match.
+#[derive(Clone, Copy)]
+pub enum Left<'k, 'p, 't> {
+    /// The kids from this place on, in order.
+    Kids(usize),
+    /// Kids that aren't taken, in any order.
+    Candidates(Candidates<'k, 'p, 't>),
+}
+
+/// The parts of the pattern from one on, and what they have to match among the kids of the holder.
 #[derive(Clone, Copy)]
 pub struct Outer<'k, 'p, 't> {
     pub pattern: &'t Node,
     pub holder: Holder<'k, 'p, 't>,
     pub nexts: &'k [Option<NextPlaces>],
     pub from: usize,
-    pub at: usize,
+    pub left: Left<'k, 'p, 't>,
     pub ghost within: { from ≤ length (kids_of pattern.now) },
     pub ghost kin: { AreKids holder.kids.now (seen holder.spot) },
 }

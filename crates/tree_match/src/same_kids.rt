@@ -1,65 +1,77 @@
-//! Kids in which a name stands for the same, found from one to the next.
+//! Kids in which a name stands for the same, found by halving.
 
-ghost use Rattle.std.specs.Prelude.{◌≡◌, ◌<◌, ◌≤◌, ℕ, length, slice_index_or, slice_index, IfOk, MatchOption};
+ghost use Rattle.std.specs.Prelude.{◌≡◌, ◌<◌, ◌≤◌, ℕ, length, IfOk, MatchOption};
+ghost use Rattle.std.specs.List.{Contains};
+ghost use Rattle.std.specs.List.Sorted.{IsNonDecreasing, IsPartitionPoint};
 ghost use Rattle.tree_match.specs.Checksums.{checksum};
-ghost use Rattle.tree_match.specs.Same.{AreKeySums, IsNextAlike, IsIndex};
+ghost use Rattle.tree_match.specs.Same.{place_number, AreKeyPlaces, IsIndex};
 
 use crate::checksum::add_checksum;
 use crate::key::key_of;
 use node_tree::{Kind, Memory, Node, Text};
 use std::alloc::Global;
 
-/// For each kid the checksum of a node that has the content for which the name stands if a pattern matches the kid, and the place of
-/// the next kid with the same checksum, or how many kids there are.
+/// For each kid a number made from the checksum of a node that has the content for which the name stands if a pattern matches the
+/// kid, and from the kid's place, in order.
 #[derive(Drop)]
 pub struct SameKids {
     pub name: Text,
-    pub checksums: Vec<u32>,
-    pub next: Vec<usize>,
+    pub places: Vec<u64>,
 }
 
 // The checksum of a node.
 fn checksum_of(node: &Node) -> u32
-    ensures { result ≡ checksum node.now }
+    ensures sum { result ≡ checksum node.now }
+    ensures within { result < 65536 }
 {
     add_checksum(0, node)
 }
 
-// The checksums of such nodes, one of each kid of a node of that kind, if there is one in each.
-fn key_sums(
+// The number of a checksum and a place.
+fn number_of(sum: u32, place: u32) -> u64
+    ensures { result ≡ place_number sum place }
+{
+    sum as u64 * 4294967296 + place as u64
+}
+
+// The numbers of the kids of a node of that kind, if there is such a node in each.
+fn key_places(
     alloc: Global,
     kind: Kind,
     pattern: &Node,
     name: &str,
     kids: &[Node],
-) -> Result<Option<Vec<u32>>, Memory>
-    ensures { IfOk result (λ found. MatchOption found (Unit {0}) (λ sums. AreKeySums kind pattern.now name.now kids.now sums.items)) }
+) -> Result<Option<Vec<u64>>, Memory>
+    ensures { IfOk result (λ found. MatchOption found (Unit {0}) (λ places. AreKeyPlaces kind pattern.now name.now kids.now places.items)) }
 {
-    let mut sums = Vec::with_capacity(alloc, kids.len())?;
-    for kid in kids {
+    let mut places = Vec::with_capacity(alloc, kids.len())?;
+    for (i, kid) in kids.iter().enumerate() {
+        let Ok(place) = u32::try_from(i) else {
+            return Ok(None);
+        };
         let Some(key) = key_of(alloc, kind, pattern, name, kid)? else {
             return Ok(None);
         };
-        sums.push(checksum_of(key))?;
+        places.push(number_of(checksum_of(key), place))?;
     }
-    Ok(Some(sums))
+    Ok(Some(places))
 }
 
-// For each number the place of the next that is alike up to multiples of how many there are, or how many there are.
-fn next_alike(alloc: Global, sums: &[u32]) -> Result<Vec<usize>, Memory>
-    ensures { IfOk result (λ next. IsNextAlike sums.now next.items) }
+// The numbers in order.
+fn sorted(mut places: Vec<u64>) -> Result<Vec<u64>, Memory>
+    ensures same { IfOk result (λ all. (k : ℕ) → Contains places.items k → Contains all.items k) }
+    ensures order { IfOk result (λ all. IsNonDecreasing all.items) }
 {
-    let end = sums.len();
-    let mut next = vec![in alloc; end; end]?;
-    let mut first = vec![in alloc; end; end]?;
-    let mut at = end;
-    while 0 < at {
-        at -= 1;
-        let bucket = (sums[at] as usize) % end;
-        next[at] = first[bucket];
-        first[bucket] = at;
-    }
-    Ok(next)
+    places.sort()?;
+    Ok(places)
+}
+
+// How many of the numbers are less.
+fn count_below(places: &[u64], least: u64) -> usize
+    requires { IsNonDecreasing places.now }
+    ensures { IsPartitionPoint (λ y. y < least) (λ y. least ≤ y) places.now result }
+{
+    places.partition_point(|one| *one < least)
 }
 
 impl SameKids {
@@ -73,50 +85,31 @@ impl SameKids {
     ) -> Result<Option<SameKids>, Memory>
         ensures { IfOk result (λ found. MatchOption found (Unit {0}) (IsIndex kind pattern.now kids.now)) }
     {
-        let Some(checksums) = key_sums(alloc, kind, pattern, name, kids)? else {
+        let Some(places) = key_places(alloc, kind, pattern, name, kids)? else {
             return Ok(None);
         };
-        let next = next_alike(alloc, checksums.as_slice())?;
+        let places = sorted(places)?;
         Ok(Some(SameKids {
             name: Text::from_str(alloc, name)?,
-            checksums,
-            next,
+            places,
         }))
     }
 
-    // A place from this one on, before which no kid from it on has the checksum.
-    fn start(&self, sum: u32, from: usize) -> usize
-        requires { IsNextAlike self.now.checksums.items self.now.next.items }
-        ensures on { from ≤ result }
-        ensures none { (k : ℕ) → from ≤ k → k < result → k < length self.now.checksums.items → (sum ≡ slice_index self.now.checksums.items k) → ⊥ }
-    {
-        if from == 0 {
-            return from;
-        }
-        let before = from - 1;
-        if self.checksums.len() <= before {
-            return from;
-        }
-        if self.checksums[before] != sum {
-            return from;
-        }
-        self.next[before]
-    }
-
-    /// The first kid from a place on with the checksum of the node, or a place past all kids.
+    /// A place from this one on, before which no kid from it on has the checksum of the node: that of the next one that has it, or a
+    /// place past all kids.
     pub fn next_place(&self, node: &Node, from: usize) -> usize
-        requires { IsNextAlike self.now.checksums.items self.now.next.items }
+        requires { IsNonDecreasing self.now.places.items }
         ensures on { from ≤ result }
-        ensures none { (k : ℕ) → from ≤ k → k < result → k < length self.now.checksums.items → (checksum node.now ≡ slice_index self.now.checksums.items k) → ⊥ }
+        ensures none { (k : ℕ) → from ≤ k → k < result → Contains self.now.places.items (place_number (checksum node.now) k) → ⊥ }
     {
+        let Ok(place) = u32::try_from(from) else {
+            return from;
+        };
         let sum = checksum_of(node);
-        let mut at = self.start(sum, from);
-        while at < self.checksums.len() {
-            if self.checksums[at] == sum {
-                return at;
-            }
-            at += 1;
+        let at = count_below(self.places.as_slice(), number_of(sum, place));
+        if self.places.len() <= at {
+            return usize::MAX;
         }
-        at
+        (self.places[at] - number_of(sum, 0)) as usize
     }
 }

@@ -1,12 +1,17 @@
-use Rattle.std.proofs.Common.{◌∙◌}
+use Rattle.std.proofs.Common.{◌≡◌, ◌↔◌, ◌∙◌, List, subst, sym}
 use Rattle.node_tree.specs.Tree.{span_of}
 use Rattle.node_pool.specs.Spots.{seen}
-use Rattle.tree_match.specs.declared.aim.Aim.TheVariants.{All}
-use Rattle.node_match.specs.Free.{parts_of}
+use Rattle.meta_bind.specs.declared.bound.Bound.{Bound}
+use Rattle.node_match.specs.Relation.{MatchesKids}
 use Rattle.node_match.proofs.Sets.{adds_up_as, chain}
-use Rattle.tree_match.proofs.Spreads.{member_alike}
-use Rattle.tree_match.proofs.Founds.{outermost}
+use Rattle.tree_match.specs.Members.{MemberAt}
+use Rattle.tree_match.proofs.Spreads.{member_kids}
+use Rattle.tree_match.proofs.Founds.{whole_found}
+use Rattle.tree_match.proofs.Lasts.{whole_given}
 use Rattle.tree_match.proofs.expression.add_listed.Goals as goal
+
+pub add_kids-requires-clause-whole : goal.add_kids-requires-clause-whole
+add_kids-requires-clause-whole c m e x = whole_given _ _ _ _ m e x
 
 pub returns-clause-added : goal.returns-clause-added
 returns-clause-added c =
@@ -14,5 +19,6 @@ returns-clause-added c =
     let p = c.args.pattern.now in
     let h = seen c.args.spot in
     let r = c.requires in
-    adds_up_as _ _ _ _ _ c.in_ok-add_at.ensures.added
-    (λ m. chain _ _ _ (outermost C (All (span_of h.node)) h _ (parts_of p) 0 _ m (c.as_slice-3.ensures ∙ c.new-none.ensures)) (member_alike C p h _ m r.role r.plain r.alike.0 r.alike.1 r.order c.new.ensures))
+    adds_up_as _ _ _ _ _ c.in_ok-add_kids.ensures.added (λ m.
+    let By : List Bound → Type 0 = λ b. ((m.0 ≡ span_of h.node) × MatchesKids C p h b m.1) ↔ MemberAt C p h m in
+    chain _ _ _ (whole_found C (span_of h.node) h _ (MatchesKids C p h c.new.result) m (c.as_slice-3.ensures ∙ c.new-none.ensures)) (subst By (sym c.new.ensures) (member_kids C p h m r.role r.plain r.alike.0 r.alike.1)))

@@ -24,5 +24,5 @@ returns c =
       next_part = c.part_at.ensures ∙ ap (λ (o : Option (Bor Node)). option_copied o ∷ drop (c.args.from + 1) (parts_of p)) c.in-Some.is;
       next_kid = one_further (kids_at h) at (seen kid) (omega (arith, as_many h nodes search.kin.are, c.if-nodes-state.false)) here;
       within = omega (arith, parts_as_many p, c.len.ensures, c.if-len-from.false);
-      in_order = c.is_in_order.ensures c.if-not-is_in_order.false;
+      by_kids = c.is_kid_by_kids.ensures c.if-not-is_kid_by_kids.false;
     }
