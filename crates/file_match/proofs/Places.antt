@@ -6,7 +6,7 @@ use denote.Enum.Declared.{variants}
 use Rattle.node_tree.specs.contracts.kind.Kind.{the_type}
 use Rattle.node_tree.specs.declared.kind.Kind.{Kind}
 use Rattle.node_tree.specs.Order.{kind_place}
-use Rattle.tree_match.specs.Checksums.{mixed}
+use Rattle.tree_code.specs.Sums.{mixed}
 use Rattle.file_match.specs.Words.{Word, place_of, place_among}
 
 few : length (variants the_type) ≤ 65536

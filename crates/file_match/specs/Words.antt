@@ -14,7 +14,7 @@ use Rattle.node_match.specs.Sets.{Among}
 use Rattle.node_tree.specs.Kinds.{is_literal}
 use Rattle.node_match.specs.Kinds.{role_of}
 use Rattle.node_match.specs.Free.{parts_of, IsTextFree}
-use Rattle.tree_match.specs.Checksums.{mixed}
+use Rattle.tree_code.specs.Sums.{mixed}
 
 -- a kind and a text
 abbrev pub Word : Type 0

@@ -17,7 +17,7 @@ ghost use Rattle.file_match.specs.Words.{HasRoom, IsMarked, AreMarked, Covers, i
 use node_match::{Role, is_free, is_text_free, role_of};
 use node_tree::{Kind, List, Memory, Node, Shape};
 use std::alloc::Global;
-use tree_match::mix;
+use tree_code::mix;
 
 /// How many places the words of a file have.
 pub const ALL_PLACES: u32 = 65536;

@@ -22,6 +22,7 @@ use Rattle.tree_code.specs.Code.{tree_code}
 use Rattle.tree_code.proofs.Telling.{tree_tells}
 use Rattle.piece_form.specs.Code.{lang_place, bool_place, pattern_code, piece_code}
 use Rattle.piece_form.specs.Identity.{Identity}
+use Rattle.piece_form.specs.Keys.{IsPatternKeyOf}
 use Rattle.piece_form.proofs.Telling.{keys_tell}
 use Rattle.piece_store.specs.declared.table.Table.{Table}
 use Rattle.piece_store.specs.Kept.{answer_of, by_number, row_answer}
@@ -44,7 +45,7 @@ piece_total =
     (then_total (on_total (λ (a : PieceRef). a.value.bytes.items) nat_list_cmp_total) (on_total (λ (a : PieceRef). a.value.code.items) nat_list_cmp_total))
 
 pub pattern_total : IsTotalOrder pattern_cmp
-pattern_total = on_total (λ (b : PatternRef). b.value.code.items) nat_list_cmp_total
+pattern_total = then_total (on_total (λ (b : PatternRef). b.value.sum) nat_cmp_total) (on_total (λ (b : PatternRef). b.value.code.items) nat_list_cmp_total)
 
 both_equal : (r s : Ordering) → ordering_then r s ≡ Equal → (r ≡ Equal) × (s ≡ Equal)
 both_equal Less s e = absurd cc
@@ -103,7 +104,7 @@ module _ (x y : Pair) (a : PieceRef) (b : PatternRef) (keys : AreKeys x a b) whe
       bytes = keys.of_piece.bytes ∙ ap (λ (i : Identity). i.bytes) same.piece;
       code = keys.of_piece.code ∙ ap piece_code same.piece;
     };
-    of_pattern = keys.of_pattern ∙ ap pattern_code same.pattern;
+    of_pattern = (let P : Pattern → Type 0 = λ p. IsPatternKeyOf p b.value in subst P same.pattern keys.of_pattern);
   }
 
   module _ (c : PieceRef) (d : PatternRef) (its : AreKeys y c d) where
@@ -116,16 +117,20 @@ module _ (x y : Pair) (a : PieceRef) (b : PatternRef) (keys : AreKeys x a b) whe
         let size = size_tied a.value.size c.value.size (k.of_piece.size ∙ sym its.of_piece.size) in
         let rest : Ordering = slice_cmp nat_cmp a.value.code.items c.value.code.items in
         let all : Ordering = ordering_then (slice_cmp nat_cmp a.value.bytes.items c.value.bytes.items) rest in
-        (ap (λ (o : Ordering). ordering_then o all) size ∙ ap (λ (o : Ordering). ordering_then o rest) bytes ∙ code, text_tied b.value.code.items d.value.code.items (k.of_pattern ∙ sym its.of_pattern))
+        let written : Ordering = slice_cmp nat_cmp b.value.code.items d.value.code.items in
+        let sum = size_tied b.value.sum d.value.sum (k.of_pattern.sum ∙ sym its.of_pattern.sum) in
+        let same_code = text_tied b.value.code.items d.value.code.items (k.of_pattern.code ∙ sym its.of_pattern.code) in
+        (ap (λ (o : Ordering). ordering_then o all) size ∙ ap (λ (o : Ordering). ordering_then o rest) bytes ∙ code, ap (λ (o : Ordering). ordering_then o written) sum ∙ same_code)
 
     -- pairs with equal keys count as one
     pub told : x.path ≡ y.path → piece_cmp a c ≡ Equal → pattern_cmp b d ≡ Equal → IsSamePair x y
     told path e f =
         let parts = parts_equal a c e in
+        let code = both_equal (nat_cmp b.value.sum d.value.sum) (slice_cmp nat_cmp b.value.code.items d.value.code.items) f in
         record {
           path = path;
           piece = keys_tell x.piece y.piece a.value c.value keys.of_piece its.of_piece (text_one a.value.bytes.items c.value.bytes.items parts.1) (text_one a.value.code.items c.value.code.items parts.2);
-          pattern = pattern_tells x.pattern y.pattern (sym keys.of_pattern ∙ text_one b.value.code.items d.value.code.items f ∙ its.of_pattern);
+          pattern = pattern_tells x.pattern y.pattern (sym keys.of_pattern.code ∙ text_one b.value.code.items d.value.code.items code.1 ∙ its.of_pattern.code);
         }
 
 -- ---- equal keys find the same

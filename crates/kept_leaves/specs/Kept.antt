@@ -7,8 +7,7 @@ use Rattle.std.specs.Ordering.{nat_cmp, ordering_then}
 use Rattle.std.specs.Cmp.Lexicographic.{slice_cmp}
 use Rattle.piece_form.specs.declared.key.PieceKey.{PieceKey}
 use Rattle.piece_form.specs.declared.key.PatternKey.{PatternKey}
-use Rattle.piece_form.specs.Code.{pattern_code}
-use Rattle.piece_form.specs.Keys.{IsKeyOf}
+use Rattle.piece_form.specs.Keys.{IsKeyOf, IsPatternKeyOf}
 use Rattle.piece_match.specs.Pieces.{IsPieceMember, known_piece}
 use Rattle.piece_store.specs.declared.store.Store.{Store}
 use Rattle.piece_store.specs.Kept.{kept, IsSound}
@@ -31,8 +30,9 @@ PatternRef = Rc PatternKey Global
 abbrev pub piece_cmp : PieceRef → PieceRef → Ordering
 piece_cmp a b = ordering_then (nat_cmp a.value.size b.value.size) (ordering_then (slice_cmp nat_cmp a.value.bytes.items b.value.bytes.items) (slice_cmp nat_cmp a.value.code.items b.value.code.items))
 
+-- by the number made from the code, then by the code
 abbrev pub pattern_cmp : PatternRef → PatternRef → Ordering
-pattern_cmp a b = slice_cmp nat_cmp a.value.code.items b.value.code.items
+pattern_cmp a b = ordering_then (nat_cmp a.value.sum b.value.sum) (slice_cmp nat_cmp a.value.code.items b.value.code.items)
 
 -- what is kept for a path, a piece and a pattern by their keys: the leaf, and whether the pair was met since the last turn
 abbrev pub Map : Type 0
@@ -41,7 +41,7 @@ Map = List ℕ → PieceRef → PatternRef → Option (KeptLeaf × Bool)
 -- these are keys of the pair's piece and pattern
 pub record AreKeys (x : Pair) (piece : PieceRef) (pattern : PatternRef) : Type 0 where
   pub of_piece : IsKeyOf x.piece piece.value
-  pub of_pattern : pattern.value.code.items ≡ pattern_code x.pattern
+  pub of_pattern : IsPatternKeyOf x.pattern pattern.value
 
 -- ---- pairs that are kept
 

@@ -3,8 +3,7 @@ use Rattle.std.specs.Prelude.{◌≡◌, ◌++◌, ℕ, List, [], map, length, s
 use Rattle.std.specs.declared.cmp.Ordering.TheVariants.{Equal}
 use Rattle.std.specs.BTreeMap.{BTreeMap, get}
 use Rattle.node_tree.specs.declared.view.Pattern.{Pattern}
-use Rattle.piece_form.specs.Code.{pattern_code}
-use Rattle.piece_form.specs.Keys.{IsKeyOf}
+use Rattle.piece_form.specs.Keys.{IsKeyOf, IsPatternKeyOf}
 use Rattle.open_store.specs.declared.held.HeldRow.{HeldRow}
 use Rattle.open_store.specs.InHand.{held, IsOpen}
 use Rattle.file_parts.specs.Parts.{SeenPart}
@@ -48,7 +47,7 @@ pub record ArePlacesOf (pieces : List PieceRef) (places : List ℕ) (parts : Lis
 -- the pattern has that number
 pub record IsNumberOf (leaves : OpenLeaves) (number : ℕ) (pattern : Pattern) : Type 0 where
   pub key : PatternRef
-  pub of_pattern : key.value.code.items ≡ pattern_code pattern
+  pub of_pattern : IsPatternKeyOf pattern key.value
   pub found : get pattern_cmp leaves.store.store.numbers key ≡ Some number
 
 -- the path and the pieces in hand stay

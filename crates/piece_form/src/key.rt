@@ -1,14 +1,13 @@
 //! The keys of pieces and patterns.
 
-ghost use Rattle.std.specs.Prelude.{◌≡◌, IfOk};
-ghost use Rattle.piece_form.specs.Code.{pattern_code};
-ghost use Rattle.piece_form.specs.Keys.{IsKeyOf};
+ghost use Rattle.std.specs.Prelude.{IfOk};
+ghost use Rattle.piece_form.specs.Keys.{IsKeyOf, IsPatternKeyOf};
 
 use crate::piece::Piece;
 use crate::written::add_known;
 use node_tree::{Memory, Pattern};
 use std::alloc::Global;
-use tree_code::{Look, add_tree};
+use tree_code::{Look, add_tree, mix};
 
 // How many bytes of a key a byte of a piece takes, about.
 const CODE_BYTES: usize = 4;
@@ -42,16 +41,18 @@ impl PieceKey {
     }
 }
 
-/// A pattern as a key: written as bytes.
+/// A pattern as a key: a number made from the bytes as which it is written, and these. Keys are in that order, so most are told apart
+/// without a look at the bytes.
 #[derive(Debug, PartialEq, Eq, PartialOrd, Ord, Drop)]
 pub struct PatternKey {
+    pub sum: u32,
     pub code: Vec<u8>,
 }
 
 impl PatternKey {
     /// The key of a pattern. `Memory` is also the answer where a length in it passes the largest `u32`.
     pub fn of(alloc: Global, pattern: &Pattern) -> Result<PatternKey, Memory>
-        ensures { IfOk result (λ key. key.code.items ≡ pattern_code pattern.now) }
+        ensures { IfOk result (IsPatternKeyOf pattern.now) }
     {
         let mut code = Vec::new(alloc);
         code.push(pattern.lang as u8)?;
@@ -59,6 +60,7 @@ impl PatternKey {
         code.push(pattern.constants as u8)?;
         add_tree(&mut code, &pattern.tree, Look::Whole)?;
         code.shrink_to_fit();
-        Ok(PatternKey { code })
+        let sum = mix(0, code.as_slice());
+        Ok(PatternKey { sum, code })
     }
 }

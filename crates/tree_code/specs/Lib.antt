@@ -1,4 +1,5 @@
 pub mod Code
+pub mod Sums
 pub mod Heads
 pub mod Looks
 pub mod Reads

@@ -7,8 +7,10 @@
 mod front;
 mod head;
 mod look;
+mod sum;
 mod written;
 
 pub use front::Front;
 pub use look::Look;
+pub use sum::mix;
 pub use written::{add_length, add_number, add_text, add_tree};

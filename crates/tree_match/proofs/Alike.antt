@@ -8,7 +8,8 @@ use Rattle.node_tree.specs.Tree.{kind_of, text_of, kids_of, content_of, content_
 use Rattle.node_tree.specs.declared.kind.Kind.{Kind}
 use Rattle.node_tree.proofs.Trees.{pre_is, parts_from_content}
 use Rattle.node_pool.proofs.Induction.{Each, by_kids}
-use Rattle.tree_match.specs.Checksums.{mixed, checksum_all, checksum}
+use Rattle.tree_code.specs.Sums.{mixed}
+use Rattle.tree_match.specs.Checksums.{checksum_all, checksum}
 
 pub checksum_joined : (sum : ℕ) (ns ms : List Node) → checksum_all sum (ns ++ ms) ≡ checksum_all (checksum_all sum ns) ms
 checksum_joined sum [] ms = refl

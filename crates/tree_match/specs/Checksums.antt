@@ -1,15 +1,11 @@
 -- Numbers made from kinds and texts.
 use Rattle.std.specs.Prelude.{ℕ, ◌+◌, ◌*◌, ◌%◌, List, [], ◌∷◌}
+use Rattle.tree_code.specs.Sums.{mixed}
 use Rattle.node_tree.specs.declared.node.Node.{Node}
 use Rattle.node_tree.specs.Order.{kind_place}
 use Rattle.node_tree.specs.Tree.{kind_of, text_of, content_kind, pre_of}
 
--- a number made from the bytes, and from one made from what came before them
-abbrev pub mixed : ℕ → List ℕ → ℕ
-mixed sum [] = sum
-mixed sum (b ∷ bs) = mixed ((sum * 31 + b) % 65536) bs
-
--- the same from the kinds and texts of these nodes
+-- a number made from the kinds and texts of these nodes, and from one made from what came before them
 abbrev pub checksum_all : ℕ → List Node → ℕ
 checksum_all sum [] = sum
 checksum_all sum (n ∷ ns) = checksum_all (mixed ((sum * 31 + kind_place (content_kind (kind_of n))) % 65536) (text_of n)) ns

@@ -1,6 +1,7 @@
 use Rattle.std.proofs.Common.{◌∙◌, ℕ, List, refl, sym, ap, subst}
 use Rattle.node_tree.specs.declared.view.Pattern.{Pattern}
 use Rattle.piece_form.specs.declared.key.PatternKey.{PatternKey}
+use Rattle.piece_form.specs.Keys.{IsPatternKeyOf}
 use Rattle.file_parts.specs.declared.joining.PartLeaf.{PartLeaf}
 use Rattle.file_parts.specs.Leaves.{AreLeavesOf}
 use Rattle.file_parts.specs.Parts.{needed_of}
@@ -31,7 +32,7 @@ meet_needed-requires-clause-number g c =
     let mid : OpenLeaves = record { store = c.number.new.self } in
     let numbered : IsNumberOf mid c.in_ok-number.number c.args.pattern.now = record {
       key = c.in_ok-key.key;
-      of_pattern = ap (λ (k : PatternKey). k.code.items) c.in_ok-key.ensures.ok ∙ c.in_ok-of.ensures;
+      of_pattern = (let K : PatternKey → Type 0 = λ k. IsPatternKeyOf c.args.pattern.now k in subst K (sym c.in_ok-key.ensures.ok) c.in_ok-of.ensures);
       found = c.in_ok-number.ensures.number;
     } in
     let P : Pattern → Type 0 = λ q. IsNumberOf mid c.in_ok-number.number q in
@@ -42,7 +43,7 @@ leaves_of-requires-clause-number g c =
     let mid : OpenLeaves = record { store = c.number.new.self } in
     let numbered : IsNumberOf mid c.in_ok-number.number c.args.pattern.now = record {
       key = c.in_ok-key.key;
-      of_pattern = ap (λ (k : PatternKey). k.code.items) c.in_ok-key.ensures.ok ∙ c.in_ok-of.ensures;
+      of_pattern = (let K : PatternKey → Type 0 = λ k. IsPatternKeyOf c.args.pattern.now k in subst K (sym c.in_ok-key.ensures.ok) c.in_ok-of.ensures);
       found = c.in_ok-number.ensures.number;
     } in
     number_stays mid c.meet_needed.new.leaves c.in_ok-found.ensures.stays c.in_ok-number.number c.args.pattern.now numbered
