@@ -1,12 +1,12 @@
 #!/usr/bin/env python3
-"""Compares where patterns of lists and objects match with a plain search that tries every way.
+"""Compares where patterns of lists, objects and calls match with a plain search that tries every way.
 
     tools/compare_lists.py [--program PROGRAM] [--runs N] [--seed N]
 
 PROGRAM is the program as `./semscan` built it, if none is given. Each run makes an array of numbers, arrays and objects, as JSON, and a pattern of `...`,
-names and such items, some of them lists in lists, and matches it by `semscan match json`. The search here goes through the items one by one, tries each number
-of items for `...`, and each member of an object for a member of its pattern; it knows nothing of semscan's code. Where both differ, text and pattern are
-printed, and the status is 1.
+names and such items, some of them lists in lists, and matches it by `semscan match json`. With calls in place of objects the same is done by `semscan match
+python`. The search here goes through the items one by one, tries each number of items for `...`, and each member of an object, and each argument with a name,
+for one of its pattern; it knows nothing of semscan's code. Where both differ, text and pattern are printed, and the status is 1.
 """
 import argparse
 import random
@@ -20,6 +20,15 @@ class Members(list):
     """The members of an object, each a key and a value, or `...` in a pattern."""
 
 
+class Call(list):
+    """The arguments of a call of `f`: items, pairs of a name and an item, and in a pattern `...`."""
+
+
+def argument_text(argument):
+    """An argument as Python."""
+    return '%s=%s' % (argument[0], text_of(argument[1])) if isinstance(argument, tuple) else text_of(argument)
+
+
 def member_text(member):
     """A member as JSON."""
     return member if member == '...' else '%s:%s' % (member[0], text_of(member[1]))
@@ -29,6 +38,8 @@ def text_of(item):
     """An item as JSON."""
     if isinstance(item, Members):
         return '{' + ','.join(member_text(one) for one in item) + '}'
+    if isinstance(item, Call):
+        return 'f(' + ','.join(argument_text(one) for one in item) + ')'
     return '[' + ','.join(text_of(one) for one in item) + ']' if isinstance(item, list) else item
 
 
@@ -41,6 +52,15 @@ def spans(item, start, out):
             out.append((key, at, at + len(key)))
             spans(value, at + len(key) + 1, out)
             at += len(member_text((key, value))) + 1
+    elif isinstance(item, Call):
+        at = start + 2
+        for one in item:
+            if isinstance(one, tuple):
+                out.append((one[0], at, at + len(one[0])))
+                spans(one[1], at + len(one[0]) + 1, out)
+            else:
+                spans(one, at, out)
+            at += len(argument_text(one)) + 1
     elif isinstance(item, list):
         at = start + 1
         for one in item:
@@ -59,8 +79,14 @@ def ways(pattern, item, bound, places):
         if isinstance(item, Members):
             asked = [one for one in pattern if one != '...']
             yield from choices(asked, len(asked) < len(pattern), list(item), bound, places)
+    elif isinstance(pattern, Call):
+        if isinstance(item, Call):
+            named = [one for one in pattern if isinstance(one, tuple)]
+            others = [one for one in pattern if not isinstance(one, tuple)]
+            for one in rows(others, [given for given in item if not isinstance(given, tuple)], bound, places):
+                yield from choices(named, '...' in others, [given for given in item if isinstance(given, tuple)], one, places)
     elif isinstance(pattern, list):
-        if isinstance(item, list) and not isinstance(item, Members):
+        if type(item) is list:
             yield from rows(pattern, item, bound, places)
     elif pattern == '$_':
         yield bound
@@ -110,14 +136,14 @@ def wanted(pattern, array):
     return lines
 
 
-def array_of(random, size, values, depth):
-    """An array of so many items."""
+def array_of(random, size, values, depth, calls):
+    """An array of so many items, some of them arrays, and objects or calls."""
     items = []
     for _ in range(size):
         if depth and random.random() < 0.05:
-            items.append(object_of(random, random.choice([0, 1, 2, 3, 5]), values, depth - 1))
+            items.append((call_of if calls else object_of)(random, random.choice([0, 1, 2, 3, 5]), values, depth - 1))
         elif depth and random.random() < 0.04:
-            items.append(array_of(random, random.choice([0, 1, 2, 3, 33]), values, depth - 1))
+            items.append(array_of(random, random.choice([0, 1, 2, 3, 33]), values, depth - 1, calls))
         else:
             items.append(Item(random.randrange(values)))
     return items
@@ -130,7 +156,25 @@ def key_of(random, values):
 
 def object_of(random, size, values, depth):
     """An object of so many members, some with the same key."""
-    return Members((Item(key_of(random, values)), array_of(random, 1, values, depth)[0]) for _ in range(size))
+    return Members((Item(key_of(random, values)), array_of(random, 1, values, depth, False)[0]) for _ in range(size))
+
+
+def call_of(random, size, values, depth):
+    """A call with so many arguments, of which some have a name, each another one."""
+    named = random.randint(0, size)
+    names = [Item('k%d' % name) for name in random.sample(range(40), named)]
+    return Call(array_of(random, size - named, values, depth, True) + [(name, array_of(random, 1, values, depth, True)[0]) for name in names])
+
+
+def arguments_of(random, values, depth):
+    """A pattern of a call, with at most three arguments that have a name."""
+    parts = Call(pattern_of(random, values, depth, True))
+    for name in random.sample(['$K', '$L', '$M', 'k1', 'k2'], random.randint(0, 3)):
+        item = pattern_of(random, values, depth - 1, True) if depth and random.random() < 0.2 else random.choice(['$X', '$X', '$Y', str(random.randrange(values))])
+        parts.append((name, item))
+    if random.random() < 0.5 and '...' not in parts:
+        parts.append('...')
+    return parts
 
 
 def members_of(random, values, depth):
@@ -139,7 +183,7 @@ def members_of(random, values, depth):
     for _ in range(random.randint(0, 3)):
         key = random.choice(['$K', '$K', '$L', '$_', key_of(random, values)])
         if depth and random.random() < 0.3:
-            parts.append((key, pattern_of(random, values, depth - 1)))
+            parts.append((key, pattern_of(random, values, depth - 1, False)))
         else:
             parts.append((key, random.choice(['$X', '$X', '$Y', '$_', str(random.randrange(values))])))
     if random.random() < 0.6:
@@ -147,7 +191,7 @@ def members_of(random, values, depth):
     return parts
 
 
-def pattern_of(random, values, depth):
+def pattern_of(random, values, depth, calls):
     """A pattern of an array, with `...` at most three times, since each may take any number of items."""
     parts = []
     for _ in range(random.randint(1, 6)):
@@ -159,9 +203,9 @@ def pattern_of(random, values, depth):
         elif kind < 0.85 or not depth:
             parts.append(str(random.randrange(values)))
         elif kind < 0.93:
-            parts.append(members_of(random, values, depth - 1))
+            parts.append((arguments_of if calls else members_of)(random, values, depth - 1))
         else:
-            parts.append(pattern_of(random, values, depth - 1))
+            parts.append(pattern_of(random, values, depth - 1, calls))
     return parts
 
 
@@ -175,10 +219,15 @@ def main():
     compared = matches = crowded = 0
     for _ in range(given.runs):
         values = source.choice([1, 3, 20, 100])
-        array = array_of(source, source.choice([3, 8, 31, 32, 33, 40]), values, 2)
-        pattern = source.choice([pattern_of, pattern_of, members_of])(source, values, 2)
+        calls = source.random() < 0.5
+        size = source.choice([3, 8, 31, 32, 33, 40])
+        array = call_of(source, source.choice([3, 9, 12]), values, 2) if calls and source.random() < 0.5 else array_of(source, size, values, 2, calls)
+        if source.random() < 0.67:
+            pattern = pattern_of(source, values, 2, calls)
+        else:
+            pattern = (arguments_of if calls else members_of)(source, values, 2)
         lines = wanted(pattern, array)
-        asked = [given.program, 'match', 'json', text_of(pattern)]
+        asked = [given.program, 'match', 'python' if calls else 'json', text_of(pattern)]
         told = subprocess.run(asked, input=text_of(array), capture_output=True, text=True)
         found = told.stdout.splitlines()
         if len(lines) > 10_000:
@@ -192,7 +241,7 @@ def main():
             return 1
         compared += 1
         matches += len(lines)
-    print('%d arrays with %d matches, %d with more than 10,000: no difference' % (compared, matches, crowded))
+    print('%d texts with %d matches, %d with more than 10,000: no difference' % (compared, matches, crowded))
     return 0
 
 

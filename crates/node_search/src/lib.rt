@@ -15,7 +15,7 @@ pub use choice::Choice;
 pub use holder::Holder;
 pub use list::{alone, count_kids, enter, finish, part_of, place, put, span_of_run};
 pub use matched::is_matched;
-pub use search::{choose, choose_kids, relate, step_at};
+pub use search::{choose, choose_kids, relate, step_at, step_unnamed};
 pub use state::State;
 pub use steady::{are_steady, is_steady};
 pub use taken::mark;

@@ -378,9 +378,9 @@ fn arguments<'t>(
     Ok(())
 }
 
-// Where an argument leads from these states, if it has no name.
+/// Where an argument leads from these states, if it has no name.
 #[cycle(search)]
-fn step_unnamed<'t>(
+pub fn step_unnamed<'t>(
     alloc: Global,
     known: Constants<'_>,
     pattern: &'t Node,

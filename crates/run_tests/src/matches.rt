@@ -64,6 +64,10 @@ fn prints_where_a_pattern_matches(rt: HostRuntime) -> Result<(), Fail> {
         "json ⇒ [{$A: $B, $C: $D, ...}, $B] ⇒ [{\"a\":1,\"b\":2},2] ⇒ 0..17 $A=8..11 $B=12..13 $C=2..5 $D=6..7\n",
         "json ⇒ [{$K: [..., $X, ...], $L: $X, ...}, 1] ⇒ [{\"p\":[1,2],\"q\":2,\"r\":3},1] ⇒ 0..27 $K=2..5 $L=12..15 $X=9..10\n",
         "json ⇒ [{$A: 1, $B: 2}, ...] ⇒ [{\"x\":2,\"y\":1},{\"x\":2,\"y\":1,\"z\":1}] ⇒ 0..35 $A=8..11 $B=2..5\n",
+        // Arguments of which some have a name: more than a few, and some inside which a search goes on.
+        "python ⇒ f(..., $X, ..., k=$X) ⇒ f(1,2,3,4,5,6,7,8,k=3)\n ⇒ 0..22 $X=6..7\n",
+        "python ⇒ f($A=$X, $B=$X, ...) ⇒ f(0,0,0,0,0,0,0,a=1,b=2,c=1)\n ⇒ 0..28 $A=16..17 $B=24..25 $X=18..19\n0..28 $A=24..25 $B=16..17 $X=26..27\n",
+        "python ⇒ g(f([..., $X, ...], k=$X), $X) ⇒ g(f([1,2],k=2),2)\n ⇒ 0..17 $X=7..8\n",
         "json ⇒ 1 ⇒  ⇒ BadTarget",
         "json ⇒ 1 ⇒ [1,] ⇒ BadTarget",
         "json ⇒ ... ⇒ 1 ⇒ BadPattern",

@@ -1,5 +1,5 @@
 -- What a search finds where parts of a pattern choose among kids.
-use Rattle.std.proofs.Common.{◌≡◌, ◌⊎◌, inl, inr, ◌↔◌, ℕ, ◌+◌, zero, suc, ◌<◌, ◌≤◌, List, [], ◌∷◌, ◌++◌, length, drop, get_or, set, refl, sym, ap, ◌∙◌, subst, arith, Bool, true, false}
+use Rattle.std.proofs.Common.{◌≡◌, ◌⊎◌, inl, inr, ◌↔◌, ℕ, ◌+◌, zero, suc, ◌<◌, ◌≤◌, List, [], ◌∷◌, ◌++◌, length, drop, get_or, set, refl, sym, ◌∙◌, subst, arith, Bool, true, false}
 use Rattle.std.proofs.lemmas.List.{drop_all, get_or_default}
 use Rattle.node_tree.specs.declared.node.Node.{Node}
 use Rattle.node_tree.specs.declared.known.Known.{Known}
@@ -10,24 +10,25 @@ use Rattle.node_pool.specs.Spots.{seen, all_seen}
 use Rattle.meta_bind.specs.declared.bound.Bound.{Bound}
 use Rattle.node_match.specs.Sets.{Among, Adds, AddsUpTo}
 use Rattle.node_match.specs.Free.{Part, parts_of}
-use Rattle.node_match.specs.Fronts.{End, Leads, MatchesFront, no_part_front}
+use Rattle.node_match.specs.Fronts.{End, Leads, no_part_front}
 use Rattle.node_match.specs.Orders.{order_of, chooses, choosers}
-use Rattle.node_match.specs.Choices.{untaken, Chosen, TakesAt, TakesFrom, Picked}
+use Rattle.node_match.specs.Choices.{untaken, Chosen, TakesAt, TakesFrom}
 use Rattle.node_match.specs.declared.order.Order.TheVariants.{Fixed}
-use Rattle.node_match.specs.Relation.{Matches, MatchesKids}
+use Rattle.node_match.specs.Relation.{Matches, MatchesKids, MatchesList}
 use Rattle.node_match.proofs.FrontLaws.{whole_front}
 use Rattle.node_match.proofs.Inversion.{ordered_kids}
-use Rattle.node_match.proofs.Parts.{parts_as_many}
 use Rattle.node_match.proofs.Sets.{chain, adds_up_as}
 use Rattle.node_match.proofs.Choosing.{takes, take_more, chosen_as, choosers_from, picked_last, none_picked, seen_many, seen_at}
 use Rattle.node_search.specs.declared.state.State.{State}
-use Rattle.node_search.specs.States.{line_of, AnyFrom, AddsFrom, Entered}
+use Rattle.node_search.specs.States.{AnyFrom, AddsFrom, Entered}
+use Rattle.node_search.specs.Kids.{line}
 use Rattle.tree_match.specs.declared.aim.Search.{Search}
 use Rattle.tree_match.specs.declared.choosing.Choosing.{Choosing}
 use Rattle.tree_match.specs.Members.{Member}
 use Rattle.tree_match.specs.Aims.{GivesIn, FoundFrom, FoundAt, TakesAll}
 use Rattle.tree_match.specs.Choosings.{FoundBy, FoundChoice, FoundTaking, FoundMatched, FoundPicked}
 use Rattle.tree_match.specs.Insides.{IsByKids}
+use Rattle.tree_match.proofs.LeftLaws.{none_left, whole_left}
 
 module _ (s : Search) (m : Member) where
   -- the same, said otherwise
@@ -45,36 +46,45 @@ module _ (s : Search) (m : Member) where
   by_none P none (c, _, x) = none c x
 
   -- a search that takes all kids, in order
-  pub by_order : (b : List Bound) → TakesAll s → order_of s.pattern.now ≡ Fixed → FoundAt s false 0 0 b m ↔ FoundBy s (MatchesKids s.known.names.now s.pattern.now (seen s.holder.spot) b) m
-  by_order b whole fixed =
-      let C = s.known.names.now in
-      let p = s.pattern.now in
-      let h = seen s.holder.spot in
-      let same : (c : List Bound) → Leads C h (parts_of p) (kids_at h) b ([], c) ↔ MatchesKids C p h b c = λ c.
-      let front = whole_front C h (parts_of p) (kids_at h) b c in
-      let listed = ordered_kids C p h b c fixed in
-      (λ x. listed.0 (front.0 x), λ x. front.1 (listed.1 x)) in (
-        λ (e, gives, x).
-            let none = whole m e gives in
-            let G : List Numbered → Type 0 = λ ns. GivesIn s m (ns, e.1) in
-            let L : List Numbered → Type 0 = λ ns. Leads C h (parts_of p) (kids_at h) b (ns, e.1) in
-            (e.1, subst G none gives, (same e.1).0 (subst L none x)),
-        λ (c, gives, x). (([], c), gives, (same c).1 x),
-      )
+  module _ (b : List Bound) (whole : TakesAll s) where
+    abbrev FoundAlong : List Part → List Numbered → Type 0
+    FoundAlong ps ns = (e : End) × GivesIn s m e × Leads s.known.names.now (seen s.holder.spot) ps ns b e
+
+    along : (ps : List Part) (ns : List Numbered) → FoundAlong ps ns ↔ FoundBy s (MatchesList s.known.names.now (seen s.holder.spot) ps ns b) m
+    along ps ns =
+        let C = s.known.names.now in
+        let h = seen s.holder.spot in (
+          λ (e, gives, x).
+              let none = whole m e gives in
+              let G : List Numbered → Type 0 = λ ks. GivesIn s m (ks, e.1) in
+              let L : List Numbered → Type 0 = λ ks. Leads C h ps ns b (ks, e.1) in
+              (e.1, subst G none gives, (whole_front C h ps ns b e.1).0 (subst L none x)),
+          λ (c, gives, x). (([], c), gives, (whole_front C h ps ns b c).1 x),
+        )
+
+    pub by_order : s.unnamed ≡ false → order_of s.pattern.now ≡ Fixed → FoundAt s false 0 0 b m ↔ FoundBy s (MatchesKids s.known.names.now s.pattern.now (seen s.holder.spot) b) m
+    by_order all fixed =
+        let C = s.known.names.now in
+        let p = s.pattern.now in
+        let h = seen s.holder.spot in
+        let A : List Part → Type 0 = λ ps. FoundAlong ps (all_seen s.holder.kids.now) ↔ FoundBy s (MatchesKids C p h b) m in
+        let B : List Numbered → Type 0 = λ ks. FoundAlong (parts_of p) ks ↔ FoundBy s (MatchesKids C p h b) m in
+        subst A (sym (whole_left s.unnamed p 0 all)) (subst B (sym (s.kin all).are) (chain _ _ _ (along (parts_of p) (kids_at h)) (by_as _ _ (λ c. ordered_kids C p h b c fixed))))
 
   -- states after all kids, one for each of these bindings
-  module _ (none ends : List State) (found : List (List Bound)) (end : ℕ) (empty : none ≡ []) (past : length (kids_at (seen s.holder.spot)) ≤ end)
+  module _ (none ends : List State) (found : List (List Bound)) (end : ℕ) (empty : none ≡ []) (past : length (all_seen s.holder.kids.now) ≤ end)
       (enters : (C : List Known) (l : _) → AddsFrom C l none ends (λ ps c. Entered C l ps end found c)) where
     pub by_ends : FoundFrom s (length (kids_of s.pattern.now)) ends m ↔ FoundBy s (λ c. Among found c) m
     by_ends =
         let C = s.known.names.now in
         let h = seen s.holder.spot in
+        let l = line s.holder in
         let n : ℕ = length (kids_of s.pattern.now) in
-        let no_part : drop n (parts_of s.pattern.now) ≡ [] = drop_all n (parts_of s.pattern.now) (omega (arith, parts_as_many s.pattern.now)) in
-        let no_kid : drop end (kids_at h) ≡ [] = drop_all end (kids_at h) past in (
+        let no_part = none_left s.unnamed s.pattern.now n (omega arith) in
+        let no_kid : drop end l.kids ≡ [] = drop_all end l.kids past in (
           λ (e, gives, x).
-              let P : List Part → Type 0 = λ ps. AnyFrom C (line_of h) ps ends e in
-              elim ((enters C (line_of h) [] e).0 (subst P no_part x)) [
+              let P : List Part → Type 0 = λ ps. AnyFrom C l ps ends e in
+              elim ((enters C l [] e).0 (subst P no_part x)) [
                 | inl (state, among, _) ↦ (let Q : List State → Type 0 = λ xs. Among xs state in absurd (subst Q empty among))
                 | inr (d, among, y) ↦ (let K : List Numbered → Type 0 = λ ns. Leads C h [] ns d e in
                     let (rest, same) = ended e d (subst K no_kid y) in
@@ -83,9 +93,9 @@ module _ (s : Search) (m : Member) where
                     (e.1, subst G (sym rest) gives, subst A same among))
               ],
           λ (c, gives, among).
-              let P : List Part → Type 0 = λ ps. AnyFrom C (line_of h) ps ends ([], c) in
+              let P : List Part → Type 0 = λ ps. AnyFrom C l ps ends ([], c) in
               let K : List Numbered → Type 0 = λ ns. Leads C h [] ns c ([], c) in
-              (([], c), gives, subst P (sym no_part) ((enters C (line_of h) [] ([], c)).1 (inr (c, among, subst K (sym no_kid) no_part_front)))),
+              (([], c), gives, subst P (sym no_part) ((enters C l [] ([], c)).1 (inr (c, among, subst K (sym no_kid) no_part_front)))),
         )
       where
         ended : (e : End) (d : List Bound) → Leads s.known.names.now (seen s.holder.spot) [] [] d e → ([] ≡ e.0) × (d ≡ e.1)

@@ -8,7 +8,8 @@ use Rattle.node_tree.specs.declared.known.Known.{Known}
 use Rattle.node_tree.specs.Tree.{kind_of, kids_of}
 use Rattle.node_tree.specs.Kinds.{is_literal}
 use Rattle.node_tree.specs.Numbers.{Numbered, kids_at}
-use Rattle.node_pool.specs.Spots.{seen}
+use Rattle.node_pool.specs.Spots.{seen, all_seen}
+use Rattle.node_search.specs.Kids.{line}
 use Rattle.meta_bind.specs.declared.bound.Bound.{Bound}
 use Rattle.node_match.specs.declared.class.Role.{Role}
 use Rattle.node_match.specs.declared.class.Role.TheVariants as roles
@@ -17,17 +18,18 @@ use Rattle.node_search.specs.declared.state.State.{State}
 use Rattle.node_match.specs.Kinds.{role_of, IsOne}
 use Rattle.node_match.specs.Free.{Part, parts_of, HasText}
 use Rattle.node_match.specs.Orders.{order_of, order_by, some_is, has_dots, is_list, is_named, is_arguments, named_of, unnamed_of, named_at, unnamed_at, all_asked}
-use Rattle.node_match.specs.Relation.{Matches, MatchesKid, MatchesKids, MatchesChoice, MatchesList, no_choice, nodes_of}
+use Rattle.node_match.specs.Relation.{MatchesKid, MatchesChoice, MatchesList, no_choice, nodes_of}
 use Rattle.node_match.specs.Fronts.{End, Leads}
 use Rattle.node_match.specs.Choices.{Chosen}
 use Rattle.node_match.proofs.Sets.{chain}
 use Rattle.node_match.proofs.Numbering.{kids_nodes}
-use Rattle.node_match.proofs.Arguments.{kid_itself, kid_arguments, arguments_listed, list_parts, all_unnamed, all_unnamed_at, Parted, parted_arguments}
+use Rattle.node_match.proofs.Arguments.{kid_itself, kid_arguments, arguments_listed, arguments_one, arguments_unrun, list_parts, all_unnamed, all_unnamed_at, Parted, parted_arguments}
 use Rattle.node_match.proofs.Inversion.{no_literal, ordered_kids}
 use Rattle.node_search.proofs.Going.{heads}
 use Rattle.tree_match.specs.declared.place.Inside.{Inside}
-use Rattle.tree_match.specs.Aims.{Onward}
-use Rattle.tree_match.specs.Insides.{IsInOrder, IsByKids, IsKidByKids, Opens}
+use Rattle.tree_match.specs.declared.aim.Search.{Search}
+use Rattle.tree_match.specs.Aims.{Onward, left_of}
+use Rattle.tree_match.specs.Insides.{MatchesBy, IsInOrder, IsByKids, IsKidBy, IsWay, Opens}
 use Rattle.tree_match.proofs.Spreads.{Reached, ReachedAt, state_after}
 
 -- ---- no argument has a name
@@ -119,7 +121,7 @@ module _ (q n : Node) (role : role_of (kind_of q) ≡ roles.Plain) (unheld : is_
         (λ x. (no_literal C q s b role unheld c).0 (k, t, x), λ x. let y = (no_literal C q s b role unheld c).1 x in y.2);
   }
 
-pub kid_by_kids : (holder : Kind) (q n : Node) → is_arguments holder q ≡ false → IsByKids q n → IsKidByKids holder q n
+pub kid_by_kids : (holder : Kind) (q n : Node) → is_arguments holder q ≡ false → IsByKids q n → IsKidBy false holder q n
 kid_by_kids holder q n other by = record {
   one = by.one;
   same = λ C h s held same b c. chain _ _ _ (by.same C s same b c) (kid_itself C h q s b c (ap (λ (j : Kind). is_arguments j q) held ∙ other));
@@ -129,7 +131,7 @@ listed_fixed : (k : Kind) (ps : List Node) → is_list k ≡ true → order_by k
 listed_fixed kinds.List ps e = refl
 listed_fixed _ ps e = absurd (let f : false ≡ true = e in cc)
 
-pub arguments_by_kids : (holder : Kind) (q n : Node) → is_arguments holder q ≡ true → IsInOrder holder q n → IsKidByKids holder q n
+pub arguments_by_kids : (holder : Kind) (q n : Node) → is_arguments holder q ≡ true → IsInOrder holder q n → IsKidBy false holder q n
 arguments_by_kids holder q n are in_order = record {
   one = in_order.one;
   same = λ C h s held same b c.
@@ -137,30 +139,47 @@ arguments_by_kids holder q n are in_order = record {
       chain _ _ _ (listed.1, listed.0) (in_order.same C h s held same b c);
 }
 
+-- ---- as arguments
+
+pub by_arguments : (holder : Kind) (q n : Node) → is_arguments holder q ≡ true → IsKidBy true holder q n
+by_arguments holder q n are = record {
+  one = arguments_one holder q are;
+  same = λ C h s held same b c. kid_arguments C h q s b c (ap (λ (j : Kind). is_arguments j q) held ∙ are);
+}
+
+pub way_by_kids : (holder : Kind) (q n : Node) → IsKidBy false holder q n → IsWay false holder q n
+way_by_kids holder q n by = record { by_kids = by; are = λ e. absurd (let f : false ≡ true = e in cc) }
+
+pub way_by_arguments : (holder : Kind) (q n : Node) → is_arguments holder q ≡ true → (kind_of q ≡ kind_of n) × HasText q n → IsWay true holder q n
+way_by_arguments holder q n are (k, t) = record { by_kids = by_arguments holder q n are; are = λ _. (k, t, arguments_unrun holder q are) }
+
 -- ---- members
 
 module _ (C : List Known) where
   -- a part that matches a kid in that way leads as its kids do, and then the other parts
-  inside_leads : (h : Numbered) (q : Node) (kid : Numbered) (ps : List Part) (ns : List Numbered) (b : List Bound) (f : End) → IsKidByKids (kind_of h.node) q kid.node
-      → ((d : List Bound) × MatchesKids C q kid b d × Leads C h ps ns d f) ↔ Leads C h (Some q ∷ ps) (kid ∷ ns) b f
-  inside_leads h q kid ps ns b f by =
-      let each : (d : List Bound) → MatchesKids C q kid b d ↔ MatchesKid C h q kid b d = λ d. by.same C h kid refl refl b d in
+  inside_leads : (way : Bool) (h : Numbered) (q : Node) (kid : Numbered) (ps : List Part) (ns : List Numbered) (b : List Bound) (f : End) → IsKidBy way (kind_of h.node) q kid.node
+      → ((d : List Bound) × MatchesBy way C q kid b d × Leads C h ps ns d f) ↔ Leads C h (Some q ∷ ps) (kid ∷ ns) b f
+  inside_leads way h q kid ps ns b f by =
+      let each : (d : List Bound) → MatchesBy way C q kid b d ↔ MatchesKid C h q kid b d = λ d. by.same C h kid refl refl b d in
       chain _ _ _ (λ (d, x, y). (d, (each d).0 x, y), λ (d, x, y). (d, (each d).1 x, y)) (heads C h q ps (kid ∷ ns) b f by.one)
 
   -- what is reached inside the next kid, and on after it, is what the state leads to
-  pub inside_reached : (G : End → Type 0) (h : Numbered) (parts : List Part) (from : ℕ) (s : State) (inside : Inside) → Opens h parts from s inside
-      → ((c : List Bound) × Onward C G h (drop inside.from parts) inside.at ([], c) × MatchesKids C inside.part.now (seen inside.kid) s.trail c) ↔ Reached C G h (drop from parts) (s ∷ [])
-  inside_reached G h parts from s inside opens =
+  pub inside_reached : (G : End → Type 0) (s : Search) (from : ℕ) (state : State) (inside : Inside) → Opens s from state inside
+      → ((c : List Bound) × Onward C G (line s.holder) (left_of s inside.from) inside.at ([], c) × MatchesBy inside.arguments C inside.part.now (seen inside.kid) state.trail c) ↔ Reached C G (line s.holder) (left_of s from) (state ∷ [])
+  inside_reached G s from state inside opens =
+      let h = seen s.holder.spot in
+      let kids = all_seen s.holder.kids.now in
+      let way = inside.arguments in
       let q = inside.part.now in
       let kid = seen inside.kid in
-      let ps = drop inside.from parts in
-      let ns = drop inside.at (kids_at h) in
-      let M : List Part → List Numbered → Type 0 = λ xs ys. (f : End) → ((d : List Bound) × MatchesKids C q kid s.trail d × Leads C h ps ns d f) ↔ Leads C h xs ys s.trail f in
-      let N : List Numbered → Type 0 = λ ys. M (drop from parts) ys in
+      let ps = left_of s inside.from in
+      let ns = drop inside.at kids in
+      let M : List Part → List Numbered → Type 0 = λ xs ys. (f : End) → ((d : List Bound) × MatchesBy way C q kid state.trail d × Leads C h ps ns d f) ↔ Leads C h xs ys state.trail f in
+      let N : List Numbered → Type 0 = λ ys. M (left_of s from) ys in
       let K : List Part → Type 0 = λ xs. M xs (kid ∷ ns) in
-      let all : M (drop from parts) (drop s.at (kids_at h)) = subst N (sym opens.next_kid) (subst K (sym opens.next_part) (λ f. inside_leads h q kid ps ns s.trail f opens.by_kids)) in
-      let after : ((c : List Bound) × Onward C G h ps inside.at ([], c) × MatchesKids C q kid s.trail c) ↔ ReachedAt C G false h (drop from parts) s.at s.trail = (
+      let all : M (left_of s from) (drop state.at kids) = subst N (sym opens.next_kid) (subst K (sym opens.next_part) (λ f. inside_leads way h q kid ps ns state.trail f opens.way.by_kids)) in
+      let after : ((c : List Bound) × Onward C G (line s.holder) ps inside.at ([], c) × MatchesBy way C q kid state.trail c) ↔ ReachedAt C G false (line s.holder) (left_of s from) state.at state.trail = (
         λ (c, (_, (f, gives, y)), x). (f, gives, (all f).0 (c, x, y)),
         λ (f, gives, x). let (d, y, z) = (all f).1 x in (d, (refl, (f, gives, z)), y),
       ) in
-      chain _ _ _ after (state_after C G h (drop from parts) s false s.at s.trail opens.stays refl refl)
+      chain _ _ _ after (state_after C G (line s.holder) (left_of s from) state false state.at state.trail opens.stays refl refl)

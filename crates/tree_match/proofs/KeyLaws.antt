@@ -1,5 +1,5 @@
 -- What stands in a kid where a name stands in the pattern.
-use Rattle.std.proofs.Common.{◌≡◌, ◌⊎◌, inl, inr, ℕ, zero, suc, add-one, ◌+◌, ◌<◌, ◌≤◌, List, [], ◌∷◌, ◌++◌, length, drop, get_or, refl, sym, ap, ◌∙◌, subst, arith, true, false}
+use Rattle.std.proofs.Common.{◌≡◌, ◌⊎◌, inl, inr, ℕ, zero, suc, add-one, ◌+◌, ◌<◌, ◌≤◌, List, [], ◌∷◌, ◌++◌, length, drop, get_or, refl, sym, ap, ◌∙◌, subst, arith}
 use Rattle.std.proofs.lemmas.List.{get_or_default}
 use Rattle.std.specs.Prelude.{Option, None, Some, MatchOption}
 use Rattle.node_tree.specs.declared.node.Node.{Node}
@@ -8,7 +8,6 @@ use Rattle.node_tree.specs.declared.known.Known.{Known}
 use Rattle.node_tree.specs.Tree.{kids_of, kind_of, text_of, content_of}
 use Rattle.node_tree.specs.Numbers.{Numbered, kids_at}
 use Rattle.meta_bind.specs.declared.bound.Bound.{Bound}
-use Rattle.meta_bind.specs.Bounds.{bound_at}
 use Rattle.node_match.specs.declared.class.Role.{Role}
 use Rattle.node_match.specs.declared.class.Role.TheVariants as roles
 use Rattle.node_match.specs.Kinds.{role_of, IsOne}

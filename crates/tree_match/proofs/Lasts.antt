@@ -1,5 +1,5 @@
 -- Parts that have to reach the last kid stand on the last kids.
-use Rattle.std.proofs.Common.{◌≡◌, ◌↔◌, ℕ, zero, suc, ◌+◌, ◌-◌, ◌<◌, ◌≤◌, List, [], ◌∷◌, length, drop, refl, sym, ap, ◌∙◌, subst, arith, length-drop, true}
+use Rattle.std.proofs.Common.{◌≡◌, ◌↔◌, ℕ, zero, suc, ◌+◌, ◌-◌, ◌<◌, ◌≤◌, List, [], ◌∷◌, length, drop, refl, sym, ap, ◌∙◌, subst, arith, length-drop, true, false}
 use Rattle.std.specs.Prelude.{None, Some}
 use Rattle.std.proofs.lemmas.List.{drop_all, drop-drop}
 use Rattle.node_tree.specs.declared.known.Known.{Known}
@@ -22,6 +22,7 @@ use Rattle.tree_match.specs.declared.outer.Left.TheVariants.{Kids, Candidates}
 use Rattle.tree_match.specs.Members.{Member}
 use Rattle.node_match.specs.Refused.{all_single}
 use Rattle.tree_match.specs.Aims.{Resumes, GivesOn, FoundFrom, TakesAll}
+use Rattle.tree_match.proofs.LeftLaws.{all_from}
 
 -- ---- how many kids are left
 
@@ -91,7 +92,11 @@ whole_aim s range is m e x =
     whole_given s.known.names.now range (seen s.holder.spot) s.outer.now m e (subst P is x)
 
 -- states that lead to the same ends where all kids are taken
-pub found_whole : (s : Search) (from : ℕ) (old new : List State) (m : Member) → TakesAll s
+pub found_whole : (s : Search) (from : ℕ) (old new : List State) (m : Member) → s.unnamed ≡ false → TakesAll s
     → ((c : End) → c.0 ≡ [] → AnyFrom s.known.names.now (line_of (seen s.holder.spot)) (drop from (parts_of s.pattern.now)) new c ↔ AnyFrom s.known.names.now (line_of (seen s.holder.spot)) (drop from (parts_of s.pattern.now)) old c)
     → FoundFrom s from new m ↔ FoundFrom s from old m
-found_whole s from old new m whole same = (λ (e, gives, x). (e, gives, (same e (whole m e gives)).0 x), λ (e, gives, x). (e, gives, (same e (whole m e gives)).1 x))
+found_whole s from old new m all whole same =
+    let there = λ (states : List State) (e : End). all_from s from states s.known.names.now e all in (
+      λ (e, gives, x). (e, gives, (there old e).0 ((same e (whole m e gives)).0 ((there new e).1 x))),
+      λ (e, gives, x). (e, gives, (there new e).0 ((same e (whole m e gives)).1 ((there old e).1 x))),
+    )

@@ -3,17 +3,19 @@
 ghost use Rattle.std.specs.Prelude.{◌≡◌, ◌↔◌, ◌<◌, ◌≤◌, length, drop, slice_index_or, true, false, IfOk, OnOk};
 ghost use Rattle.node_tree.specs.declared.node.Node.{Node as a_node};
 ghost use Rattle.node_tree.specs.Tree.{kids_of};
-ghost use Rattle.node_match.specs.Orders.{choosers, chooses as is_chooser};
+ghost use Rattle.node_match.specs.Orders.{choosers, chooses as is_chooser, has_runs};
 ghost use Rattle.tree_match.specs.Aims.{FoundFrom};
-ghost use Rattle.tree_match.specs.Choosings.{FoundChoice};
+ghost use Rattle.tree_match.specs.Choosings.{FoundChoice, IsArgumentChoice};
 ghost use Rattle.tree_match.specs.Members.{Member as a_member};
 
 use crate::aim::Search;
+use crate::next_places::NextPlaces;
+use crate::outer::{Candidates, Left, Outer};
 use meta_bind::Trail;
-use node_match::chooses;
+use node_match::{chooses, has_dots};
 use node_pool::Spot;
-use node_search::{Choice, State, are_steady, choose, count_kids, enter};
-use node_tree::{List, Memory};
+use node_search::{Choice, Holder, State, are_steady, choose, enter};
+use node_tree::{List, Memory, Node};
 use std::alloc::Global;
 
 /// A search in which the parts of the pattern choose among some kids of the holder. At the end it goes on as the search says.
@@ -92,6 +94,34 @@ pub fn chosen_ends<'t>(
     choose(alloc, choice, from, taken, trail, &mut found)?;
     let _room = found.len();
     let mut ends = List::new(alloc);
-    enter(&mut ends, count_kids(choosing.search.holder.spot), found)?;
+    enter(&mut ends, choosing.search.holder.kids.len(), found)?;
     Ok(ends)
+}
+
+/// The choice among the arguments of a call that have a name, as a list in which a search goes on after those without one.
+pub fn choice_among<'k, 'p, 't>(
+    pattern: &'t Node,
+    spot: Spot<'p, 't>,
+    nodes: &'k [Spot<'p, 't>],
+    taken: &'k [bool],
+    nexts: &'k [Option<NextPlaces>],
+) -> Outer<'k, 'p, 't>
+    requires unrun { has_runs (kids_of pattern.now) ≡ false }
+    requires size { length taken.now ≡ length nodes.now }
+    ensures { IsArgumentChoice pattern.now spot.entry nodes.now taken.now result }
+{
+    let left = Candidates {
+        nodes,
+        taken,
+        named: true,
+        loose: has_dots(pattern.kids.as_slice()),
+    };
+    Outer {
+        pattern,
+        holder: Holder { spot, kids: nodes },
+        unnamed: true,
+        nexts,
+        from: 0,
+        left: Left::Candidates(left),
+    }
 }

@@ -3,7 +3,7 @@
 //! Where each part that is left takes one kid, and the search has to take all kids, the parts stand on the last kids. So a search that
 //! could go on from any later kid goes there at once.
 
-ghost use Rattle.std.specs.Prelude.{◌≡◌, ◌↔◌, ◌⊎◌, ◌<◌, ◌≤◌, [], List as list, length, drop, OnOk, IfOk, IsTrue, MatchOption};
+ghost use Rattle.std.specs.Prelude.{◌≡◌, ◌↔◌, ◌⊎◌, ◌<◌, ◌≤◌, [], List as list, length, drop, false, OnOk, IfOk, IsTrue, MatchOption};
 ghost use Rattle.node_tree.specs.declared.known.Known.{Known as known};
 ghost use Rattle.node_tree.specs.Numbers.{kids_at};
 ghost use Rattle.node_tree.specs.Tree.{kids_of};
@@ -62,9 +62,13 @@ fn are_single(pattern: &Node, from: usize) -> bool
 // Whether the parts from one on have to reach the last kid, each takes one, and they may begin at any later place.
 fn reach_last(search: Search<'_, '_, '_, '_>, at: usize, states: &[State<'_>]) -> bool
     requires { at ≤ length (kids_of search.pattern.now) }
+    ensures whole { IsTrue result → search.entry.unnamed ≡ false }
     ensures all { IsTrue result → TakesAll search.entry }
     ensures single { IsTrue result → all_single (drop at (parts_of search.entry.pattern.now)) }
 {
+    if search.unnamed {
+        return false;
+    }
     if !floats(states) {
         return false;
     }

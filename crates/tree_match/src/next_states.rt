@@ -1,18 +1,20 @@
 //! Where a part of a pattern may match next, with what is bound.
 
-ghost use Rattle.std.specs.Prelude.{◌≡◌, ◌↔◌, ◌⊎◌, ◌<◌, ◌≤◌, ◌+◌, ◌∷◌, List as list, length, drop, true, Some, IfOk, OnOk, IsTrue, MatchOption};
+ghost use Rattle.std.specs.Prelude.{◌≡◌, ◌↔◌, ◌⊎◌, ◌<◌, ◌≤◌, ◌+◌, ◌∷◌, List as list, length, drop, true, false, Some, IfOk, OnOk, IsTrue, MatchOption};
 ghost use Rattle.node_tree.specs.declared.known.Known.{Known as known};
 ghost use Rattle.node_tree.specs.declared.node.Node.{Node as a_node};
 ghost use Rattle.node_tree.specs.Tree.{kids_of, kind_of, content_of};
 ghost use Rattle.node_pool.specs.Spots.{seen};
-ghost use Rattle.node_search.specs.Kids.{AreKids};
+ghost use Rattle.node_search.specs.Kids.{AreKids, line};
 ghost use Rattle.node_match.specs.Free.{Part, parts_of};
 ghost use Rattle.node_match.specs.Kinds.{role_of as role, IsOne};
 ghost use Rattle.node_match.specs.declared.class.Role.TheVariants.{Dots};
 ghost use Rattle.node_match.specs.Fronts.{End};
 ghost use Rattle.node_search.specs.States.{line_of, AnyFrom, From};
 ghost use Rattle.node_search.specs.Steady.{IsSteady};
-ghost use Rattle.tree_match.specs.Landing.{IsNext, AreNextOf, AreOut, DotsFollow};
+ghost use Rattle.tree_match.specs.Aims.{left_of};
+ghost use Rattle.tree_match.specs.Landing.{IsNext, AreOut, DotsFollow};
+ghost use Rattle.tree_match.specs.Outers.{KnowsOwnNext};
 ghost use Rattle.tree_match.specs.Same.{StandsFor};
 
 use crate::aim::Search;
@@ -159,6 +161,7 @@ fn land<'t>(
     state: &State<'t>,
     states: &mut List<State<'t>>,
 ) -> Result<(), Memory>
+    requires whole { search.unnamed ≡ false }
     requires within { at < length (kids_of search.pattern.now) }
     requires part { drop at (parts_of search.pattern.now) ≡ Some part.now ∷ drop (at + 1) (parts_of search.pattern.now) }
     requires one { IsOne (role (kind_of part.now)) }
@@ -204,6 +207,7 @@ fn land_each<'t>(
     places: &NextPlaces,
     states: &List<State<'t>>,
 ) -> Result<List<State<'t>>, Memory>
+    requires whole { search.unnamed ≡ false }
     requires within { at < length (kids_of search.pattern.now) }
     requires part { drop at (parts_of search.pattern.now) ≡ Some part.now ∷ drop (at + 1) (parts_of search.pattern.now) }
     requires one { IsOne (role (kind_of part.now)) }
@@ -227,16 +231,20 @@ pub fn landed<'t>(
     states: List<State<'t>>,
 ) -> Result<List<State<'t>>, Memory>
     requires within { at < length (kids_of search.pattern.now) }
-    requires nexts { AreNextOf (seen search.holder.spot) (parts_of search.pattern.now) search.nexts.now }
+    requires nexts { KnowsOwnNext search }
     ensures { IfOk result (λ landed. (c : End) →
-        AnyFrom search.entry.known.names.now (line_of (seen search.entry.holder.spot)) (drop at (parts_of search.entry.pattern.now)) landed c ↔
-        AnyFrom search.entry.known.names.now (line_of (seen search.entry.holder.spot)) (drop at (parts_of search.entry.pattern.now)) states.entry c) }
+        AnyFrom search.entry.known.names.now (line search.entry.holder) (left_of search.entry at) landed c ↔
+        AnyFrom search.entry.known.names.now (line search.entry.holder) (left_of search.entry at) states.entry c) }
 {
+    if search.unnamed {
+        return Ok(states);
+    }
     let Some(Some(places)) = search.nexts.get(at) else {
         return Ok(states);
     };
     let Some(part) = part_at(search.pattern, at) else {
         return Ok(states);
     };
-    land_each(alloc, search, at, part, places, &states)
+    let landed = land_each(alloc, search, at, part, places, &states)?;
+    Ok(landed)
 }

@@ -1,8 +1,9 @@
 //! The lists in which a search goes on once an inner list is matched.
 
-ghost use Rattle.std.specs.Prelude.{◌≡◌, ◌≤◌, ◌∷◌, length, IfOk};
+ghost use Rattle.std.specs.Prelude.{◌≡◌, ◌≤◌, ◌∷◌, length, true, false, IfOk};
 ghost use Rattle.node_tree.specs.Tree.{kids_of};
 ghost use Rattle.node_pool.specs.Spots.{seen};
+ghost use Rattle.node_match.specs.Orders.{has_runs};
 ghost use Rattle.node_search.specs.Kids.{AreKids};
 
 use crate::next_places::NextPlaces;
@@ -37,11 +38,14 @@ pub enum Left<'k, 'p, 't> {
 pub struct Outer<'k, 'p, 't> {
     pub pattern: &'t Node,
     pub holder: Holder<'k, 'p, 't>,
+    /// Whether only the parts without a name are searched, among the kids without a name.
+    pub unnamed: bool,
     pub nexts: &'k [Option<NextPlaces>],
     pub from: usize,
     pub left: Left<'k, 'p, 't>,
     pub ghost within: { from ≤ length (kids_of pattern.now) },
-    pub ghost kin: { AreKids holder.kids.now (seen holder.spot) },
+    pub ghost kin: { unnamed ≡ false → AreKids holder.kids.now (seen holder.spot) },
+    pub ghost unrun: { unnamed ≡ true → has_runs (kids_of pattern.now) ≡ false },
 }
 
 /// One list more, before the others.

@@ -8,6 +8,8 @@ use node_tree::Node;
 pub struct Inside<'p, 't> {
     pub part: &'t Node,
     pub kid: Spot<'p, 't>,
+    /// Whether they are arguments of a call, of which some have a name: those without one match in order, the others in any order.
+    pub arguments: bool,
     pub from: usize,
     pub at: usize,
 }

@@ -1,5 +1,4 @@
 use Rattle.std.proofs.Common.{◌≡◌, drop}
-use Rattle.node_tree.specs.Tree.{kids_of}
 use Rattle.node_match.specs.Orders.{choosers}
 use Rattle.tree_match.proofs.choosing.next_chooser.Given as goal
 

@@ -1,4 +1,4 @@
-use Rattle.std.proofs.Common.{List, drop, sym, subst, arith}
+use Rattle.std.proofs.Common.{List, sym, subst, arith}
 use Rattle.std.proofs.lemmas.List.{drop_all}
 use Rattle.node_match.specs.declared.class.Role.{Role}
 use Rattle.node_match.specs.Kinds.{IsOne}

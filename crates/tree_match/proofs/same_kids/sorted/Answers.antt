@@ -1,5 +1,4 @@
 use Rattle.std.proofs.lemmas.List.Sorted.{Contains-permutation, IsNonDecreasingBy-from_sort}
-use Rattle.std.proofs.lemmas.List.Sorted.{IsPermutation-sym}
 use Rattle.tree_match.proofs.same_kids.sorted.Goals as goal
 
 pub returns-clause-same : goal.returns-clause-same
