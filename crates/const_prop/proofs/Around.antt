@@ -2,6 +2,9 @@
 use Rattle.std.proofs.Common.{◌≡◌, inl, inr, ℕ, zero, suc, ◌+◌, ◌<◌, ◌≤◌, Bool, true, false, List, [], ◌∷◌, ◌++◌, length, map, take, refl, sym, ap, ◌∙◌, arith, Some}
 use Rattle.std.specs.Prelude.{Option, None, ◌&&◌, ◌||◌, if◌then◌else◌, filter, not, nat_lt, option_map, slice_get}
 use Rattle.std.specs.List.{flat_map, list_any}
+use Rattle.std.specs.BTreeMap.{get_by}
+use Rattle.std.specs.Cmp.Lexicographic.{slice_cmp}
+use Rattle.std.specs.Ordering.{nat_cmp}
 use Rattle.std.specs.Str.{bytes_eq}
 use Rattle.std.proofs.lemmas.Bool.Decides.{nat_tests}
 use Rattle.std.proofs.lemmas.List.{append-nil}
@@ -17,6 +20,8 @@ use Rattle.graph_form.proofs.Amongs.{among_push}
 use Rattle.point_nodes.specs.Tops.{node_at}
 use Rattle.unit_names.specs.declared.scope.Scope.{Scope}
 use Rattle.unit_names.specs.Names.{own_words, shared_in, referred_of}
+use Rattle.unit_names.specs.declared.word.Word.{Word as Lent}
+use Rattle.unit_names.specs.Seen.{seen_word}
 use Rattle.unit_names.specs.Words.{Word, same_word, name_word, is_one_of, each_once}
 use Rattle.unit_effects.specs.declared.entry.Entry.{Entry}
 use Rattle.unit_effects.specs.declared.entry.Function.{Function}
@@ -24,7 +29,8 @@ use Rattle.unit_effects.specs.declared.fixed.Fixed.{Fixed}
 use Rattle.unit_effects.specs.Fixed.{Value, fixed, end_of, barred, occurrences_of, only_one}
 use Rattle.unit_effects.specs.Functions.{AreOpen, all_functions, function_of, entered_by, entered}
 use Rattle.unit_effects.specs.Numbering.{hides, shadows, entry_by, entry_value}
-use Rattle.unit_effects.specs.Once.{IsFixed, summary, flattened, fixed_in}
+use Rattle.unit_effects.specs.Firsts.{may_be}
+use Rattle.unit_effects.specs.Once.{IsFixed, summary, flattened, fixed_in, once_in}
 use Rattle.const_prop.specs.Constants.{hidden_in, is_around, shadowed, start_by, start_of}
 use Rattle.const_prop.specs.Sights.{IsHiding}
 use Rattle.const_prop.specs.Units.{AreStillOpen}
@@ -172,10 +178,22 @@ only_flat (o ∷ p ∷ os) = refl
 if_same : {X : Type 0} (a b : Bool) (x y z : X) → a ≡ b → y ≡ z → (if a then x else y) ≡ (if b then x else z)
 if_same a b x y z e f = ap (λ (c : Bool). if c then x else y) e ∙ ap (λ v. if b then x else v) f
 
+-- the literal of a name that may be one of those whose first bytes are marked
+kept_first : (b c : Bool) (v : Value) → (b ≡ false → v ≡ None) → (if b then (if c then None else v) else None) ≡ (if c then None else v)
+kept_first true c v none = refl
+kept_first false true v none = refl
+kept_first false false v none = sym (none refl)
+
+no_literal : (o : Option (Option Lent)) → ((w : Lent) → o ≡ Some (Some w) → ⊥) → flattened (option_map (option_map seen_word) o) ≡ None
+no_literal None never = refl
+no_literal (Some None) never = refl
+no_literal (Some (Some w)) never = absurd (never w refl)
+
 -- the fixed names are those of the map
 fixed_same : (nodes : List Node) (scopes : List Scope) (f : Fixed) (name : List ℕ) → IsFixed nodes scopes f → fixed_in f name ≡ fixed nodes scopes name
 fixed_same nodes scopes f name is =
-    if_same (is_one_of f.barred (name_word name)) (is_one_of (barred nodes scopes) (name_word name)) None _ _
+    kept_first (may_be f.firsts.items name) (is_one_of f.barred (name_word name)) (flattened (once_in f.once name)) (λ other. no_literal (get_by (λ key. slice_cmp nat_cmp name key.now) f.once) (is.firsts name other))
+    ∙ if_same (is_one_of f.barred (name_word name)) (is_one_of (barred nodes scopes) (name_word name)) None _ _
     (ap (λ ws. is_one_of ws (name_word name)) is.barred ∙ once_same (barred nodes scopes) (name_word name))
     (ap flattened (is.once name) ∙ only_flat (filter (λ (o : List ℕ × Value). bytes_eq o.0 name) (flat_map (occurrences_of nodes) (take 1 scopes))))
 

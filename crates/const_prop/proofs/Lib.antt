@@ -2,6 +2,7 @@ pub mod Adding
 pub mod Agreeing
 pub mod Around
 pub mod Fitting
+pub mod Idling
 pub mod NameKinds
 pub mod Numbers
 pub mod Once

@@ -1,4 +1,5 @@
 pub mod Constants
+pub mod Idle
 pub mod Large
 pub mod Settled
 pub mod Sights

@@ -10,7 +10,7 @@ use crate::settling::settle;
 use node_tree::{Known, List, Memory, Node};
 use point_nodes::IndexedTree;
 use std::alloc::Global;
-use unit_names::scopes_of;
+use unit_names::scopes_in;
 
 /// The names of a file that are known to hold a literal wherever they stand, in order of number, each once. The literal has
 /// its kind and text, and no place.
@@ -20,12 +20,9 @@ pub fn constants(alloc: Global, root: &Node) -> Result<List<Known>, Memory>
     ensures names { IfOk result (AreNames root.now) }
     ensures in_order { IfOk result AreInOrder }
 {
-    let Some(count) = root.count() else {
-        return Err(Memory);
-    };
     let tree = IndexedTree::of(alloc, root)?;
-    let scopes = scopes_of(root)?;
+    let scopes = scopes_in(&tree, root)?;
     let sightings = sightings_of(alloc, root, &tree, scopes.as_slice())?;
-    let known = settle(alloc, &tree, count, &sightings)?;
+    let known = settle(alloc, &tree, tree.count(), &sightings)?;
     Ok(known)
 }

@@ -1,6 +1,7 @@
 //! Which names of a file are known to hold which literals.
 #![tactic(auto)]
 
+mod idle;
 mod known_names;
 mod scopes;
 mod settling;

@@ -5,6 +5,7 @@ ghost use Rattle.std.specs.List.{flat_map};
 ghost use Rattle.node_tree.specs.Tree.{pre_of};
 ghost use Rattle.unit_names.specs.Names.{shared_in, referred_of as referred_in_unit};
 ghost use Rattle.unit_names.specs.Scopes.{AreScopes};
+ghost use Rattle.unit_names.specs.Seen.{all_words};
 ghost use Rattle.unit_names.specs.Words.{each_once};
 ghost use Rattle.const_prop.specs.Settled.{all_sightings};
 ghost use Rattle.const_prop.specs.Units.{AreSeen};
@@ -15,7 +16,7 @@ use node_tree::{List, Memory, Node};
 use point_nodes::IndexedTree;
 use std::alloc::Global;
 use unit_effects::{Entry, Fixed, enter_function, still_open};
-use unit_names::{Scope, Words, add_all_shared, add_referred_of};
+use unit_names::{Scope, Word, Words, add_all_shared, add_referred_of};
 
 // That to which a unit applies `&`.
 fn referred_of<'t>(
@@ -31,12 +32,12 @@ fn referred_of<'t>(
 }
 
 // What is `global` or `nonlocal` anywhere in the file.
-fn shared_of(alloc: Global, root: &Node) -> Result<Words<'_>, Memory>
-    ensures { IfOk result (λ words. words ≡ each_once (flat_map shared_in (pre_of root.now))) }
+fn shared_of(alloc: Global, root: &Node) -> Result<List<Word<'_>>, Memory>
+    ensures { IfOk result (λ words. all_words words ≡ flat_map shared_in (pre_of root.now)) }
 {
     let mut words = List::new(alloc);
     add_all_shared(root, &mut words)?;
-    Words::of(alloc, words.as_slice())
+    Ok(words)
 }
 
 /// What is known of the names of a file where they stand.
@@ -51,8 +52,9 @@ pub fn sightings_of<'t>(
     ensures { IfOk result (λ sightings.
         AreSeen tree.now scopes.now scopes.now (all_sightings sightings.items)) }
 {
-    let fixed = Fixed::of(alloc, root, tree, scopes)?;
-    let shared = shared_of(alloc, root)?;
+    let words = shared_of(alloc, root)?;
+    let fixed = Fixed::of(alloc, root, tree, scopes, words.as_slice())?;
+    let shared = Words::of(alloc, words.as_slice())?;
     let mut functions = Vec::new(alloc);
     let mut sightings = Vec::new(alloc);
     for scope in scopes {

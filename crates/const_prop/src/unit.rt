@@ -5,6 +5,7 @@ ghost use Rattle.unit_effects.specs.Numbering.{entry_value};
 ghost use Rattle.const_prop.specs.Settled.{all_sightings};
 ghost use Rattle.const_prop.specs.Sights.{IsWhole, IsHiding, AddsSeen};
 
+use crate::idle::{add_all, add_silent, is_given};
 use crate::sighting::Sighting;
 use crate::unit_tables::{held, literals_of, names_of};
 use crate::view::View;
@@ -14,8 +15,8 @@ use std::alloc::Global;
 use unit_effects::{Entry, Tables};
 use unit_names::Scope;
 
-/// Adds what is known of the names at the points of a unit.
-pub fn add_scope<'t>(
+// Adds what is known of the names at the points of a unit, by what all its names hold.
+fn add_live<'t>(
     alloc: Global,
     tree: &IndexedTree<'t>,
     scope: &Scope,
@@ -40,4 +41,27 @@ pub fn add_scope<'t>(
         held: held.as_ref(),
     };
     view.add_unit(alloc, tree, scope, into)
+}
+
+/// Adds what is known of the names at the points of a unit.
+pub fn add_scope<'t>(
+    alloc: Global,
+    tree: &IndexedTree<'t>,
+    scope: &Scope,
+    entry: &Entry<'_, 't>,
+    into: &mut Vec<Sighting<'t>>,
+) -> Result<(), Memory>
+    requires whole { IsWhole scope.now.graph }
+    requires hiding { IsHiding tree.now scope.now entry.now }
+    ensures { OnOk result (AddsSeen tree.now (entry_value entry.now) scope.now
+        (all_sightings into.old.items) (all_sightings into.new.items)) }
+{
+    if is_given(alloc, tree, entry, scope)? {
+        return add_live(alloc, tree, scope, entry, into);
+    }
+    let mut unknown = Vec::new(alloc);
+    if !add_silent(alloc, tree, entry, scope, &mut unknown)? {
+        return add_live(alloc, tree, scope, entry, into);
+    }
+    add_all(&unknown, into)
 }

@@ -1,3 +1,4 @@
+pub mod Firsts
 pub mod Fixed
 pub mod Functions
 pub mod Numbering

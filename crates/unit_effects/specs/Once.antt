@@ -12,6 +12,7 @@ use Rattle.unit_effects.specs.declared.fixed.Fixed.{Fixed}
 use Rattle.unit_names.specs.declared.scope.Scope.{Scope}
 use Rattle.unit_names.specs.declared.word.Word.{Word as Lent}
 use Rattle.unit_effects.specs.Fixed.{Value, occurrences_of, barred}
+use Rattle.unit_effects.specs.Firsts.{may_be, TellsFirsts}
 use Rattle.unit_names.specs.Seen.{seen_word}
 use Rattle.unit_names.specs.Words.{name_word, is_one_of, each_once}
 
@@ -40,11 +41,12 @@ Notes old os new = (before : List (List ℕ × Value)) → TellsOnce old before 
 pub record IsFixed (nodes : List Node) (scopes : List Scope) (fixed : Fixed) : Type 0 where
   pub barred : fixed.barred ≡ each_once (barred nodes scopes)
   pub once : TellsOnce fixed.once (flat_map (occurrences_of nodes) (take 1 scopes))
+  pub firsts : TellsFirsts fixed.firsts.items fixed.once
 
 abbrev pub flattened : Option Value → Value
 flattened None = None
 flattened (Some v) = v
 
--- the literal to which a name is fixed
+-- the literal to which a name is fixed, which may be one of those whose first bytes are marked
 abbrev pub fixed_in : Fixed → List ℕ → Value
-fixed_in fixed name = if is_one_of fixed.barred (name_word name) then None else flattened (once_in fixed.once name)
+fixed_in fixed name = if may_be fixed.firsts.items name then (if is_one_of fixed.barred (name_word name) then None else flattened (once_in fixed.once name)) else None

@@ -98,6 +98,9 @@ impl<'e, 't> Entry<'e, 't> {
         if self.unit == 0 {
             return None;
         }
+        if !self.fixed.may_hold(name) {
+            return None;
+        }
         if self.hides(name) || self.is_shadowed(name) {
             return None;
         }

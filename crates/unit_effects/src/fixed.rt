@@ -5,11 +5,13 @@ ghost use Rattle.std.specs.List.{flat_map};
 ghost use Rattle.node_tree.specs.Tree.{pre_of};
 ghost use Rattle.assignments.specs.Seen.{seen_assignment, seen_target, seen_value};
 ghost use Rattle.unit_names.specs.Seen.{seen_word, all_words};
-ghost use Rattle.unit_names.specs.Names.{own_words};
+ghost use Rattle.unit_names.specs.Names.{own_words, shared_in};
 ghost use Rattle.unit_names.specs.Words.{each_once};
 ghost use Rattle.unit_effects.specs.Fixed as spec;
+ghost use Rattle.unit_effects.specs.Firsts.{may_be as may_be_spec};
 ghost use Rattle.unit_effects.specs.Once.{Notes, TellsOnce, IsFixed, fixed_in};
 
+use crate::firsts::{firsts_of, may_be};
 use assignments::{Assignment, Manner, Reach, Target, assignments};
 use flow_graph::Point;
 use node_tree::{Kind, List, Memory, Node};
@@ -17,18 +19,19 @@ use point_nodes::IndexedTree;
 use std::alloc::Global;
 use std::collections::BTreeMap;
 use unit_names::{
-    Scope, Word, Words, add_all_referred, add_all_shared, add_own, is_assigned, literal_here,
-    name_word,
+    Scope, Word, Words, add_all_referred, add_own, is_assigned, literal_here, name_word,
 };
 
 /// Names that are assigned, each with the literal that it gets as a constant does, where it is assigned once.
 pub type Once<'t> = BTreeMap<&'t str, Option<Word<'t>>>;
 
-/// The names that are assigned at the top level, and those that aren't fixed however often they are.
+/// The names that are assigned at the top level, those that aren't fixed however often they are, and the first bytes of those
+/// that get a literal.
 #[derive(Drop)]
 pub struct Fixed<'t> {
     pub barred: Words<'t>,
     pub once: Once<'t>,
+    pub firsts: Vec<bool>,
 }
 
 // The literal that a statement gives to the whole of a target.
@@ -171,18 +174,30 @@ fn add_c_functions<'t>(
     Ok(())
 }
 
+// Adds these words.
+fn add_words<'t>(words: &[Word<'t>], into: &mut List<Word<'t>>) -> Result<(), Memory>
+    ensures { OnOk result (all_words into.new ≡ all_words into.old ++ all_words words.now) }
+{
+    for word in words {
+        into.push(*word)?;
+    }
+    Ok(())
+}
+
 // The names that aren't fixed, however often they are assigned.
 fn barred_words<'t>(
     alloc: Global,
     root: &'t Node,
     tree: &IndexedTree<'t>,
     scopes: &[Scope],
+    shared: &[Word<'t>],
 ) -> Result<Words<'t>, Memory>
-    requires { tree.now ≡ pre_of root.now }
+    requires nodes { tree.now ≡ pre_of root.now }
+    requires shared { all_words shared.now ≡ flat_map shared_in tree.now }
     ensures { IfOk result (λ words. words ≡ each_once (spec.barred tree.now scopes.now)) }
 {
     let mut barred = List::new(alloc);
-    add_all_shared(root, &mut barred)?;
+    add_words(shared, &mut barred)?;
     add_all_referred(root, &mut barred)?;
     add_c_functions(alloc, tree, scopes, &mut barred)?;
     Words::of(alloc, barred.as_slice())
@@ -207,26 +222,42 @@ fn top_level<'t>(
 }
 
 impl<'t> Fixed<'t> {
-    /// The fixed names of a file.
+    /// The fixed names of a file, of which those are given that are `global` or `nonlocal` anywhere.
     pub fn of(
         alloc: Global,
         root: &'t Node,
         tree: &IndexedTree<'t>,
         scopes: &[Scope],
+        shared: &[Word<'t>],
     ) -> Result<Fixed<'t>, Memory>
-        requires { tree.now ≡ pre_of root.now }
+        requires nodes { tree.now ≡ pre_of root.now }
+        requires shared { all_words shared.now ≡ flat_map shared_in tree.now }
         ensures { IfOk result (λ fixed. IsFixed tree.now scopes.now fixed) }
     {
+        let barred = barred_words(alloc, root, tree, scopes, shared)?;
+        let once = top_level(alloc, tree, scopes)?;
+        let firsts = firsts_of(alloc, &once)?;
         Ok(Fixed {
-            barred: barred_words(alloc, root, tree, scopes)?,
-            once: top_level(alloc, tree, scopes)?,
+            barred,
+            once,
+            firsts,
         })
+    }
+
+    /// Whether a name may be fixed, by its first byte.
+    pub fn may_hold(&self, name: &'t str) -> bool
+        ensures { result ≡ may_be_spec self.now.firsts.items name.now }
+    {
+        may_be(&self.firsts, name)
     }
 
     /// The literal to which a name is fixed, if it is.
     pub fn literal(&self, name: &'t str) -> Option<Word<'t>>
         ensures { option_map seen_word result ≡ fixed_in self.now name.now }
     {
+        if !self.may_hold(name) {
+            return None;
+        }
         if self.barred.contains(name_word(name)) {
             return None;
         }

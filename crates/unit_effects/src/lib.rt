@@ -3,6 +3,7 @@
 
 mod effects;
 mod entry;
+mod firsts;
 mod fixed;
 
 pub use effects::Tables;

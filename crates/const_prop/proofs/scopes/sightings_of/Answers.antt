@@ -2,6 +2,7 @@ use Rattle.std.proofs.Common.{◌≡◌, ◌++◌, refl, sym, ap, ◌∙◌, sub
 use Rattle.std.specs.List.{flat_map}
 use Rattle.std.proofs.lemmas.List.{take_all}
 use Rattle.unit_names.specs.Names.{shared_in}
+use Rattle.unit_names.specs.Seen.{all_words}
 use Rattle.unit_names.specs.Words.{each_once}
 use Rattle.unit_effects.specs.Functions.{AreOpen, all_functions, entered}
 use Rattle.const_prop.specs.Settled.{all_sightings}
@@ -17,6 +18,9 @@ loop-scope-init c = record {
   seen = none_seen c.args.tree.now c.args.scopes.now (all_sightings c.new-sightings.result.items) (ap all_sightings c.new-sightings.ensures.items);
 }
 
+pub of-requires-clause-shared : goal.of-requires-clause-shared
+of-requires-clause-shared c = ap all_words c.as_slice.ensures ∙ c.in_ok-words.ensures ∙ ap (flat_map shared_in) (sym c.requires.nodes)
+
 pub add_scope-requires-clause-whole : goal.add_scope-requires-clause-whole
 add_scope-requires-clause-whole c =
     unit_whole c.args.root.now c.args.tree.now c.args.scopes.now c.requires.units c.loop-scope.scope-index c.scope-item.result c.loop-scope-test.true c.scope-item.is
@@ -24,7 +28,7 @@ add_scope-requires-clause-whole c =
 pub add_scope-requires-clause-hiding : goal.add_scope-requires-clause-hiding
 add_scope-requires-clause-hiding c =
     hiding_is c.args.tree.now c.scope-item.result c.in_ok-shared.shared c.in_ok-referred.referred
-    (c.in_ok-shared.ensures ∙ ap (λ ns. each_once (flat_map shared_in ns)) (sym c.requires.nodes)) c.in_ok-referred.ensures
+    (c.in_ok-shared.ensures ∙ ap each_once (ap all_words c.as_slice-2.ensures ∙ c.in_ok-words.ensures) ∙ ap (λ ns. each_once (flat_map shared_in ns)) (sym c.requires.nodes)) c.in_ok-referred.ensures
 
 pub loop-scope-preserved : goal.loop-scope-preserved
 loop-scope-preserved c =
@@ -37,7 +41,7 @@ loop-scope-preserved c =
     let new = all_functions c.enter_function.new.functions.items in
     let dropped : AreOpen s.unit old left = c.in_ok-functions.ensures in
     let more : new ≡ left ++ entered nodes s = c.in_ok-enter_function.ensures in
-    let shared : c.in_ok-shared.shared ≡ each_once (flat_map shared_in nodes) = c.in_ok-shared.ensures ∙ ap (λ ns. each_once (flat_map shared_in ns)) (sym c.requires.nodes) in
+    let shared : c.in_ok-shared.shared ≡ each_once (flat_map shared_in nodes) = c.in_ok-shared.ensures ∙ ap each_once (ap all_words c.as_slice-2.ensures ∙ c.in_ok-words.ensures) ∙ ap (λ ns. each_once (flat_map shared_in ns)) (sym c.requires.nodes) in
     record {
       opened = unit_open c.args.root.now nodes scopes c.requires.units i s c.loop-scope-test.true c.scope-item.is old left new c.loop-scope.invariant.opened dropped more;
       seen =
